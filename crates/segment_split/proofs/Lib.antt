@@ -6,7 +6,7 @@ pub mod DataMaps
 mod Spread
 mod Whole
 mod Stops
-mod Ranks
+pub mod Ranks
 pub mod Rows
 pub mod BucketTrees
 mod Strings

@@ -1,14 +1,15 @@
 -- Laws of sets of places by the bits of words.
-use Rattle.std.proofs.Common.{◌≡◌, ◌∙◌, ℕ, ◌+◌, ◌-◌, ◌*◌, ◌/◌, ◌%◌, ◌^◌, ◌<◌, ◌≤◌, min, Bool, false, eqb, ltb, List, length, get_or, set, replicate, bit_and, sym, ap, subst, inl, inr, arith, length-set, get_or-set_same, get_or-set_other}
+use Rattle.std.proofs.Common.{◌≡◌, ◌∙◌, ℕ, zero, suc, ◌+◌, ◌-◌, ◌*◌, ◌/◌, ◌%◌, ◌^◌, ◌<◌, ◌≤◌, min, ◌⊎◌, ◌++◌, cond, take, Bool, true, false, eqb, ltb, List, [], length, get_or, set, replicate, bit_and, refl, sym, ap, subst, inl, inr, arith, length-set, get_or-set_same, get_or-set_other}
 use Rattle.std.specs.Prelude.{Vec}
 use Rattle.std.specs.Vec.{with_items}
 use Rattle.std.specs.Int.{bit_at}
-use Rattle.std.proofs.lemmas.Bool.{true≢false, cases_eq, cases_lt, lt-ltb}
+use Rattle.std.proofs.lemmas.Bool.{true≢false, false≢true, cases_eq, cases_lt, lt-ltb}
 use Rattle.std.proofs.lemmas.List.{get_or_past, get_or-replicate, length-replicate, with_items_is}
+use Rattle.std.proofs.lemmas.List.Sums.{sum_by-set}
 use Rattle.std.proofs.lemmas.List.FromFn.{length-map-range_with_len, get_or-map-range_with_len, fill_by_all}
 use Rattle.std.proofs.lemmas.Nat.{pow_pos, pow-add, le-div, div_below}
 use Rattle.std.proofs.lemmas.Nat.Bits.{bit_at-zero, bit_at-lt, bit_at_and, bit_at_ones, bit_at_ones_above, bit_at_above}
-use Rattle.segment_split.specs.Ranks.{is_member, IsLastBefore, IsNoneBefore, IsHighestBit, is_set, IsNoneBeside, members_of, Tells, ChangesBit, IsSound}
+use Rattle.segment_split.specs.Ranks.{is_member, members, IsLastBefore, IsNoneBefore, IsHighestBit, is_set, IsNoneBeside, members_of, Tells, ChangesBit, IsSound}
 
 -- ---- a word
 
@@ -109,6 +110,16 @@ module _ (words words' : List ℕ) (place : ℕ) (bit : Bool) (changes : Changes
     tops_tell = Tells-changed groups groups' (place / 64) some middle tops tops' any sound.tops_tell e' top;
   }
 
+  -- where the word has bits as before, the words above tell the same
+  stays : (upper : List ℕ) (i : ℕ) (some : Bool) → is_set upper i ≡ some → ChangesBit upper upper i some
+  stays upper i some e = record { many = refl; here = e; others = λ k _. refl; words = λ k _. refl }
+
+  pub IsSound-word : (groups tops : List ℕ) → IsSound places words groups tops → ltb 0 (get_or words' (place / 64) 0) ≡ ltb 0 (get_or words (place / 64) 0) → IsSound places words' groups tops
+  IsSound-word groups tops sound e =
+      IsSound-changed groups groups tops tops (ltb 0 (get_or words' (place / 64) 0)) (ltb 0 (get_or groups (place / 64 / 64) 0)) sound refl
+      (stays groups (place / 64) (ltb 0 (get_or words' (place / 64) 0)) (sound.groups_tell (place / 64) ∙ sym e)) refl
+      (stays tops (place / 64 / 64) (ltb 0 (get_or groups (place / 64 / 64) 0)) (sound.tops_tell (place / 64 / 64)))
+
 pub items_written : {Z : Type 0} (v : Vec ℕ Z) (words : List ℕ) (place : ℕ) (bit : Bool) → ChangesBit v.items words place bit → (with_items v words).items ≡ words
 items_written v words place bit changes = with_items_is v words (changes.many ∙ sym v.ok.0)
 
@@ -155,12 +166,69 @@ members_of-replicate places n =
     (fill_by_all (is_set (replicate n 0)) (replicate places false) places false (length-replicate places false)
     (λ k below. get_or-replicate places k false false below ∙ sym (is_set-replicate n k)))
 
-pub IsSound-replicate : (places : ℕ) → IsSound places (replicate (places / 64 + 1) 0) (replicate (places / 64 / 64 + 1) 0) (replicate (places / 64 / 64 / 64 + 1) 0)
-IsSound-replicate places = record {
-  words_reach = omega (arith, length-replicate {A = ℕ} (places / 64 + 1) 0);
-  groups_reach = omega (arith, length-replicate {A = ℕ} (places / 64 / 64 + 1) 0);
-  tops_reach = omega (arith, length-replicate {A = ℕ} (places / 64 / 64 / 64 + 1) 0);
-  none_past = λ k past. is_set-replicate (places / 64 + 1) k;
-  groups_tell = Tells-replicate (places / 64 / 64 + 1) (places / 64 + 1);
-  tops_tell = Tells-replicate (places / 64 / 64 / 64 + 1) (places / 64 / 64 + 1);
-}
+-- whatever storage there is
+module _ (places words groups tops : ℕ) where
+  pub IsSound-replicate : places ≤ words * 64 → places ≤ groups * 4096 → places ≤ tops * 262144 → IsSound places (replicate words 0) (replicate groups 0) (replicate tops 0)
+  IsSound-replicate w g t = record {
+    words_reach = omega (arith, w, length-replicate {A = ℕ} words 0);
+    groups_reach = omega (arith, g, length-replicate {A = ℕ} groups 0);
+    tops_reach = omega (arith, t, length-replicate {A = ℕ} tops 0);
+    none_past = λ k past. is_set-replicate words k;
+    groups_tell = Tells-replicate groups words;
+    tops_tell = Tells-replicate tops groups;
+  }
+
+pub IsSound-new : (places : ℕ) → IsSound places (replicate (places / 64 + 1) 0) (replicate (places / 64 / 64 + 1) 0) (replicate (places / 64 / 64 / 64 + 1) 0)
+IsSound-new places = IsSound-replicate places (places / 64 + 1) (places / 64 / 64 + 1) (places / 64 / 64 / 64 + 1) (omega arith) (omega arith) (omega arith)
+
+pub IsSound-none : (words groups tops : ℕ) → IsSound 0 (replicate words 0) (replicate groups 0) (replicate tops 0)
+IsSound-none words groups tops = IsSound-replicate 0 words groups tops (omega arith) (omega arith) (omega arith)
+
+-- ---- how many members
+
+pub members-replicate : (n : ℕ) → members (replicate n false) ≡ 0
+members-replicate zero = refl
+members-replicate (suc n) = members-replicate n
+
+abbrev one : Bool → ℕ
+one b = cond b 1 0
+
+one-le : (b : Bool) → one b ≤ 1
+one-le true = omega arith
+one-le false = omega arith
+
+module _ (ms : List Bool) (place : ℕ) where
+  is_within : is_member ms place ≡ true → place < length ms
+  is_within e = by (cases_lt place (length ms))
+    where
+      by : (place < length ms) ⊎ (length ms ≤ place) → place < length ms
+      by (inl l) = l
+      by (inr past) = absurd (false≢true (sym (get_or_past ms place false past) ∙ e))
+
+  -- one that is taken out is one fewer
+  pub members-out : is_member ms place ≡ true → members (set ms place false) + 1 ≡ members ms
+  members-out e =
+      let h : members (set ms place false) + one (is_member ms place) ≡ members ms + 0 = sum_by-set one ms place false false (is_within e) in
+      let was : one (is_member ms place) ≡ 1 = ap one e in
+      omega (arith, h, was)
+
+  module _ (within : place < length ms) where
+    changed : members (set ms place true) + one (is_member ms place) ≡ members ms + 1
+    changed = sum_by-set one ms place true false within
+
+    -- no more than one comes with one that is put in, and none goes
+    pub members-in : members (set ms place true) ≤ members ms + 1
+    members-in = omega (arith, changed)
+
+    pub members-stay : members ms ≤ members (set ms place true)
+    members-stay = omega (arith, changed, one-le (is_member ms place))
+
+take_nothing : (n : ℕ) → take {A = ℕ} n [] ≡ []
+take_nothing zero = refl
+take_nothing (suc n) = refl
+
+-- a list that was emptied, and filled up
+pub refilled : (n : ℕ) (old new : List ℕ) (many : ℕ) → old ≡ [] → many ≡ 0 → new ≡ take n old ++ replicate (n - many) 0 → new ≡ replicate n 0
+refilled n old new many none few is =
+    let whole : n - many ≡ n = omega (arith, few) in
+    is ∙ ap (λ xs. take n xs ++ replicate (n - many) 0) none ∙ ap (λ xs. xs ++ replicate (n - many) 0) (take_nothing n) ∙ ap (λ k. replicate k 0) whole

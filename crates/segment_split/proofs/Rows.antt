@@ -9,4 +9,4 @@ pub mod Meetings
 pub mod Places
 pub mod Extents
 pub mod Bounds
-pub mod Buckets
+pub mod Layouts

@@ -10,8 +10,9 @@ pub mod Visits
 pub mod Events
 pub mod Sweeping
 pub mod Places
-pub mod Once
 pub mod Begins
+pub mod Heights
+pub mod Once
 pub mod Onto
 pub mod Onward
 pub mod Permuted
@@ -19,3 +20,6 @@ pub mod Overfull
 pub mod Refused
 pub mod Looks
 pub mod Ends
+pub mod Ordered
+pub mod Counted
+pub mod CutStops

@@ -11,6 +11,7 @@ pub mod WholeLaws
 pub mod LineLaws
 pub mod Stops
 pub mod Sweeps
+pub mod SecondEnds
 pub mod Ranks
 pub mod Kinds
 pub mod Sums

@@ -1,6 +1,6 @@
 -- Sets of places by the bits of words, with words above that tell which ones aren't empty.
 use Rattle.std.specs.Prelude.{◌≡◌, ◌≢◌, ℕ, ◌*◌, ◌/◌, ◌%◌, ◌<◌, ◌≤◌, ◌==◌, Bool, true, false, List, length, map, nat_lt, slice_index, slice_index_or}
-use Rattle.std.specs.List.{range_with_len}
+use Rattle.std.specs.List.{range_with_len, count_by}
 use Rattle.std.specs.Int.{bit_at}
 
 -- ---- what contracts see of a set
@@ -8,6 +8,10 @@ use Rattle.std.specs.Int.{bit_at}
 -- whether a place is a member
 abbrev pub is_member : List Bool → ℕ → Bool
 is_member members place = slice_index_or members place false
+
+-- how many members there are
+abbrev pub members : List Bool → ℕ
+members set = count_by (λ is_in. is_in) set
 
 -- Of the places before a bound, this one is the last that passes.
 pub record IsLastBefore (passes : ℕ → Bool) (bound place : ℕ) : Type 0 where
@@ -52,9 +56,9 @@ pub record ChangesBit (old new : List ℕ) (place : ℕ) (bit : Bool) : Type 0 w
 
 -- Each place has its bit, no bit from the last place on is set, and each level tells of the one below.
 pub record IsSound (places : ℕ) (words groups tops : List ℕ) : Type 0 where
-  pub words_reach : places / 64 < length words
-  pub groups_reach : places / 64 / 64 < length groups
-  pub tops_reach : places / 64 / 64 / 64 < length tops
+  pub words_reach : places ≤ length words * 64
+  pub groups_reach : places ≤ length groups * 4096
+  pub tops_reach : places ≤ length tops * 262144
   pub none_past : (k : ℕ) → places ≤ k → is_set words k ≡ false
   pub groups_tell : Tells groups words
   pub tops_tell : Tells tops groups

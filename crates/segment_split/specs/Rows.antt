@@ -1,14 +1,13 @@
 -- Rows of y: where segments stand in them, how far each reaches, and what was found.
 use Rattle.std.specs.Prelude.{◌&&◌, ◌≡◌, ◌≢◌, ◌⊎◌, ◌+◌, ◌-◌, ◌*◌, ◌/◌, ◌%◌, ◌^◌, ◌<◌, ◌≤◌, ◌<ℤ◌, ◌≤ℤ◌, ◌∷◌, ◌++◌}
 use Rattle.std.specs.Prelude.{true, false, not, cond, nat_lt, int_le, count_by, sum_by, ℕ, zero, suc, ℤ, pos, Bool, ⊤, List, [], map, length, All}
-use Rattle.std.specs.Prelude.{IsPermutation, Contains, slice_index_or}
+use Rattle.std.specs.Prelude.{IsPermutation, Contains, drop, slice_index_or}
 use Rattle.std.specs.List.{range_with_len}
 use Rattle.std.specs.Int.{int_min, int_max, int_gap}
 use Rattle.std.specs.List.Sorted.{IsNonDecreasing}
 use Rattle.i_tree.specs.Steps.{Counts}
 use Rattle.plane_base.specs.Plane.{Point, Edge}
 use Rattle.plane_base.specs.Crossing.{Marks, no_marks}
-use Rattle.segment_split.specs.StepBounds.{Values, has_layout, buckets_over}
 use Rattle.segment_split.specs.declared.roads.rows.extents.Extent.{Extent}
 use Rattle.segment_split.specs.MarkLists.{LaidMark, IsAt, IsLaid, HasMark, IsFound}
 
@@ -25,11 +24,6 @@ highest_row least width s = row_of least width (int_max s.a.y s.b.y)
 -- The rows of the segment are numbered with 31 bits.
 abbrev pub HasFewRows : ℤ → ℕ → Edge → Type 0
 HasFewRows least width s = (lowest_row least width s < 2 ^ 31) × (highest_row least width s < 2 ^ 31)
-
--- Rows are counted from the least value, and where there are buckets each is so many whole rows.
-pub record RowsDivide (least : ℤ) (width : ℕ) (values : Values) : Type 0 where
-  pub from : has_layout values ≡ true → least ≡ values.least
-  pub whole : has_layout values ≡ true → (n : ℕ) × ((buckets_over values).width ≡ width * n)
 
 -- ---- places
 
@@ -159,15 +153,40 @@ reach_of es s = count_by (λ t. int_le t.a.x s.b.x) es
 abbrev pub reaches_of : List Edge → List ℕ
 reaches_of es = map (reach_of es) es
 
--- For each edge the number from which on all begin past its end.
+-- The edge t, of which the begin doesn't come before s's, lays nothing on s, as far as x tells: it begins past the end of s, or there,
+-- where neither is upright.
+abbrev pub LiesOnward : Edge → Edge → Type 0
+LiesOnward s t = (s.b.x <ℤ t.a.x) ⊎ ((t.a.x ≡ s.b.x) × (s.a.x <ℤ s.b.x) × (t.a.x <ℤ t.b.x))
+
+-- From this number on all edges lie onward of the edge, and before it none begins past its end.
+pub record IsReach (es : List Edge) (s : Edge) (r : ℕ) : Type 0 where
+  pub within : r ≤ length es
+  pub past : (j : ℕ) (t : Edge) → IsAt es j t → r ≤ j → LiesOnward s t
+  pub near : (j : ℕ) (t : Edge) → IsAt es j t → j < r → t.a.x ≤ℤ s.b.x
+
+-- Each edge has its reach.
 pub record AreReaches (es : List Edge) (reaches : List ℕ) : Type 0 where
-  pub within : All (λ r. r ≤ length es) reaches
-  pub past : (i j : ℕ) (s t : Edge) → IsAt es i s → IsAt es j t → slice_index_or reaches i 0 ≤ j → s.b.x <ℤ t.a.x
+  pub within : (i : ℕ) → slice_index_or reaches i 0 ≤ length es
+  pub past : (i j : ℕ) (s t : Edge) → IsAt es i s → IsAt es j t → slice_index_or reaches i 0 ≤ j → LiesOnward s t
   pub near : (i j : ℕ) (s t : Edge) → IsAt es i s → IsAt es j t → j < slice_index_or reaches i 0 → t.a.x ≤ℤ s.b.x
 
--- For each of the first edges, as many as are told of, the number from which on all begin past its end.
-abbrev pub AreTold : List Edge → List ℕ → Type 0
-AreTold es told = (i : ℕ) → i < length told → slice_index_or told i 0 ≡ slice_index_or (reaches_of es) i 0
+-- The first edges have theirs, as many as are told of.
+pub record AreTold (es : List Edge) (told : List ℕ) : Type 0 where
+  pub short : length told ≤ length es
+  pub each : (i : ℕ) (s : Edge) → IsAt es i s → i < length told → IsReach es s (slice_index_or told i 0)
+
+-- those that are told, then for each edge the number from which on all begin past its end
+abbrev pub all_reaches : List Edge → List ℕ → List ℕ
+all_reaches es told = told ++ drop (length told) (reaches_of es)
+
+-- From this number up to j all edges begin at one x, and none is upright.
+abbrev pub IsRun : List Edge → ℕ → ℕ → Type 0
+IsRun es j r = (k : ℕ) (u t : Edge) → IsAt es j u → IsAt es k t → r ≤ k → k ≤ j → (t.a.x ≡ u.a.x) × (t.a.x <ℤ t.b.x)
+
+-- So for the first edges, as many as there are numbers.
+pub record AreRuns (es : List Edge) (runs : List ℕ) : Type 0 where
+  pub within : (j : ℕ) → j < length runs → slice_index_or runs j 0 ≤ j + 1
+  pub each : (j : ℕ) → j < length runs → IsRun es j (slice_index_or runs j 0)
 
 -- ---- how many pairs are looked at
 

@@ -1,5 +1,5 @@
 -- The points at which level and upright edges end or cross, met by a sweep from the last to the first.
-use Rattle.std.specs.Prelude.{◌≡◌, ℕ, zero, ◌+◌, ◌-◌, ◌^◌, min, nat_lt, ℤ, pos, ◌<ℤ◌, Bool, not, cond, List, [], ◌∷◌, ◌++◌, map, AllPairs}
+use Rattle.std.specs.Prelude.{◌≡◌, ℕ, zero, ◌+◌, ◌-◌, ◌^◌, ◌<◌, ◌≤◌, min, nat_lt, ℤ, pos, ◌<ℤ◌, ◌≤ℤ◌, Bool, not, cond, List, [], ◌∷◌, ◌++◌, length, take, drop, map, slice_index_or, All, AllPairs}
 use Rattle.std.specs.Prelude.{Option, Some, None}
 use Rattle.std.specs.Ordering.{int_eq}
 use Rattle.plane_base.specs.Plane.{Point, Edge}
@@ -47,6 +47,25 @@ lines_of value s = record { rows = rows_of value s.rows.items; column = line_of 
 -- The heights rise.
 abbrev pub AreRising : List RowView → Type 0
 AreRising rows = AllPairs (λ r s. r.y <ℤ s.y) rows
+
+abbrev pub heights_in : List RowView → List ℤ
+heights_in rows = map (λ r. r.y) rows
+
+-- The place is that of the first height that isn't below y.
+pub record IsPlaceOf (y : ℤ) (heights : List ℤ) (place : ℕ) : Type 0 where
+  pub within : place ≤ length heights
+  pub below : All (λ h. h <ℤ y) (take place heights)
+  pub others : All (λ h. y ≤ℤ h) (drop place heights)
+
+-- The height stands at the place.
+abbrev pub IsAt : ℤ → List ℤ → ℕ → Type 0
+IsAt y heights place = (place < length heights) × ((d : ℤ) → slice_index_or heights place d ≡ y)
+
+-- The place is that of the first height above y.
+pub record IsPlaceAbove (y : ℤ) (heights : List ℤ) (place : ℕ) : Type 0 where
+  pub within : place ≤ length heights
+  pub lower : All (λ h. h ≤ℤ y) (take place heights)
+  pub above : All (λ h. y <ℤ h) (drop place heights)
 
 -- whether an edge runs on the row, and whether what runs on it counts for something
 abbrev pub runs_on : RowView → Bool

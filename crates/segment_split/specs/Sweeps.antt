@@ -10,7 +10,7 @@ use Rattle.plane_base.specs.Totals.{total}
 use Rattle.segment_split.specs.Passes.{edges_of}
 use Rattle.segment_split.specs.LineLaws.{AllLevelOrUpright, IsEndOfSome, IsCrossing, CountsFrom, first_by, steps_between}
 use Rattle.segment_split.specs.Kinds.{count_fits}
-use Rattle.segment_split.specs.Stops.{LineView, LinesView, AreRising, line_at, end_of, count_of, all_changed}
+use Rattle.segment_split.specs.Stops.{LineView, LinesView, AreRising, heights_in, IsPlaceOf, line_at, end_of, count_of, all_changed}
 
 -- ---- what runs along a line
 
@@ -166,9 +166,7 @@ AreByFirsts es = AllPairs (λ e f. point_order e.edge.a f.edge.a ≢ Greater) es
 pub record IsPlaced (lines : LinesView) (place : ℕ) : Type 0 where
   pub top : Point
   pub next : lines.column.next ≡ Some top
-  pub within : place ≤ length lines.rows
-  pub below : All (λ r. r.y <ℤ top.y) (take place lines.rows)
-  pub others : All (λ r. top.y ≤ℤ r.y) (drop place lines.rows)
+  pub placed : IsPlaceOf top.y (heights_in lines.rows) place
 
 -- From what was swept before, the sweep came to one crossing more above p.
 abbrev pub CrossesOnce : Point → LinesView → List (Entry Count) → LinesView → List (Entry Count) → Type 0

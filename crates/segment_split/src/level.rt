@@ -7,6 +7,9 @@
 //! end is the greatest that is left. While an upright key runs, each row between the last stop and the next end on which a key runs
 //! is met in a crossing.
 //!
+//! A map of which no stop lies strictly inside a key is its own redrawing. So the sweep is made without its steps first, up to the
+//! first such stop (`cut`), and nothing is laid where there is none.
+//!
 //! A row is met where a key runs on it, whatever the counts of its keys come to: keys of different ends that cancel cut what crosses
 //! them all the same. Only where what runs upward counts for nothing, rows that count for nothing are passed over: a stop there would
 //! part no step. So it takes time for ends and steps alone, also where very many crossings cancel.
@@ -14,8 +17,10 @@
 //! What runs along a line at one time runs along one pair of neighbouring stops, and so a sum of counts leaves its range only where
 //! counts that are laid on this pair do.
 //!
-//! For n keys on m rows it takes n log n steps for the orders and log m for each end. While an upright key runs, each stop asks a set
-//! of places for the next row that is to be met, and looks at no row between.
+//! For n keys on m rows it takes n log n steps for the orders and log m for each end, or a few where its row is guessed. While an
+//! upright key runs, each stop asks a set of places for the next row above the end that is to be met. Each row that it is given is a
+//! crossing, which is counted: a pair of keys. Nothing else holds two keys against each other. An end on a line, and a place among
+//! rows, names no second key: how many keys run on the line is known, and that is all that is asked.
 
 ghost use Rattle.std.specs.Prelude.{◌≡◌, ◌+◌, ◌≤◌, ◌<◌, ◌<ℤ◌, ◌≤ℤ◌, ◌^◌, ◌↔◌, ◌||◌, [], ℕ, ℤ, Bool, List, length, take, drop, map, slice_index_or, nat_lt};
 ghost use Rattle.std.specs.Prelude.{true, false, cond, All, Contains, IfOk, IfErr, OnOk, OnErr, IfSome, IfNone, IsOkUnless, IsTrue, IsPermutation};
@@ -32,16 +37,17 @@ ghost use Rattle.segment_split.specs.Refusals.{steps_in, IsOverfull, PassesTooMu
 ghost use Rattle.segment_split.specs.Rows.{CountsPairsUpTo};
 ghost use Rattle.segment_split.specs.SegmentViews.{entries_of};
 ghost use Rattle.segment_split.specs.StepBounds.{most_pairs};
-ghost use Rattle.segment_split.specs.Stops.{line_of, rows_of, lines_of, AreRising, AreSeen, bare, line_at};
-ghost use Rattle.segment_split.specs.Sweeps.{is_met, AreByFirsts, AreBySeconds, Ticked, Crosses, CrossesSome, CrossesOnce, IsPlaced, IsDone, IsSwept};
-ghost use Rattle.segment_split.specs.Sweeps.{IsGreatestEnd};
+ghost use Rattle.segment_split.specs.SecondEnds.{ended, CanBeSwept, AreLeft, AreFewer, IsSweptTo};
+ghost use Rattle.segment_split.specs.Stops.{line_of, rows_of, lines_of, heights_in, AreRising, AreSeen, IsPlaceOf, IsPlaceAbove, bare, line_at};
+ghost use Rattle.segment_split.specs.Sweeps.{is_met, Ticked, Crosses, CrossesSome, CrossesOnce, IsPlaced, IsDone, IsSwept};
 ghost use Rattle.segment_split.specs.declared.solver.Precision.{Precision};
 ghost use Rattle.segment_split.specs.declared.solver.Strategy.TheVariants as strategy;
 
 pub(crate) mod bare;
+mod cut;
+mod ends;
 mod lines;
-mod ranks;
-mod scatter;
+pub mod ranks;
 
 // No map may hold so many segments.
 const TOO_MANY: usize = 1 << 31;
@@ -49,8 +55,10 @@ const TOO_MANY: usize = 1 << 31;
 use crate::count::{ShapeCountBoolean, WindingCount};
 use crate::guesses::Guesses;
 use crate::segment::Segment;
+use cut::is_cut;
+use ends::{Left, SecondEnd, by_second_ends, next_end};
 use i_tree::Steps;
-use lines::{Key, Line, Lines, Row, change_all, is_at, is_upright, place_of, visit};
+use lines::{Key, Line, Lines, Row, change_all, first_above, is_at, is_upright, place_of, visit};
 use plane_base::fault::Fault;
 use plane_base::int::OverlayInt;
 use plane_base::point::IntPoint;
@@ -66,51 +74,42 @@ struct Next {
     is_done: bool,
 }
 
-// How many keys are left to go and to come, and whether a stop lies strictly inside a key.
-#[derive(Clone, Copy)]
-struct Left {
-    starts: usize,
-    ends: usize,
-    is_marked: bool,
-}
-
-// The place of the last row before a place that the column is to meet: where a key runs on it and, if what runs upward counts for
+// The place of the last row between two places that the column is to meet: where a key runs on it and, if what runs upward counts for
 // nothing, where what runs on the row counts for something.
-fn last_met<I: OverlayInt>(lines: &Lines<I>, before: usize) -> Option<usize>
+fn last_met<I: OverlayInt>(lines: &Lines<I>, low: usize, before: usize) -> Option<usize>
     requires seen { AreSeen I.value lines.now }
     requires within { before ≤ length lines.now.rows.items }
-    ensures found { IfSome result (λ place. place < before) }
+    ensures found { IfSome result (λ place. (low ≤ place) × (place < before)) }
     ensures met { IfSome result (λ place. (d : _) →
         is_met (line_of I.value lines.now.column) (line_of I.value (slice_index_or lines.now.rows.items place d).line) ≡ true) }
     ensures passed { IfSome result (λ place. (k : ℕ) (d : _) → place < k → k < before →
         is_met (line_of I.value lines.now.column) (line_of I.value (slice_index_or lines.now.rows.items k d).line) ≡ false) }
-    ensures none { IfNone result ((k : ℕ) (d : _) → k < before →
+    ensures none { IfNone result ((k : ℕ) (d : _) → low ≤ k → k < before →
         is_met (line_of I.value lines.now.column) (line_of I.value (slice_index_or lines.now.rows.items k d).line) ≡ false) }
 {
     if lines.column.sum.is_empty() {
-        lines.counting.last_before(before)
+        lines.counting.last_between(low, before)
     } else {
-        lines.running.last_before(before)
+        lines.running.last_between(low, before)
     }
 }
 
-// Whether a key runs upward, or along the row of a height.
-fn passes<I: OverlayInt>(lines: &Lines<I>, y: I) -> bool
+// Whether a key runs upward, or along the row of a height, whose place that is.
+fn passes<I: OverlayInt>(lines: &Lines<I>, place: usize, y: I) -> bool
     requires rising { AreRising (rows_of I.value lines.now.rows.items) }
+    requires placed { IsPlaceOf (I.value y) (heights_in (rows_of I.value lines.now.rows.items)) place }
     ensures { result ≡ (nat_lt 0 lines.now.column.running || nat_lt 0 (line_at (I.value y) (rows_of I.value lines.now.rows.items)).running) }
 {
     if 0 < lines.column.running {
         return true;
     }
-    let place = place_of(&lines.rows, y, lines.place);
     row_runs(&lines.rows, place, y)
 }
 
 // Whether a key runs along the row of a height, whose place that is.
 fn row_runs<I: OverlayInt>(rows: &[Row<I>], place: usize, y: I) -> bool
     requires rising { AreRising (rows_of I.value rows.now) }
-    requires below { All (λ r. r.y <ℤ I.value y) (rows_of I.value (take place rows.now)) }
-    requires others { All (λ r. I.value y ≤ℤ r.y) (rows_of I.value (drop place rows.now)) }
+    requires placed { IsPlaceOf (I.value y) (heights_in (rows_of I.value rows.now)) place }
     ensures { result ≡ nat_lt 0 (line_at (I.value y) (rows_of I.value rows.now)).running }
 {
     if is_at(rows, place, y) {
@@ -120,58 +119,21 @@ fn row_runs<I: OverlayInt>(rows: &[Row<I>], place: usize, y: I) -> bool
     }
 }
 
-// The keys by rising second ends.
-fn by_second_ends<I: OverlayInt>(alloc: Global, keys: &[Key<I>]) -> Result<Vec<Key<I>>, Fault>
-    ensures same { IfOk result (λ ends. IsPermutation keys.now ends.items) }
-    ensures sorted { IfOk result (λ ends. AreBySeconds (entries_of I.value ends.items)) }
-    ensures memory { IsOkUnless result Fault.Memory }
-{
-    let mut ends = Vec::from_slice(alloc, keys)?;
-    sort_by_second(&mut ends);
-    Ok(ends)
-}
-
-fn sort_by_second<I: OverlayInt>(keys: &mut [Key<I>])
-    ensures same { IsPermutation keys.old keys.new }
-    ensures sorted { AreBySeconds (entries_of I.value keys.new) }
-{
-    keys.sort_unstable_by(|one: &Key<I>, other: &Key<I>| one.x_segment.b.cmp(&other.x_segment.b));
-}
-
-// The greatest of the first ends of the one keys and the second ends of the other, both in order.
-fn next_end<I: OverlayInt>(starts: &[Key<I>], ends: &[Key<I>]) -> IntPoint<I>
-    requires some { 0 < length starts.now }
-    requires firsts { AreByFirsts (entries_of I.value starts.now) }
-    requires seconds { AreBySeconds (entries_of I.value ends.now) }
-    ensures { IsGreatestEnd (entries_of I.value starts.now) (entries_of I.value ends.now) (point_of I.value result) }
-{
-    let start = starts[starts.len() - 1].x_segment.a;
-    if ends.is_empty() {
-        return start;
-    }
-    let end = ends[ends.len() - 1].x_segment.b;
-    if is_before(start, end) { end } else { start }
-}
-
-// Whether a point comes before another.
-fn is_before<I: OverlayInt>(p: IntPoint<I>, q: IntPoint<I>) -> bool
-    ensures { result ≡ is_before (point_of I.value p) (point_of I.value q) }
-{
-    p < q
-}
-
-// Stops at each crossing of the column with a row that it is to meet, from the last stop down to a point. Answers whether there are
-// any. Each is counted as a pair.
+// Stops at each crossing of the column with a row that it is to meet, from the last stop down to a point, whose row's place is given.
+// Answers whether there are any. Each is counted as a pair.
 fn cross<I: OverlayInt, L: Ledger>(
     laid: &mut Vec<Key<I>>,
     lines: &mut Lines<I>,
     point: IntPoint<I>,
+    place: usize,
     steps: &mut Steps<L>,
 ) -> Result<bool, Fault>
     requires rising { AreRising (rows_of I.value lines.old.rows.items) }
     requires seen { AreSeen I.value lines.old }
+    requires placed { IsPlaceOf (I.value point.y) (heights_in (rows_of I.value lines.old.rows.items)) place }
     ensures rising { OnOk result (AreRising (rows_of I.value lines.new.rows.items)) }
     ensures seen { OnOk result (AreSeen I.value lines.new) }
+    ensures heights { OnOk result (heights_in (rows_of I.value lines.new.rows.items) ≡ heights_in (rows_of I.value lines.old.rows.items)) }
     ensures crossed { IfOk result (λ crossed. Crosses (point_of I.value point) (lines_of I.value lines.old) (entries_of I.value laid.old.items)
         steps.old.pairs (lines_of I.value lines.new) (entries_of I.value laid.new.items) steps.new.pairs crossed) }
     ensures some { OnErr result (CrossesSome (point_of I.value point) (lines_of I.value lines.old) (entries_of I.value laid.old.items)
@@ -185,24 +147,28 @@ fn cross<I: OverlayInt, L: Ledger>(
     let Some(last) = lines.column.next else {
         return Ok(false);
     };
-    let place = place_of(&lines.rows, last.y, lines.place);
-    cross_from(laid, lines, point, place, steps)
+    let low = first_above(&lines.rows, place, point.y);
+    let top = place_of(&lines.rows, last.y, lines.place);
+    cross_from(laid, lines, point, low, top, steps)
 }
 
-// The same from the place of the last stop's row on.
+// The same with rows from one place on, the first above the point, and before that of the last stop's row.
 fn cross_from<I: OverlayInt, L: Ledger>(
     laid: &mut Vec<Key<I>>,
     lines: &mut Lines<I>,
     point: IntPoint<I>,
+    low: usize,
     place: usize,
     steps: &mut Steps<L>,
 ) -> Result<bool, Fault>
     requires rising { AreRising (rows_of I.value lines.old.rows.items) }
     requires seen { AreSeen I.value lines.old }
     requires placed { IsPlaced (lines_of I.value lines.old) place }
+    requires above { IsPlaceAbove (I.value point.y) (heights_in (rows_of I.value lines.old.rows.items)) low }
     requires runs { 0 < lines.old.column.running }
     ensures rising { OnOk result (AreRising (rows_of I.value lines.new.rows.items)) }
     ensures seen { OnOk result (AreSeen I.value lines.new) }
+    ensures heights { OnOk result (heights_in (rows_of I.value lines.new.rows.items) ≡ heights_in (rows_of I.value lines.old.rows.items)) }
     ensures crossed { IfOk result (λ crossed. Crosses (point_of I.value point) (lines_of I.value lines.old) (entries_of I.value laid.old.items)
         steps.old.pairs (lines_of I.value lines.new) (entries_of I.value laid.new.items) steps.new.pairs crossed) }
     ensures some { OnErr result (CrossesSome (point_of I.value point) (lines_of I.value lines.old) (entries_of I.value laid.old.items)
@@ -216,7 +182,7 @@ fn cross_from<I: OverlayInt, L: Ledger>(
     };
     let mut is_crossed = false;
     while !next.is_done {
-        next = cross_next(laid, lines, point, next.place, steps)?;
+        next = cross_next(laid, lines, point, low, next.place, steps)?;
         is_crossed = either(is_crossed, !next.is_done);
     }
     Ok(is_crossed)
@@ -227,15 +193,18 @@ fn cross_next<I: OverlayInt, L: Ledger>(
     laid: &mut Vec<Key<I>>,
     lines: &mut Lines<I>,
     point: IntPoint<I>,
+    low: usize,
     place: usize,
     steps: &mut Steps<L>,
 ) -> Result<Next, Fault>
     requires rising { AreRising (rows_of I.value lines.old.rows.items) }
     requires seen { AreSeen I.value lines.old }
     requires placed { IsPlaced (lines_of I.value lines.old) place }
+    requires above { IsPlaceAbove (I.value point.y) (heights_in (rows_of I.value lines.old.rows.items)) low }
     requires runs { 0 < lines.old.column.running }
     ensures rising { OnOk result (AreRising (rows_of I.value lines.new.rows.items)) }
     ensures seen { OnOk result (AreSeen I.value lines.new) }
+    ensures heights { OnOk result (heights_in (rows_of I.value lines.new.rows.items) ≡ heights_in (rows_of I.value lines.old.rows.items)) }
     ensures runs { OnOk result (0 < lines.new.column.running) }
     ensures less { IfOk result (λ next. next.is_done ≡ false → next.place < place) }
     ensures placed { IfOk result (λ next. IsPlaced (lines_of I.value lines.new) next.place) }
@@ -248,19 +217,13 @@ fn cross_next<I: OverlayInt, L: Ledger>(
     ensures compared { steps.new.comparisons ≡ steps.old.comparisons }
     ensures memory { IsOkUnless result Fault.Memory }
 {
-    let Some(row) = last_met(lines, place) else {
+    let Some(row) = last_met(lines, low, place) else {
         return Ok(Next {
             place,
             is_done: true,
         });
     };
     let y = lines.rows[row].y;
-    if y.to_i64() <= point.y.to_i64() {
-        return Ok(Next {
-            place,
-            is_done: true,
-        });
-    }
     visit(laid, lines, IntPoint { x: point.x, y }, row)?;
     steps.tick_pair();
     Ok(Next {
@@ -273,48 +236,43 @@ fn cross_next<I: OverlayInt, L: Ledger>(
 fn sweep_on<I: OverlayInt, L: Ledger>(
     laid: &mut Vec<Key<I>>,
     lines: &mut Lines<I>,
-    starts: &[Key<I>],
-    ends: &[Key<I>],
+    keys: &[Key<I>],
+    ends: &[SecondEnd<I>],
+    left: Left,
     steps: &mut Steps<L>,
 ) -> Result<Left, Fault>
-    requires some { 0 < length starts.now }
+    requires sound { CanBeSwept I.value (entries_of I.value keys.now) ends.now }
+    requires left { AreLeft (entries_of I.value keys.now) ends.now left }
     requires rising { AreRising (rows_of I.value lines.old.rows.items) }
     requires seen { AreSeen I.value lines.old }
-    requires firsts { AreByFirsts (entries_of I.value starts.now) }
-    requires seconds { AreBySeconds (entries_of I.value ends.now) }
-    ensures starts { IfOk result (λ left. left.starts ≤ length starts.now) }
-    ensures ends { IfOk result (λ left. left.ends ≤ length ends.now) }
-    ensures fewer { IfOk result (λ left. left.starts + left.ends < length starts.now + length ends.now) }
+    ensures fewer { IfOk result (AreFewer left) }
     ensures rising { OnOk result (AreRising (rows_of I.value lines.new.rows.items)) }
     ensures seen { OnOk result (AreSeen I.value lines.new) }
-    ensures swept { IfOk result (λ left. (es : List (Entry Count)) (marked : Bool) (first : ℕ) →
-        IsNormal boolean es → AllLevelOrUpright (edges_of es) → length es < 2 ^ 64 →
-        IsSwept es (entries_of I.value starts.now) (entries_of I.value ends.now) (lines_of I.value lines.old) (entries_of I.value laid.old.items) marked
-        first steps.old.pairs →
-        IsSwept es (entries_of I.value (take left.starts starts.now)) (entries_of I.value (take left.ends ends.now)) (lines_of I.value lines.new)
-        (entries_of I.value laid.new.items) (marked || left.is_marked) first steps.new.pairs) }
-    ensures some { OnErr result ((es : List (Entry Count)) (marked : Bool) (first : ℕ) → IsNormal boolean es → AllLevelOrUpright (edges_of es) →
-        IsSwept es (entries_of I.value starts.now) (entries_of I.value ends.now) (lines_of I.value lines.old) (entries_of I.value laid.old.items) marked
-        first steps.old.pairs → (ps : List Point) × Ticked es ps first steps.new.pairs) }
-    ensures refused { IfErr result (λ fault. (es : List (Entry Count)) (marked : Bool) (first : ℕ) (precision : Precision) →
-        IsNormal boolean es → AllLevelOrUpright (edges_of es) → length es < 2 ^ 64 →
-        IsSwept es (entries_of I.value starts.now) (entries_of I.value ends.now) (lines_of I.value lines.old) (entries_of I.value laid.old.items) marked
-        first steps.old.pairs → IsRefusal (IsOverfull boolean count_fits (steps_in boolean precision es 0)) ⊥ fault) }
+    ensures swept { IfOk result (λ next. (first : ℕ) →
+        IsSweptTo (entries_of I.value keys.now) ends.now (lines_of I.value lines.old) (entries_of I.value laid.old.items) left first steps.old.pairs →
+        IsSweptTo (entries_of I.value keys.now) ends.now (lines_of I.value lines.new) (entries_of I.value laid.new.items) next first steps.new.pairs) }
+    ensures some { OnErr result ((first : ℕ) →
+        IsSweptTo (entries_of I.value keys.now) ends.now (lines_of I.value lines.old) (entries_of I.value laid.old.items) left first steps.old.pairs →
+        (ps : List Point) × Ticked (entries_of I.value keys.now) ps first steps.new.pairs) }
+    ensures refused { IfErr result (λ fault. (first : ℕ) (precision : Precision) →
+        IsSweptTo (entries_of I.value keys.now) ends.now (lines_of I.value lines.old) (entries_of I.value laid.old.items) left first steps.old.pairs →
+        IsRefusal (IsOverfull boolean count_fits (steps_in boolean precision (entries_of I.value keys.now) 0)) ⊥ fault) }
     ensures compared { steps.new.comparisons ≡ steps.old.comparisons }
 {
-    let point = next_end(starts, ends);
-    let is_crossed = cross(laid, lines, point, steps)?;
+    let point = next_end(keys, ends, left);
     let near = lines.guesses.place(point.y.to_i64());
     let place = place_of(&lines.rows, point.y, near);
+    let is_crossed = cross(laid, lines, point, place, steps)?;
     lines.place = place;
     visit(laid, lines, point, place)?;
-    let left_starts = change_all(lines, starts, point, false)?;
-    let is_passed = passes(lines, point.y);
-    let left_ends = change_all(lines, ends, point, true)?;
+    let starts = change_all(lines, keys, ends, left.starts, point, place, false)?;
+    let is_passed = passes(lines, place, point.y);
+    let ends_left = change_all(lines, keys, ends, left.ends, point, place, true)?;
+    let is_marked = either(is_crossed, is_passed);
     Ok(Left {
-        starts: left_starts,
-        ends: left_ends,
-        is_marked: either(is_crossed, is_passed),
+        starts,
+        ends: ends_left,
+        is_marked: either(left.is_marked, is_marked),
     })
 }
 
@@ -464,11 +422,42 @@ pub fn redraw<I: OverlayInt, L: Ledger>(
         (LaysTooMany boolean precision (entries_of I.value segments.now)) fault) }
     ensures steps { CountsPairsUpTo steps.old steps.new (most_pairs strategy.Auto (edges_of (entries_of I.value segments.now))) }
 {
+    let is_marked = redraw_where_cut(alloc, laid, segments, steps)?;
+    if is_marked {
+        return Ok(true);
+    }
     laid.clear();
-    laid.reserve(segments.len())?;
-    let mut lines = lines_over(alloc, segments)?;
-    let ends = by_second_ends(alloc, segments)?;
-    let is_marked = sweep(laid, &mut lines, segments, &ends, steps)?;
+    laid.extend_from_slice(segments)?;
+    Ok(false)
+}
+
+// The same, but where nothing is cut, nothing need be laid: then the map is its own redrawing.
+fn redraw_where_cut<I: OverlayInt, L: Ledger>(
+    alloc: Global,
+    laid: &mut Vec<Key<I>>,
+    keys: &[Key<I>],
+    steps: &mut Steps<L>,
+) -> Result<bool, Fault>
+    requires normal { IsNormal boolean (entries_of I.value keys.now) }
+    requires level { AllLevelOrUpright (edges_of (entries_of I.value keys.now)) }
+    requires few { length keys.now < 2 ^ 31 }
+    ensures redrawn { IfOk result (λ is_marked. (precision : Precision) →
+        cond is_marked (entries_of I.value laid.new.items) (entries_of I.value keys.now) ≡ redrawn boolean precision (entries_of I.value keys.now)) }
+    ensures marked { IfOk result (λ is_marked. (precision : Precision) →
+        (is_marked ≡ true) ↔ ((k : ℕ) × MarksInPass boolean precision (entries_of I.value keys.now) k)) }
+    ensures few { OnOk result (length laid.new.items < 2 ^ 31) }
+    ensures refused { IfErr result (λ fault. (precision : Precision) → IsRefusal (PassesTooMuch boolean count_fits precision (entries_of I.value keys.now))
+        (LaysTooMany boolean precision (entries_of I.value keys.now)) fault) }
+    ensures steps { CountsPairsUpTo steps.old steps.new (most_pairs strategy.Auto (edges_of (entries_of I.value keys.now))) }
+{
+    laid.clear();
+    let mut lines = lines_over(alloc, keys)?;
+    let ends = by_second_ends(alloc, keys)?;
+    if !is_cut(alloc, &lines, keys, &ends)? {
+        return Ok(false);
+    }
+    laid.reserve(keys.len())?;
+    let is_marked = sweep(laid, &mut lines, keys, &ends, steps)?;
     if laid.len() >= TOO_MANY {
         return Err(Fault::Edges);
     }
@@ -499,40 +488,37 @@ fn is_level_or_upright<I: OverlayInt>(s: XSegment<I>) -> bool
 fn sweep<I: OverlayInt, L: Ledger>(
     laid: &mut Vec<Key<I>>,
     lines: &mut Lines<I>,
-    starts: &[Key<I>],
-    ends: &[Key<I>],
+    keys: &[Key<I>],
+    ends: &[SecondEnd<I>],
     steps: &mut Steps<L>,
 ) -> Result<bool, Fault>
+    requires sound { CanBeSwept I.value (entries_of I.value keys.now) ends.now }
     requires rising { AreRising (rows_of I.value lines.old.rows.items) }
     requires seen { AreSeen I.value lines.old }
-    requires firsts { AreByFirsts (entries_of I.value starts.now) }
-    requires seconds { AreBySeconds (entries_of I.value ends.now) }
-    ensures swept { IfOk result (λ is_marked. (es : List (Entry Count)) (first : ℕ) →
-        IsNormal boolean es → AllLevelOrUpright (edges_of es) → length es < 2 ^ 64 →
-        IsSwept es (entries_of I.value starts.now) (entries_of I.value ends.now) (lines_of I.value lines.old) (entries_of I.value laid.old.items) false
-        first steps.old.pairs →
-        (left : List (Entry Count)) × IsSwept es [] left (lines_of I.value lines.new) (entries_of I.value laid.new.items) is_marked
+    ensures swept { IfOk result (λ is_marked. (first : ℕ) →
+        IsSwept (entries_of I.value keys.now) (entries_of I.value keys.now) (ended (entries_of I.value keys.now) ends.now) (lines_of I.value lines.old)
+        (entries_of I.value laid.old.items) false first steps.old.pairs →
+        (left : List (Entry Count)) × IsSwept (entries_of I.value keys.now) [] left (lines_of I.value lines.new) (entries_of I.value laid.new.items) is_marked
         first steps.new.pairs) }
-    ensures some { OnErr result ((es : List (Entry Count)) (first : ℕ) →
-        IsNormal boolean es → AllLevelOrUpright (edges_of es) → length es < 2 ^ 64 →
-        IsSwept es (entries_of I.value starts.now) (entries_of I.value ends.now) (lines_of I.value lines.old) (entries_of I.value laid.old.items) false
-        first steps.old.pairs → (ps : List Point) × Ticked es ps first steps.new.pairs) }
-    ensures refused { IfErr result (λ fault. (es : List (Entry Count)) (first : ℕ) (precision : Precision) →
-        IsNormal boolean es → AllLevelOrUpright (edges_of es) → length es < 2 ^ 64 →
-        IsSwept es (entries_of I.value starts.now) (entries_of I.value ends.now) (lines_of I.value lines.old) (entries_of I.value laid.old.items) false
-        first steps.old.pairs → IsRefusal (IsOverfull boolean count_fits (steps_in boolean precision es 0)) ⊥ fault) }
+    ensures some { OnErr result ((first : ℕ) →
+        IsSwept (entries_of I.value keys.now) (entries_of I.value keys.now) (ended (entries_of I.value keys.now) ends.now) (lines_of I.value lines.old)
+        (entries_of I.value laid.old.items) false first steps.old.pairs →
+        (ps : List Point) × Ticked (entries_of I.value keys.now) ps first steps.new.pairs) }
+    ensures refused { IfErr result (λ fault. (first : ℕ) (precision : Precision) →
+        IsSwept (entries_of I.value keys.now) (entries_of I.value keys.now) (ended (entries_of I.value keys.now) ends.now) (lines_of I.value lines.old)
+        (entries_of I.value laid.old.items) false first steps.old.pairs →
+        IsRefusal (IsOverfull boolean count_fits (steps_in boolean precision (entries_of I.value keys.now) 0)) ⊥ fault) }
     ensures compared { steps.new.comparisons ≡ steps.old.comparisons }
 {
-    let mut left = starts;
-    let mut more = ends;
-    let mut is_marked = false;
-    while !left.is_empty() {
-        let taken = sweep_on(laid, lines, left, more, steps)?;
-        is_marked = either(is_marked, taken.is_marked);
-        left = &left[..taken.starts];
-        more = &more[..taken.ends];
+    let mut left = Left {
+        starts: keys.len(),
+        ends: ends.len(),
+        is_marked: false,
+    };
+    while 0 < left.starts {
+        left = sweep_on(laid, lines, keys, ends, left, steps)?;
     }
-    Ok(is_marked)
+    Ok(left.is_marked)
 }
 
 fn either(one: bool, other: bool) -> bool

@@ -92,11 +92,7 @@ impl<I: OverlayInt> SplitSolver<I> {
             room: Room {
                 marks: Vec::new(alloc),
                 mark_sort: MarkRoom::new(alloc),
-                sort: SortRoom {
-                    ends: Vec::new(alloc),
-                    rows: Vec::new(alloc),
-                    taken: Vec::new(alloc),
-                },
+                sort: SortRoom::new(alloc),
                 next_new: Vec::new(alloc),
                 passes: 0,
                 alloc,

@@ -16,7 +16,7 @@ use Rattle.segment_split.specs.declared.roads.buckets.passed.Passed.{Passed}
 use Rattle.segment_split.proofs.Passes.MarkLists.{at_contains, forward_x}
 use Rattle.segment_split.proofs.Passes.Columns.{LiesAmong, all_among}
 use Rattle.segment_split.proofs.Rows.Laws.{starts_near}
-use Rattle.segment_split.proofs.Rows.Buckets.{min_to_max}
+use Rattle.segment_split.proofs.Rows.Layouts.{min_to_max}
 use Rattle.segment_split.proofs.BucketTrees.Held.{holds_other, holds_asked, holds_more}
 use Rattle.segment_split.proofs.BucketTrees.Met.{met_has, met_in_both}
 use Rattle.segment_split.proofs.BucketTrees.Pairs.{nth_is}

@@ -13,10 +13,19 @@ use Rattle.plane_base.specs.Plane.{Edge}
 use Rattle.segment_split.specs.StepBounds.{Values, y_range, width_up_to, all_values, span_of, buckets_over, has_layout}
 use Rattle.segment_split.specs.BucketTrees.{y_buckets}
 use Rattle.segment_split.proofs.Passes.Columns.{LiesAmong, width_fits, all_among}
-use Rattle.segment_split.proofs.Rows.Buckets.{InRange, width_power, least_measured, greatest_measured, min_to_max}
+use Rattle.segment_split.proofs.Rows.Layouts.{InRange, least_measured, greatest_measured, min_to_max}
 
 through : (a b c : ℕ) → a ≤ b → b ≤ c → a ≤ c
 through a b c h k = omega (arith, h, k)
+
+-- a bucket's width is a power of two
+width_power : (span k : ℕ) → (m : ℕ) × (width_up_to span k ≡ 2 ^ m)
+width_power span zero = (0, refl)
+width_power span (suc k) = by (nat_le (span / width_up_to span k) 31) (width_power span k)
+  where
+    by : (b : Bool) → (m : ℕ) × (width_up_to span k ≡ 2 ^ m) → (m : ℕ) × (cond b (width_up_to span k) (2 * width_up_to span k) ≡ 2 ^ m)
+    by true h = h
+    by false (m, e) = (suc m, omega (arith, e))
 
 -- a wider bucket fits no worse
 fits_wider : (span v w : ℕ) → 0 < v → v ≤ w → span / v ≤ 31 → span / w ≤ 31

@@ -1,7 +1,7 @@
 -- What is found by holding pairs against each other, in any order.
-use Rattle.std.specs.Prelude.{◌≡◌, ◌||◌, ◌⊎◌, ℕ, ◌<◌, ℤ, Bool, true, false, List, [], ◌∷◌, ◌++◌, All, AllPairs, Contains}
+use Rattle.std.specs.Prelude.{◌≡◌, ◌||◌, ◌⊎◌, ℕ, ◌<◌, ◌≤◌, ℤ, Bool, true, false, List, [], ◌∷◌, ◌++◌, length, slice_index_or, All, AllPairs, Contains}
 use Rattle.std.specs.declared.cmp.Ordering.TheVariants.{Less}
-use Rattle.std.proofs.Common.{refl, sym, ap, ap₂, ◌∙◌, subst, inl, inr}
+use Rattle.std.proofs.Common.{refl, sym, ap, ap₂, ◌∙◌, subst, inl, inr, arith}
 use Rattle.std.proofs.lemmas.Bool.{cases_order}
 use Rattle.std.proofs.lemmas.List.Elements.{All-nil, All-append, All-weaker, All-contains_itself}
 use Rattle.plane_base.specs.Plane.{Edge, edge_order}
@@ -15,7 +15,7 @@ use Rattle.plane_base.proofs.Facts.Crossings.Roundings.{unless_parted}
 use Rattle.plane_base.proofs.Facts.Crossings.Steps.{parted_on_grid}
 use Rattle.plane_base.proofs.Facts.Crossings.Whole.{whole_marks_stay}
 use Rattle.segment_split.specs.Passes.{marks_on}
-use Rattle.segment_split.specs.MarkLists.{LaidMark, laid_on, IsAt, IsLaid, HasMark, HasPair, IsFound, AreMarks}
+use Rattle.segment_split.specs.MarkLists.{LaidMark, laid_on, IsAt, IsLaid, HasMark, HasPair, IsFound, AreMarks, SkipsOld}
 use Rattle.segment_split.specs.Rows.{Finds}
 use Rattle.segment_split.specs.WholeLaws.{AllMeetWhole}
 use Rattle.segment_split.proofs.Passes.Unmarked.{parted_itself}
@@ -165,3 +165,17 @@ module _ (stride least greatest : ℤ) (rounding : Rounding) (es : List Edge) (r
         by i j at there (inl e) = subst (MeetsWhole s) (at_same es j s t (subst (λ n. IsAt es n s) e at) there) (on_grid_whole s s (sym (parted_on_grid s s (parted_itself s))))
         by i j at there (inr (inl l)) = pair i j s t l at there
         by i j at there (inr (inr l)) = whole_marks_stay.swapped t s (pair j i t s l there at)
+
+  -- where all edges are old, nothing is laid
+  module _ (next_new : List ℕ) (skips : SkipsOld es next_new) (next : ℕ) (last : length es ≤ next) (passed : (n : ℕ) → 0 ≤ n → n < next → n < slice_index_or next_new 0 0) where
+    all_old : (n : ℕ) (s : Edge) → IsAt es n s → Contains skips.old s
+    all_old n s at = skips.passed 0 n s (omega arith) (passed n (omega arith) (omega (arith, last, at.0))) at
+
+    each_old : (i j : ℕ) (s t : Edge) → i < j → IsAt es i s → IsAt es j t → ⊥ ⊎ (marks_by rounding s t ≡ no_marks)
+    each_old i j s t before at there = inr ((unless_parted rounding s t).1 (skips.parted s t (all_old i s at) (all_old j t there)))
+
+    pub none_new : AreMarks stride least greatest (marks_by rounding) es []
+    none_new = finds_all (λ i j. ⊥) [] false (finds_none stride least greatest rounding es (λ i j. ⊥) (λ i j h. h) []) each_old
+
+    pub none_new_whole : AllMeetWhole es
+    none_new_whole = finds_whole (λ i j. ⊥) [] false (finds_none stride least greatest rounding es (λ i j. ⊥) (λ i j h. h) []) each_old refl

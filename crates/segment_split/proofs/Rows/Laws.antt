@@ -17,9 +17,10 @@ use Rattle.plane_base.proofs.Facts.Points.Orders.{less_then, point_less_x, point
 use Rattle.plane_base.specs.Crossing.{no_marks, marks_by}
 use Rattle.plane_base.proofs.Facts.Crossings.Place.{min_first, max_first}
 use Rattle.segment_split.specs.MarkLists.{IsAt, SkipsOld}
-use Rattle.segment_split.specs.Rows.{row_of, lowest_row, highest_row, place_in, places_from, IsNumbered, ArePlaces, AreRows, IsPlaced, AddsPart, AddsNear, ComesTo, is_old, MeetsNew, ArePlaced, IsFirstAfter, AreReaches, reach_of, reaches_of, Follows, FollowsInRows, FollowsIn, FollowsAmong}
+use Rattle.segment_split.specs.Rows.{row_of, lowest_row, highest_row, place_in, places_from, IsNumbered, ArePlaces, AreRows, IsPlaced, AddsPart, AddsNear, ComesTo, is_old, MeetsNew, ArePlaced, IsFirstAfter, AreReaches, LiesOnward, reach_of, reaches_of, Follows, FollowsInRows, FollowsIn, FollowsAmong}
 use Rattle.plane_base.specs.declared.rounding.Rounding.{Rounding}
-use Rattle.plane_base.proofs.Facts.Crossings.Roundings.{unmarked_apart}
+use Rattle.plane_base.proofs.Facts.Crossings.Roundings.{unmarked_apart, unless_parted}
+use Rattle.plane_base.proofs.Facts.Crossings.Onward.{onward_parted}
 use Rattle.segment_split.proofs.Rows.Parts.{adds_none, adds_near, adds_both}
 use Rattle.segment_split.proofs.Passes.MarkLists.{at_same, at_contains, unmarked_past, old_none, forward_x}
 
@@ -74,11 +75,7 @@ pub place_number : (row i : ℕ) → i < 4294967296 → place_in row i % 4294967
 place_number row i h = omega arith
 
 pub reach_few : (es : List Edge) (reaches : List ℕ) → length es < 4294967296 → AreReaches es reaches → (i : ℕ) → slice_index_or reaches i 0 ≤ 4294967296
-reach_few es reaches few far i = by (cases_lt i (length reaches))
-  where
-    by : (i < length reaches) ⊎ (length reaches ≤ i) → slice_index_or reaches i 0 ≤ 4294967296
-    by (inl l) = let h = far.within i 0 l in omega (arith, h, few)
-    by (inr l) = let h = get_or_past reaches i 0 l in omega (arith, h)
+reach_few es reaches few far i = let h = far.within i in omega (arith, h, few)
 
 -- what follows an edge that begins past x does too
 pub starts_past : (es : List Edge) → AllPairs (λ s t. edge_order s t ≡ Less) es → (x : ℤ) (m : ℕ) (u : Edge) → IsAt es m u → x <ℤ u.a.x → (j : ℕ) (t : Edge) → m ≤ j → IsAt es j t → x <ℤ t.a.x
@@ -165,13 +162,26 @@ every : (P : Edge → Type 0) → ((s : Edge) → P s) → (es : List Edge) → 
 every P h [] = All-nil P
 every P h (s ∷ es) = All-cons P s es (h s) (every P h es)
 
-pub reaches_are : (es : List Edge) → AllPairs (λ s t. edge_order s t ≡ Less) es → AreReaches es (reaches_of es)
-reaches_are es rising = record {
-  within = All-map (λ r. r ≤ length es) (reach_of es) es (every (λ s. reach_of es s ≤ length es) (λ s. count_by-le-length (λ t. int_le t.a.x s.b.x) es) es);
+-- the number from which on all begin past the end of an edge
+pub record ArePasts (es : List Edge) : Type 0 where
+  pub within : (i : ℕ) → slice_index_or (reaches_of es) i 0 ≤ length es
+  pub past : (i j : ℕ) (s t : Edge) → IsAt es i s → IsAt es j t → slice_index_or (reaches_of es) i 0 ≤ j → s.b.x <ℤ t.a.x
+  pub near : (i j : ℕ) (s t : Edge) → IsAt es i s → IsAt es j t → j < slice_index_or (reaches_of es) i 0 → t.a.x ≤ℤ s.b.x
+
+pub pasts_are : (es : List Edge) → AllPairs (λ s t. edge_order s t ≡ Less) es → ArePasts es
+pasts_are es rising = record {
+  within = λ i. bounded i (cases_lt i (length (reaches_of es)));
   past = λ i j s t at there h. apart s t (λ up. let less = (here s j t there).1 up in let reach = own i s at in omega (arith, h, less, reach));
   near = λ i j s t at there h. let reach = own i s at in (int_le_true t.a.x s.b.x ((here s j t there).0 (omega (arith, h, reach))));
 }
   where
+    all_within : All (λ r. r ≤ length es) (reaches_of es)
+    all_within = All-map (λ r. r ≤ length es) (reach_of es) es (every (λ s. reach_of es s ≤ length es) (λ s. count_by-le-length (λ t. int_le t.a.x s.b.x) es) es)
+
+    bounded : (i : ℕ) → (i < length (reaches_of es)) ⊎ (length (reaches_of es) ≤ i) → slice_index_or (reaches_of es) i 0 ≤ length es
+    bounded i (inl l) = all_within i 0 l
+    bounded i (inr l) = let h = get_or_past (reaches_of es) i 0 l in omega (arith, h)
+
     own : (i : ℕ) (s : Edge) → IsAt es i s → slice_index_or (reaches_of es) i 0 ≡ reach_of es s
     own i s at = get_or-map (reach_of es) es i s 0 at.0 ∙ ap (reach_of es) (sym at.1)
 
@@ -401,7 +411,11 @@ module _ (stride first last : ℤ) (rounding : Rounding) (es : List Edge) (risin
 
         by : (j < slice_index_or reaches i 0) ⊎ (slice_index_or reaches i 0 ≤ j) → FollowsInRows reaches begins passes to_begins to_passes i j ⊎ (marks_by rounding s t ≡ no_marks)
         by (inl near) = near_by near (cases_order (lowest_row least width s) (lowest_row least width t))
-        by (inr past) = inr (unmarked_past rounding s t (directed i s at) (directed j t there) (far.past i j s t at there past))
+        by (inr past) = inr (onward (far.past i j s t at there past))
+          where
+            onward : LiesOnward s t → marks_by rounding s t ≡ no_marks
+            onward (inl apart) = unmarked_past rounding s t (directed i s at) (directed j t there) apart
+            onward (inr (meet, wide, on)) = (unless_parted rounding s t).1 (onward_parted s t wide on meet)
 
   nearer : (near other : ℕ → Type 0) → ((r : ℕ) → near r → other r) → (begins passes : List ℕ) (i : ℕ) (s : Edge) → IsPlaced other least width begins passes i s → IsPlaced near least width begins passes i s
   nearer near other fewer begins passes i s h = record {

@@ -29,7 +29,7 @@ module _ {X : Type 0} (before after : List X) (x : X) where
       All-append (Contains (before ++ x ∷ after)) before after (All-front (Contains (before ++ x ∷ after)) before (x ∷ after) (All-contains_itself (before ++ x ∷ after)))
       (All-tail (Contains (before ++ x ∷ after)) x after (All-back (Contains (before ++ x ∷ after)) before (x ∷ after) (All-contains_itself (before ++ x ∷ after))))
 
-an_element : {X : Type 0} (xs : List X) (i : ℕ) → i < length xs → (x : X) × (x ≡ get_or xs i x)
+pub an_element : {X : Type 0} (xs : List X) (i : ℕ) → i < length xs → (x : X) × (x ≡ get_or xs i x)
 an_element [] i l = absurd (omega (arith, l))
 an_element (x ∷ xs) zero l = (x, refl)
 an_element (x ∷ xs) (suc i) l = an_element xs i (omega (arith, l))

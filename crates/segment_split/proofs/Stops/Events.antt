@@ -25,7 +25,7 @@ use Rattle.segment_split.proofs.Stops.Changes.{changed_rows, come_all, go_all}
 use Rattle.segment_split.proofs.Stops.Reached.{RunsOn, by_reach, some_runs, is_running, kept, gone_of, come_of, gone_total, come_total}
 use Rattle.segment_split.proofs.Stops.Steps.{le_tells, le_x, le_y, behind_is, directed, way, reached_end, end_ahead}
 use Rattle.segment_split.proofs.Stops.Crossings.{mapped_from, IsBetween, column_key, le_not}
-use Rattle.segment_split.proofs.Stops.Counting.{met_key, met_between}
+use Rattle.segment_split.proofs.Stops.Counting.{met_between}
 use Rattle.segment_split.proofs.Stops.Visits.{HasRow, row_or_none, laid_at, nexts_at, runs_at_stop}
 use Rattle.segment_split.proofs.Passes.Steps.{contains_head, contains_tail, inside_is, inside_from}
 use Rattle.segment_split.proofs.Whole.LevelEdges.{IsLevel, IsUpright}
@@ -102,12 +102,9 @@ module _ (es : List (Entry Count)) (h : IsNormal boolean es) (all : AllLevelOrUp
     higher : (a b c : ℤ) → a <ℤ b → b ≤ℤ c → a <ℤ c
     higher a b c k l = omega (arith, ints, k, l)
 
-    module _ (r : RowView) (at : Contains lines.rows r) (meets : is_met lines.column r.line ≡ true) (over : p.y <ℤ r.y) (under : r.y <ℤ q.y) (clear : All (λ s. r.y <ℤ s.y → s.y <ℤ q.y → is_met lines.column s.line ≡ false) lines.rows) where
+    module _ (r : RowView) (level : RunsOn es t t (in_row r.y)) (over : p.y <ℤ r.y) (under : r.y <ℤ q.y) where
       abbrev c : Point
       c = record { x = p.x; y = r.y }
-
-      abbrev level : RunsOn es t t (in_row r.y)
-      level = met_key es h all t ps before gone ahead come lines laid marked swept p next.last r at meets
 
       abbrev v : Edge
       v = level.key.edge
@@ -182,48 +179,52 @@ module _ (es : List (Entry Count)) (h : IsNormal boolean es) (all : AllLevelOrUp
       pub is_crossing : IsCrossing (edges_of es) c
       is_crossing = ((u, u_listed, up), (v, v_listed, along))
 
-      known : (s : Point) → IsCrossing (edges_of es) s → CountsFrom boolean es s → Contains (c ∷ ps) s ⊎ IsBefore (c ∷ ps) s
-      known s crossing counts = ⊎_elim (λ k. inl (contains_tail c ps s k)) (λ k. by k (point_order s c) refl) (swept.stops.known s crossing counts)
-        where
-          by : IsBefore ps s → (o : Ordering) → point_order s c ≡ o → Contains (c ∷ ps) s ⊎ IsBefore (c ∷ ps) s
-          by k Less l = inr (All-cons (λ q. point_order s q ≡ Less) c ps l k)
-          by k Equal l = inl (subst (Contains (c ∷ ps)) (sym (point_equal s c l)) (contains_head c ps))
-          by k Greater l =
-              let beyond = less_from_greater point_total s c l in
-              let met = met_between es h all t ps before gone ahead come lines laid marked swept p next.last s crossing counts k (point_total.trans p c s p_to_c beyond) in
-              absurd
-              (false≢true
-              (sym (All-contains (λ s. r.y <ℤ s.y → s.y <ℤ q.y → is_met lines.column s.line ≡ false) lines.rows met.0.row clear met.0.listed
-              (at_height_of r.y s.y met.0.row.y met.0.height (less_by_y c s (sym met.0.place) beyond))
-              (under_height s.y met.0.row.y q.y met.0.height (less_by_y s q (met.0.place ∙ sym at_one_x.1) (behind_is ps s q k q_first.0))))
-              ∙ met.1))
-            where
-              at_height_of : (x y z : ℤ) → z ≡ y → x <ℤ y → x <ℤ z
-              at_height_of x y z e l = omega (arith, ints, e, l)
+      pub c_inside : (s : Edge) × Contains (edges_of es) s × (strictly_inside c s ≡ true)
+      c_inside = (u, u_listed, upright_inside u c (directed es h all t ps swept.stops u u_listed) up)
 
-              under_height : (y z q : ℤ) → z ≡ y → y <ℤ q → z <ℤ q
-              under_height y z q e l = omega (arith, ints, e, l)
+      module _ (clear : All (λ s. r.y <ℤ s.y → s.y <ℤ q.y → is_met lines.column s.line ≡ false) lines.rows) where
+        known : (s : Point) → IsCrossing (edges_of es) s → CountsFrom boolean es s → Contains (c ∷ ps) s ⊎ IsBefore (c ∷ ps) s
+        known s crossing counts = ⊎_elim (λ k. inl (contains_tail c ps s k)) (λ k. by k (point_order s c) refl) (swept.stops.known s crossing counts)
+          where
+            by : IsBefore ps s → (o : Ordering) → point_order s c ≡ o → Contains (c ∷ ps) s ⊎ IsBefore (c ∷ ps) s
+            by k Less l = inr (All-cons (λ q. point_order s q ≡ Less) c ps l k)
+            by k Equal l = inl (subst (Contains (c ∷ ps)) (sym (point_equal s c l)) (contains_head c ps))
+            by k Greater l =
+                let beyond = less_from_greater point_total s c l in
+                let met = met_between es h all t ps before gone ahead come lines laid marked swept p next.last s crossing counts k (point_total.trans p c s p_to_c beyond) in
+                absurd
+                (false≢true
+                (sym (All-contains (λ s. r.y <ℤ s.y → s.y <ℤ q.y → is_met lines.column s.line ≡ false) lines.rows met.0.row clear met.0.listed
+                (at_height_of r.y s.y met.0.row.y met.0.height (less_by_y c s (sym met.0.place) beyond))
+                (under_height s.y met.0.row.y q.y met.0.height (less_by_y s q (met.0.place ∙ sym at_one_x.1) (behind_is ps s q k q_first.0))))
+                ∙ met.1))
+              where
+                at_height_of : (x y z : ℤ) → z ≡ y → x <ℤ y → x <ℤ z
+                at_height_of x y z e l = omega (arith, ints, e, l)
 
-      pub crossed : Swept es t (c ∷ ps) before gone ahead come (visited c lines) (laid ++ steps_from c lines) true
-      crossed = record {
-        cut = swept.cut;
-        stops = record {
-          rising = AllPairs-cons (λ p q. point_order p q ≡ Less) c ps c_before swept.stops.rising;
-          only = All-cons (IsStop (edges_of es)) c ps (inr is_crossing) swept.stops.only;
-          known = known;
-          ends = λ s end. ⊎_elim (λ k. inl (k.0, contains_tail c ps s k.1)) (λ k. inr (k.0, All-cons (λ q. point_order s q ≡ Less) c ps (c_last s end k.0) k.1)) (swept.stops.ends s end);
-        };
-        runs = runs_at_stop es h all t ps before gone ahead come lines laid marked swept c c_before c_le;
-        nexts = nexts_at es h all t ps before gone ahead come lines laid marked swept c c_before c_le;
-        next = refl;
-        rising = rising_kept r.y (stopped c) lines.rows swept.rising;
-        has = λ e there f. subst (λ ys. Contains ys e.edge.a.y) (sym (heights_kept r.y (stopped c) lines.rows)) (swept.has e there f);
-        steps = laid_at es h all t ps before gone ahead come lines laid marked swept c c_before c_le;
-        marks = ((λ _. (c, contains_head c ps, (u, u_listed, upright_inside u c (directed es h all t ps swept.stops u u_listed) up))), (λ _. refl));
-      }
-        where
-          c_le : (r : Point) → IsEndOfSome (edges_of es) r → reached t r ≡ false → is_le (point_order r c) ≡ true
-          c_le s end e = ap is_le (c_last s end e)
+                under_height : (y z q : ℤ) → z ≡ y → y <ℤ q → z <ℤ q
+                under_height y z q e l = omega (arith, ints, e, l)
+
+        pub crossed : Swept es t (c ∷ ps) before gone ahead come (visited c lines) (laid ++ steps_from c lines) true
+        crossed = record {
+          cut = swept.cut;
+          stops = record {
+            rising = AllPairs-cons (λ p q. point_order p q ≡ Less) c ps c_before swept.stops.rising;
+            only = All-cons (IsStop (edges_of es)) c ps (inr is_crossing) swept.stops.only;
+            known = known;
+            ends = λ s end. ⊎_elim (λ k. inl (k.0, contains_tail c ps s k.1)) (λ k. inr (k.0, All-cons (λ q. point_order s q ≡ Less) c ps (c_last s end k.0) k.1)) (swept.stops.ends s end);
+          };
+          runs = runs_at_stop es h all t ps before gone ahead come lines laid marked swept c c_before c_le;
+          nexts = nexts_at es h all t ps before gone ahead come lines laid marked swept c c_before c_le;
+          next = refl;
+          rising = rising_kept r.y (stopped c) lines.rows swept.rising;
+          has = λ e there f. subst (λ ys. Contains ys e.edge.a.y) (sym (heights_kept r.y (stopped c) lines.rows)) (swept.has e there f);
+          steps = laid_at es h all t ps before gone ahead come lines laid marked swept c c_before c_le;
+          marks = ((λ _. (c, contains_head c ps, c_inside)), (λ _. refl));
+        }
+          where
+            c_le : (r : Point) → IsEndOfSome (edges_of es) r → reached t r ≡ false → is_le (point_order r c) ≡ true
+            c_le s end e = ap is_le (c_last s end e)
 
 -- ---- numbers above 0
 
@@ -243,7 +244,7 @@ at_line_rows s f lines P step h = by (int_eq s.a.x s.b.x)
     by true = h
     by false = changed_rows P P s.a.y f lines.rows (λ r k e. step r k) (λ r k e. k) h
 
-at_line_heights : (s : Edge) (f : LineView → LineView) (lines : LinesView) → map (λ r. r.y) (at_line s f lines).rows ≡ map (λ r. r.y) lines.rows
+pub at_line_heights : (s : Edge) (f : LineView → LineView) (lines : LinesView) → map (λ r. r.y) (at_line s f lines).rows ≡ map (λ r. r.y) lines.rows
 at_line_heights s f lines = by (int_eq s.a.x s.b.x)
   where
     by : (b : Bool) → map (λ r. r.y) (cond b lines.rows (at_height s.a.y f lines.rows)) ≡ map (λ r. r.y) lines.rows

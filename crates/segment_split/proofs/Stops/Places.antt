@@ -35,12 +35,16 @@ module _ {R : Type 0} (view : R → RowView) (rows : List R) where
     pub before_place : All (λ s. s.y <ℤ (view r).y) (map view (take k rows))
     before_place = rising_before (map view (take k rows)) (map view (drop (k + 1) rows)) (view r) (subst AreRising parts rising)
 
+    -- those behind the place
+    pub past_place : All (λ s. (view r).y <ℤ s.y) (map view (drop (k + 1) rows))
+    past_place = rising_behind (map view (take k rows)) (map view (drop (k + 1) rows)) (view r) (subst AreRising parts rising)
+
     pub from_place : All (λ s. (view r).y ≤ℤ s.y) (map view (drop k rows))
     from_place =
         subst (λ l. All (λ s. (view r).y ≤ℤ s.y) (map view l)) (sym (dropped_from rows k (k + 1) r refl (omega (arith, within)) is))
         (All-cons (λ s. (view r).y ≤ℤ s.y) (view r) (map view (drop (k + 1) rows)) (same (view r).y)
         (All-weaker (λ s. (view r).y <ℤ s.y) (λ s. (view r).y ≤ℤ s.y) (λ s l. less (view r).y s.y l) (map view (drop (k + 1) rows))
-        (rising_behind (map view (take k rows)) (map view (drop (k + 1) rows)) (view r) (subst AreRising parts rising))))
+        past_place))
       where
         same : (x : ℤ) → x ≤ℤ x
         same x = omega (arith, ints)
@@ -59,57 +63,6 @@ module _ {R : Type 0} (view : R → RowView) (rows : List R) where
         chain : (x y z : ℤ) → x <ℤ y → y ≤ℤ z → x ≤ℤ z
         chain x y z m l = omega (arith, ints, m, l)
 
-  pub quiet_between : (met : LineView → Bool) (low place : ℕ) (lower upper : ℤ) → low ≤ place → All (λ s. s.y ≤ℤ lower) (map view (take low rows)) → All (λ s. upper ≤ℤ s.y) (map view (drop place rows))
-      → ((k : ℕ) (d : R) → low ≤ k → k < place → met (view (get_or rows k d)).line ≡ false) → All (λ s. lower <ℤ s.y → s.y <ℤ upper → met s.line ≡ false) (map view rows)
-  quiet_between met low place lower upper order under over quiet =
-      subst (All Quiet) (sym whole)
-      (All-append Quiet (map view (take low rows)) (map view (drop low (take place rows)) ++ map view (drop place rows))
-      (All-weaker (λ s. s.y ≤ℤ lower) Quiet (λ s l m n. absurd (clash s.y lower l m)) (map view (take low rows)) under)
-      (All-append Quiet (map view (drop low (take place rows))) (map view (drop place rows))
-      (All-map Quiet view (drop low (take place rows)) (λ k d l m n. middle k d l))
-      (All-weaker (λ s. upper ≤ℤ s.y) Quiet (λ s l m n. absurd (clash upper s.y l n)) (map view (drop place rows)) over)))
-    where
-      Quiet : RowView → Type 0
-      Quiet s = lower <ℤ s.y → s.y <ℤ upper → met s.line ≡ false
-
-      clash : (x y : ℤ) → x ≤ℤ y → y <ℤ x → ⊥
-      clash x y l m = omega (arith, ints, l, m)
-
-      whole : map view rows ≡ map view (take low rows) ++ (map view (drop low (take place rows)) ++ map view (drop place rows))
-      whole =
-          ap (map view) (sym (take-append-drop place rows))
-          ∙ (map-append view (take place rows) (drop place rows)
-          ∙ (ap (λ l. map view l ++ map view (drop place rows)) (sym (take-append-drop low (take place rows)))
-          ∙ (ap (λ l. l ++ map view (drop place rows)) (map-append view (take low (take place rows)) (drop low (take place rows)))
-          ∙ (append_assoc (map view (take low (take place rows))) (map view (drop low (take place rows))) (map view (drop place rows))
-          ∙ ap (λ l. map view l ++ (map view (drop low (take place rows)) ++ map view (drop place rows))) (take-take low place rows order)))))
-
-      middle : (k : ℕ) (d : R) → k < length (drop low (take place rows)) → met (view (get_or (drop low (take place rows)) k d)).line ≡ false
-      middle k d l =
-          let short : low + k < place = omega (arith, l, length-drop low (take place rows), length-take place rows) in
-          ap (λ r. met (view r).line) (get_or-drop low (take place rows) k d ∙ get_or-take place rows (low + k) d short) ∙ quiet (low + k) d (omega arith) short
-
--- what holds of the heights of rows holds of others of the same heights
-pub heights_moved : (P : ℤ → Type 0) (rows others : List RowView) → map (λ r. r.y) others ≡ map (λ r. r.y) rows → All (λ r. P r.y) rows → All (λ r. P r.y) others
-heights_moved P rows others e h = unmapped others (subst (All P) (sym e) (All-map P (λ r. r.y) rows h))
-  where
-    unmapped : (rs : List RowView) → All P (map (λ r. r.y) rs) → All (λ r. P r.y) rs
-    unmapped [] k = All-nil (λ r. P r.y)
-    unmapped (r ∷ rs) k = All-cons (λ r. P r.y) r rs (All-head P r.y (map (λ r. r.y) rs) k) (unmapped rs (All-tail P r.y (map (λ r. r.y) rs) k))
-
-module _ {R : Type 0} (view : R → RowView) (rows others : List R) (same : map (λ r. r.y) (map view others) ≡ map (λ r. r.y) (map view rows)) (P : ℤ → Type 0) (k : ℕ) where
-  pub taken_moved : All (λ r. P r.y) (map view (take k rows)) → All (λ r. P r.y) (map view (take k others))
-  taken_moved = heights_moved P (map view (take k rows)) (map view (take k others)) (way others ∙ (ap (take k) same ∙ sym (way rows)))
-    where
-      way : (rs : List R) → map (λ r. r.y) (map view (take k rs)) ≡ take k (map (λ r. r.y) (map view rs))
-      way rs = ap (map (λ r. r.y)) (sym (take-map view k rs)) ∙ sym (take-map (λ r. r.y) k (map view rs))
-
-  pub dropped_moved : All (λ r. P r.y) (map view (drop k rows)) → All (λ r. P r.y) (map view (drop k others))
-  dropped_moved = heights_moved P (map view (drop k rows)) (map view (drop k others)) (way others ∙ (ap (drop k) same ∙ sym (way rows)))
-    where
-      way : (rs : List R) → map (λ r. r.y) (map view (drop k rs)) ≡ drop k (map (λ r. r.y) (map view rs))
-      way rs = ap (map (λ r. r.y)) (sym (drop-map view k rs)) ∙ sym (drop-map (λ r. r.y) k (map view rs))
-
 pub or_false : (b : Bool) → (b || false) ≡ b
 or_false true = refl
 or_false false = refl
@@ -121,23 +74,16 @@ pairs_last R [] x h = All-nil (λ y. R y x)
 pairs_last R (y ∷ xs) x h =
     All-cons (λ y. R y x) y xs (All-head (R y) x [] (All-back (R y) xs (x ∷ []) (AllPairs-head R y (xs ++ x ∷ []) h))) (pairs_last R xs x (AllPairs-tail R y (xs ++ x ∷ []) h))
 
-pub last_parted : {X Y : Type 0} (view : X → Y) (xs : List X) (n : ℕ) (x : X) → n + 1 ≡ length xs → x ≡ get_or xs n x → map view xs ≡ map view (take n xs) ++ view x ∷ []
-last_parted view xs n x last is =
-    ap (map view) (sym (take_all (length xs) xs (omega arith)) ∙ taken_to xs n (length xs) x last (omega arith) is) ∙ map-append view (take n xs) (x ∷ [])
-
-module _ {X : Type 0} (view : X → Entry Count) (g : Entry Count → Point) (xs : List X) (n : ℕ) (x : X) (last : n + 1 ≡ length xs) (is : x ≡ get_or xs n x)
-    (sorted : AllPairs (λ e f. point_order (g e) (g f) ≢ Greater) (map view xs)) where
-  pub none_after : All (λ e. is_le (point_order (g e) (g (view x))) ≡ true) (map view xs)
+-- no entry of a sorted list comes after the last
+module _ (g : Entry Count → Point) (order front : List (Entry Count)) (e : Entry Count) (parted : order ≡ front ++ e ∷ []) (sorted : AllPairs (λ e f. point_order (g e) (g f) ≢ Greater) order) where
+  pub none_after : All (λ f. is_le (point_order (g f) (g e)) ≡ true) order
   none_after =
-      subst (All (λ e. is_le (point_order (g e) (g (view x))) ≡ true)) (sym parted)
-      (All-append (λ e. is_le (point_order (g e) (g (view x))) ≡ true) (map view (take n xs)) (view x ∷ [])
-      (All-weaker (λ e. point_order (g e) (g (view x)) ≢ Greater) (λ e. is_le (point_order (g e) (g (view x))) ≡ true) (λ e h. not_after (point_order (g e) (g (view x))) h) (map view (take n xs))
-      (pairs_last (λ e f. point_order (g e) (g f) ≢ Greater) (map view (take n xs)) (view x) (subst (AllPairs (λ e f. point_order (g e) (g f) ≢ Greater)) parted sorted)))
-      (All-cons (λ e. is_le (point_order (g e) (g (view x))) ≡ true) (view x) [] (ap is_le (point_itself (g (view x)))) (All-nil (λ e. is_le (point_order (g e) (g (view x))) ≡ true))))
+      subst (All (λ f. is_le (point_order (g f) (g e)) ≡ true)) (sym parted)
+      (All-append (λ f. is_le (point_order (g f) (g e)) ≡ true) front (e ∷ [])
+      (All-weaker (λ f. point_order (g f) (g e) ≢ Greater) (λ f. is_le (point_order (g f) (g e)) ≡ true) (λ f h. not_after (point_order (g f) (g e)) h) front
+      (pairs_last (λ e f. point_order (g e) (g f) ≢ Greater) front e (subst (AllPairs (λ e f. point_order (g e) (g f) ≢ Greater)) parted sorted)))
+      (All-cons (λ f. is_le (point_order (g f) (g e)) ≡ true) e [] (ap is_le (point_itself (g e))) (All-nil (λ f. is_le (point_order (g f) (g e)) ≡ true))))
     where
-      parted : map view xs ≡ map view (take n xs) ++ view x ∷ []
-      parted = last_parted view xs n x last is
-
       not_after : (o : Ordering) → o ≢ Greater → is_le o ≡ true
       not_after Less h = refl
       not_after Equal h = refl

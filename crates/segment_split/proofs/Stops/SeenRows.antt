@@ -4,7 +4,7 @@ use Rattle.std.proofs.lemmas.List.{map-set, get_or-map, length-map}
 use Rattle.std.proofs.lemmas.List.Elements.{All-head, All-tail}
 use Rattle.plane_base.specs.Plane.{Point}
 use Rattle.plane_base.specs.Counts.{boolean}
-use Rattle.segment_split.specs.Ranks.{is_member, IsLastBefore, IsNoneBefore}
+use Rattle.segment_split.specs.Ranks.{is_member, IsLastBefore}
 use Rattle.segment_split.specs.Stops.{LineView, RowView, at_height, stopped, bare, runs_on, counts_on}
 use Rattle.segment_split.specs.Sweeps.{is_met}
 
@@ -69,5 +69,5 @@ module _ {R : Type 0} (view : R → RowView) (column : LineView) (test : RowView
       → is_met column (view (get_or rows k d)).line ≡ false
   passed_to place h k d l m = met_is k d m ∙ h.between k l m
 
-  pub met_none : IsNoneBefore (is_member members) before → (k : ℕ) (d : R) → k < before → is_met column (view (get_or rows k d)).line ≡ false
-  met_none h k d l = met_is k d l ∙ h k l
+  pub met_none : (low : ℕ) → ((k : ℕ) → low ≤ k → k < before → is_member members k ≡ false) → (k : ℕ) (d : R) → low ≤ k → k < before → is_met column (view (get_or rows k d)).line ≡ false
+  met_none low h k d l m = met_is k d m ∙ h k l m

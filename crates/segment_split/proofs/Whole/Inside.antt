@@ -3,7 +3,7 @@ use Rattle.std.proofs.Common.{◌≡◌, ◌↔◌, ℕ, suc, Bool, true, false,
 use Rattle.std.specs.List.{list_any}
 use Rattle.std.proofs.lemmas.Int.{ints}
 use Rattle.std.proofs.lemmas.Bool.{false≢true}
-use Rattle.std.proofs.lemmas.List.Elements.{All-head, All-tail, All-weaker, All-contains_itself, All-filter, filter_passes}
+use Rattle.std.proofs.lemmas.List.Elements.{All-contains, All-map, All-head, All-tail, All-weaker, All-contains_itself, All-filter, filter_passes}
 use Rattle.std.proofs.lemmas.List.Folds.{Any-from_list_any, list_any_at}
 use Rattle.plane_base.specs.Plane.{Point, Edge, is_before, point_order, edge_order}
 use Rattle.plane_base.specs.Segments.{strictly_inside}
@@ -14,16 +14,17 @@ use Rattle.plane_base.proofs.Facts.Points.Orders.{point_equal, less_then, edge_i
 use Rattle.segment_split.specs.Passes.{edges_of, marks_in, marks_on}
 use Rattle.segment_split.specs.Redrawing.{MarksInPass}
 use Rattle.segment_split.specs.WholeLaws.{AllMeetWhole}
-use Rattle.segment_split.specs.LineLaws.{AllLevelOrUpright, IsCutPoint, is_part, entries_along, count_along, PassesUpThrough, PassesLevelThrough, IsMetAt, SpansLevel, SpansUp, right_of, above, ArePoints, has_inside}
+use Rattle.segment_split.specs.Sweeps.{IsStop}
+use Rattle.segment_split.specs.LineLaws.{is_level_or_upright, AllLevelOrUpright, IsCutPoint, is_part, entries_along, count_along, PassesUpThrough, PassesLevelThrough, IsMetAt, SpansLevel, SpansUp, right_of, above, ArePoints, has_inside}
 use Rattle.segment_split.specs.declared.solver.Precision.{Precision}
-use Rattle.segment_split.proofs.Spread.Lists.{edges_contain}
+use Rattle.segment_split.proofs.Spread.Lists.{IsDirectedEdge, edges_contain}
 use Rattle.segment_split.proofs.Passes.Unmarked.{meets_unmarked}
 use Rattle.segment_split.proofs.Passes.OldPairs.{marked_unless_parted}
 use Rattle.segment_split.proofs.Passes.Parts.{filter_normal}
 use Rattle.segment_split.proofs.Passes.Last.{joined_tells}
 use Rattle.segment_split.proofs.Redrawing.Ends.{marks_from_the_first}
-use Rattle.segment_split.proofs.Whole.LevelEdges.{IsLevel, IsUpright, level_and_upright_meet_whole}
-use Rattle.segment_split.proofs.Whole.Coordinates.{less_by_x, less_by_y, inside_level, inside_upright, level_inside, upright_inside}
+use Rattle.segment_split.proofs.Whole.LevelEdges.{IsLevel, IsUpright, level_or_upright, level_and_upright_meet_whole}
+use Rattle.segment_split.proofs.Whole.Coordinates.{cut_by_coordinates, less_by_x, less_by_y, inside_level, inside_upright, level_inside, upright_inside}
 use Rattle.segment_split.proofs.Whole.Neighbours.{contained, contains_no, redraws_by_lines}
 use Rattle.segment_split.proofs.Whole.StepLists.{some_not_none, directed_entry, an_end, way_of, level_cut_is, upright_cut_is, level_parts, upright_parts, short_level_before, short_upright_before, point_cuts_level, point_cuts_upright, up_to, weak}
 use Rattle.segment_split.proofs.BucketTrees.Met.{contains_filtered}
@@ -52,6 +53,32 @@ entry_of_edge [] s h = absurd (contains_no s h)
 entry_of_edge {C} (e ∷ es) s h =
     ⊎_elim (λ k. (e, (0, omega arith, refl), k)) (λ k. let m = entry_of_edge es s k in (m.0, (suc m.1.0, omega (arith, m.1.1), m.1.2), m.2)) (contained e.edge (edges_of es) s h)
 
+module _ {C : Type 0} (kind : Counting C) (precision : Precision) (es : List (Entry C)) (h : IsNormal kind es) (all : AllLevelOrUpright (edges_of es)) where
+  -- ---- a cut point inside an edge is marked
+
+  cut_is_marked : (s : Edge) → Contains (edges_of es) s → (p : Point) → IsCutPoint (edges_of es) s p → strictly_inside p s ≡ true → (k : ℕ) × MarksInPass kind precision es k
+  cut_is_marked s at p cut e =
+      let mark = ((redraws_by_lines kind precision).marks es 0 s p h (level_and_upright_meet_whole kind es h all) at).1 (cut, e) in
+      let by = joined_tells (λ r. (marks_in precision 0 s r).first) (edges_of es) p mark in
+      (0, (s, by.0, at, by.1, (λ none. not_empty (marks_in precision 0 s by.0).first p by.2 (ap (λ (m : Marks). m.first) none))))
+
+  -- so is an end of an edge, or a crossing, inside an edge
+  pub stop_is_marked : (s : Edge) → Contains (edges_of es) s → (p : Point) → IsStop (edges_of es) p → strictly_inside p s ≡ true → (k : ℕ) × MarksInPass kind precision es k
+  stop_is_marked s at p stop e = cut_is_marked s at p (⊎_elim level upright (level_or_upright s (All-contains (λ s. is_level_or_upright s ≡ true) (edges_of es) s all at))) e
+    where
+      forward : is_before s.a s.b ≡ true
+      forward = All-contains IsDirectedEdge (edges_of es) s (All-map IsDirectedEdge (λ (e : Entry C). e.edge) es h.directed) at
+
+      level : IsLevel s → IsCutPoint (edges_of es) s p
+      level k =
+          ((cut_by_coordinates kind).level_line es s p h all forward k).1
+          (sym (inside_level s p forward k e).first, ⊎_elim (λ k. (k.0, k.1, inl k.2)) (λ k. (k.0.0, k.0.1, inr k.0.2)) stop)
+
+      upright : IsUpright s → IsCutPoint (edges_of es) s p
+      upright k =
+          ((cut_by_coordinates kind).upright_line es s p h all forward k).1
+          (sym (inside_upright s p forward k e).first, ⊎_elim (λ k. (k.0, k.1, inl k.2)) (λ k. (k.1.0, k.1.1, inr k.1.2)) stop)
+
 module _ {C : Type 0} (kind : Counting C) (precision : Precision) (es : List (Entry C)) (h : IsNormal kind es) (all : AllLevelOrUpright (edges_of es)) (ps : List Point) (points : ArePoints kind es ps) where
   whole : AllMeetWhole (edges_of es)
   whole = level_and_upright_meet_whole kind es h all
@@ -75,10 +102,7 @@ module _ {C : Type 0} (kind : Counting C) (precision : Precision) (es : List (En
       let s = Any-from_list_any (λ s. list_any (λ p. strictly_inside p s) ps) (edges_of es) e in
       let p = Any-from_list_any (λ p. strictly_inside p s.1) ps s.4 in
       let at : Contains (edges_of es) s.1 = (s.0, s.2, s.3) in
-      let cut = point_cuts s.1 at p.1 (p.0, p.2, p.3) p.4 in
-      let mark = ((redraws_by_lines kind precision).marks es 0 s.1 p.1 h whole at).1 (cut, p.4) in
-      let by = joined_tells (λ r. (marks_in precision 0 s.1 r).first) (edges_of es) p.1 mark in
-      (0, (s.1, by.0, at, by.1, (λ none. not_empty (marks_in precision 0 s.1 by.0).first p.1 by.2 (ap (λ (m : Marks). m.first) none))))
+      cut_is_marked kind precision es h all s.1 at p.1 (point_cuts s.1 at p.1 (p.0, p.2, p.3) p.4) p.4
 
   -- ---- and where there is none, nothing is marked
 

@@ -9,8 +9,7 @@ ghost use Rattle.segment_split.specs.Sums.{of_count};
 ghost use Rattle.segment_split.specs.declared.solver.Strategy.TheVariants as strategy;
 
 use super::lines::Key;
-use super::scatter::favours_lines;
-use super::{are_level_or_upright, redraw};
+use super::{are_level_or_upright, redraw_where_cut};
 use crate::count::WindingCount;
 use crate::data::OverlayEdgeData;
 use crate::segment::Segment;
@@ -24,8 +23,9 @@ use std::sync::ledger::Ledger;
 // From so many segments on `Auto` redraws by lines, where that may be.
 const FEWEST: usize = 64;
 
-// Redraws a map by its lines. Answers whether passes mark anything. Nothing where the strategy is another than `Auto`, segments are
-// few, counts aren't just added, data tell something, a segment is neither level nor upright, or passes likely take less time.
+// Redraws a map by its lines, and leaves one as it is where nothing is cut. Answers whether passes mark anything. Nothing where the
+// strategy is another than `Auto`, segments are few, counts aren't just added, data tell something, or a segment is neither level nor
+// upright.
 pub(crate) fn redraw_by_lines<C: WindingCount, I: OverlayInt, D: OverlayEdgeData<C>, L: Ledger>(
     segments: &mut Vec<Segment<C, I, D>>,
     solver: Solver,
@@ -48,17 +48,17 @@ pub(crate) fn redraw_by_lines<C: WindingCount, I: OverlayInt, D: OverlayEdgeData
     if !are_level_or_upright(segments) {
         return Ok(None);
     }
-    if !favours_lines(segments) {
-        return Ok(None);
-    }
     let Some(datum) = first_datum(segments) else {
         return Ok(None);
     };
     let keys = keys_of(alloc, segments)?;
     let mut laid = Vec::new(alloc);
-    let is_marked = redraw(alloc, &mut laid, &keys, steps)?;
+    let is_marked = redraw_where_cut(alloc, &mut laid, &keys, steps)?;
+    if !is_marked {
+        return Ok(Some(false));
+    }
     put_all(segments, &laid, datum)?;
-    Ok(Some(is_marked))
+    Ok(Some(true))
 }
 
 // Whether the strategy leaves the choice, and there are segments enough.

@@ -1,7 +1,7 @@
 //! The lines of level and upright edges as a sweep knows them: the level ones by rising heights, and the upright one at its x.
 
 ghost use Rattle.std.specs.Prelude.{◌≡◌, ◌≢◌, ◌<◌, ◌≤◌, ◌<ℤ◌, ◌≤ℤ◌, ◌&&◌, ◌++◌, ◌∷◌, [], true, false, length, take, drop, slice_index_or};
-ghost use Rattle.std.specs.Prelude.{All, List, Some, IfOk, IfErr, OnOk, IsOkUnless};
+ghost use Rattle.std.specs.Prelude.{◌+◌, ◌-◌, ◌^◌, ℕ, cond, min, All, Some, IfOk, IfErr, OnOk, IsOkUnless};
 ghost use Rattle.std.specs.Ordering.{int_eq};
 ghost use Rattle.plane_base.specs.Counts.{Count, Entry, boolean};
 ghost use Rattle.plane_base.specs.Views.{point_of};
@@ -10,9 +10,12 @@ ghost use Rattle.segment_split.specs.Kinds.{count_fits};
 ghost use Rattle.segment_split.specs.Refusals.{IsRefusal};
 ghost use Rattle.segment_split.specs.SegmentViews.{entry_of, entries_of};
 ghost use Rattle.segment_split.specs.Stops.{line_of, row_of, rows_of, lines_of, AreRising, AreSeen, changed, stopped, at_height, at_line};
-ghost use Rattle.segment_split.specs.Stops.{end_of, count_of, all_changed, visited, step_with, step_from, steps_from, line_at, above_it, next_of};
+ghost use Rattle.segment_split.specs.Stops.{heights_in, IsPlaceOf, IsPlaceAbove};
+ghost use Rattle.segment_split.specs.Stops.{count_of, all_changed, visited, step_with, step_from, steps_from, line_at, above_it, next_of};
 ghost use Rattle.segment_split.specs.Sweeps.{line_on, LeavesRange};
+ghost use Rattle.segment_split.specs.SecondEnds.{in_order, CanBeSwept, AreAllAt};
 
+use super::ends::{SecondEnd, last_at};
 use super::ranks::Ranks;
 use crate::count::{ShapeCountBoolean, WindingCount};
 use crate::cutting::lay_step;
@@ -57,9 +60,7 @@ pub(super) struct Lines<I> {
 // The place of the first row that isn't below the height. It may be this one: then no other is looked at.
 pub(super) fn place_of<I: OverlayInt>(rows: &[Row<I>], y: I, near: usize) -> usize
     requires rising { AreRising (rows_of I.value rows.now) }
-    ensures within { result ≤ length rows.now }
-    ensures below { All (λ r. r.y <ℤ I.value y) (rows_of I.value (take result rows.now)) }
-    ensures others { All (λ r. I.value y ≤ℤ r.y) (rows_of I.value (drop result rows.now)) }
+    ensures { IsPlaceOf (I.value y) (heights_in (rows_of I.value rows.now)) result }
 {
     if parts(rows, y, near) {
         return near;
@@ -95,6 +96,19 @@ fn none_is_below<I: OverlayInt>(rows: &[Row<I>], y: I, place: usize) -> bool
     place == rows.len() || y.to_i64() <= rows[place].y.to_i64()
 }
 
+// The place of the first row above the height, whose own place is given.
+pub(super) fn first_above<I: OverlayInt>(rows: &[Row<I>], place: usize, y: I) -> usize
+    requires rising { AreRising (rows_of I.value rows.now) }
+    requires placed { IsPlaceOf (I.value y) (heights_in (rows_of I.value rows.now)) place }
+    ensures { IsPlaceAbove (I.value y) (heights_in (rows_of I.value rows.now)) result }
+{
+    if is_at(rows, place, y) {
+        place + 1
+    } else {
+        place
+    }
+}
+
 // Whether the row at the place has this height.
 pub(super) fn is_at<I: OverlayInt>(rows: &[Row<I>], place: usize, y: I) -> bool
     ensures at { result ≡ true → place < length rows.now }
@@ -113,23 +127,35 @@ fn change<I: OverlayInt>(
     ensures changed { IfOk result (λ line_after. line_of I.value line_after ≡ changed more count (line_of I.value line)) }
     ensures refused { IfErr result (IsRefusal (count_fits (boolean.join line.sum count) ≡ false) ⊥) }
 {
-    // Of fewer than 2^31 keys no line has 2^64.
-    let running = if more {
-        line.running.saturating_add(1)
-    } else {
-        line.running.saturating_sub(1)
-    };
     Ok(Line {
-        running,
+        running: one_more(line.running, more),
         sum: line.sum.add(count)?,
         next: line.next,
     })
 }
 
-// Lets a key come to its line, or go from it.
-fn change_line<I: OverlayInt>(lines: &mut Lines<I>, key: Key<I>, more: bool) -> Result<(), Fault>
+// One key more or less. Of fewer than 2^31 keys no line has 2^64.
+pub(super) fn one_more(running: usize, more: bool) -> usize
+    ensures { result ≡ cond more (min (running + 1) (2 ^ 64 - 1)) (running - 1) }
+{
+    if more {
+        running.saturating_add(1)
+    } else {
+        running.saturating_sub(1)
+    }
+}
+
+// Lets a key come to its line, or go from it. The place is that of its row, if it runs along.
+fn change_line<I: OverlayInt>(
+    lines: &mut Lines<I>,
+    key: Key<I>,
+    place: usize,
+    more: bool,
+) -> Result<(), Fault>
     requires rising { AreRising (rows_of I.value lines.old.rows.items) }
     requires seen { AreSeen I.value lines.old }
+    requires placed { int_eq (I.value key.x_segment.a.x) (I.value key.x_segment.b.x) ≡ false →
+        IsPlaceOf (I.value key.x_segment.a.y) (heights_in (rows_of I.value lines.old.rows.items)) place }
     ensures seen { OnOk result (AreSeen I.value lines.new) }
     ensures changed { OnOk result (lines_of I.value lines.new ≡
         at_line (edge_of I.value key.x_segment) (changed more (count_of more key.count)) (lines_of I.value lines.old)) }
@@ -141,7 +167,7 @@ fn change_line<I: OverlayInt>(lines: &mut Lines<I>, key: Key<I>, more: bool) -> 
         lines.column = change(lines.column, count, more)?;
         return Ok(());
     }
-    change_row(lines, key.x_segment.a.y, count, more)
+    change_row(lines, place, key.x_segment.a.y, count, more)
 }
 
 // What comes to the sum of a line with a key, or goes from it.
@@ -158,22 +184,23 @@ pub(super) fn is_upright<I: OverlayInt>(s: XSegment<I>) -> bool
     s.a.x.to_i64() == s.b.x.to_i64()
 }
 
-// The same of the row of a height.
+// The same of the row of a height, whose place is given.
 fn change_row<I: OverlayInt>(
     lines: &mut Lines<I>,
+    place: usize,
     y: I,
     count: ShapeCountBoolean,
     more: bool,
 ) -> Result<(), Fault>
     requires rising { AreRising (rows_of I.value lines.old.rows.items) }
     requires seen { AreSeen I.value lines.old }
+    requires placed { IsPlaceOf (I.value y) (heights_in (rows_of I.value lines.old.rows.items)) place }
     ensures seen { OnOk result (AreSeen I.value lines.new) }
     ensures changed { OnOk result (rows_of I.value lines.new.rows.items ≡
         at_height (I.value y) (changed more count) (rows_of I.value lines.old.rows.items)) }
     ensures column { lines.new.column ≡ lines.old.column }
     ensures refused { IfErr result (IsRefusal (count_fits (boolean.join (line_at (I.value y) (rows_of I.value lines.old.rows.items)).sum count) ≡ false) ⊥) }
 {
-    let place = place_of(&lines.rows, y, lines.place);
     if is_at(&lines.rows, place, y) {
         let line = change(lines.rows[place].line, count, more)?;
         lines.rows[place].line = line;
@@ -183,54 +210,39 @@ fn change_row<I: OverlayInt>(
     Ok(())
 }
 
-// Lets the last keys of a list that end at a point come, or those that begin there go. Answers how many are left.
+// Lets the last of so many keys that end at a point come, or those that begin there go. The place is that of the point's row. Answers
+// how many are left.
 pub(super) fn change_all<I: OverlayInt>(
     lines: &mut Lines<I>,
     keys: &[Key<I>],
+    ends: &[SecondEnd<I>],
+    many: usize,
     point: IntPoint<I>,
+    place: usize,
     more: bool,
 ) -> Result<usize, Fault>
+    requires sound { CanBeSwept I.value (entries_of I.value keys.now) ends.now }
+    requires within { many ≤ length (in_order more (entries_of I.value keys.now) ends.now) }
     requires rising { AreRising (rows_of I.value lines.old.rows.items) }
     requires seen { AreSeen I.value lines.old }
+    requires placed { IsPlaceOf (I.value point.y) (heights_in (rows_of I.value lines.old.rows.items)) place }
     ensures rising { OnOk result (AreRising (rows_of I.value lines.new.rows.items)) }
     ensures seen { OnOk result (AreSeen I.value lines.new) }
-    ensures within { IfOk result (λ n. n ≤ length keys.now) }
-    ensures changed { IfOk result (λ n. lines_of I.value lines.new ≡ all_changed more (entries_of I.value (drop n keys.now)) (lines_of I.value lines.old)) }
-    ensures at { IfOk result (λ n. All (λ e. end_of more e.edge ≡ point_of I.value point) (entries_of I.value (drop n keys.now))) }
-    ensures left { IfOk result (λ n. (before : List (Entry Count)) (e : Entry Count) → entries_of I.value (take n keys.now) ≡ before ++ e ∷ [] →
-        end_of more e.edge ≢ point_of I.value point) }
-    ensures refused { IfErr result (IsRefusal (LeavesRange more (point_of I.value point) (entries_of I.value keys.now) (lines_of I.value lines.old)) ⊥) }
+    ensures all { IfOk result (AreAllAt more (point_of I.value point) (in_order more (entries_of I.value keys.now) ends.now) many) }
+    ensures changed { IfOk result (λ n. lines_of I.value lines.new ≡
+        all_changed more (drop n (take many (in_order more (entries_of I.value keys.now) ends.now))) (lines_of I.value lines.old)) }
+    ensures refused { IfErr result (IsRefusal
+        (LeavesRange more (point_of I.value point) (take many (in_order more (entries_of I.value keys.now) ends.now)) (lines_of I.value lines.old)) ⊥) }
 {
-    let mut left = keys.len();
+    let mut left = many;
     while 0 < left {
-        let key = keys[left - 1];
-        if !comes_at(key, point, more) {
+        let Some(key) = last_at(keys, ends, left, point, more) else {
             return Ok(left);
-        }
-        change_line(lines, key, more)?;
+        };
+        change_line(lines, key, place, more)?;
         left -= 1;
     }
     Ok(left)
-}
-
-// The end with which a key comes, or goes.
-fn end_of<I: OverlayInt>(key: Key<I>, more: bool) -> IntPoint<I>
-    ensures { point_of I.value result ≡ end_of more (edge_of I.value key.x_segment) }
-{
-    if more {
-        key.x_segment.b
-    } else {
-        key.x_segment.a
-    }
-}
-
-// Whether a key comes, or goes, with its end at the point.
-fn comes_at<I: OverlayInt>(key: Key<I>, point: IntPoint<I>, more: bool) -> bool
-    ensures { result ≡ (int_eq (end_of more (edge_of I.value key.x_segment)).x (I.value point.x)
-        && int_eq (end_of more (edge_of I.value key.x_segment)).y (I.value point.y)) }
-{
-    let end = end_of(key, more);
-    end.x.to_i64() == point.x.to_i64() && end.y.to_i64() == point.y.to_i64()
 }
 
 // Stops at a point: lays the steps along and up to the last stops on its lines, unless they count for nothing. The place is that
@@ -243,9 +255,7 @@ pub(super) fn visit<I: OverlayInt>(
 ) -> Result<(), Fault>
     requires rising { AreRising (rows_of I.value lines.old.rows.items) }
     requires seen { AreSeen I.value lines.old }
-    requires within { place ≤ length lines.old.rows.items }
-    requires below { All (λ r. r.y <ℤ I.value point.y) (rows_of I.value (take place lines.old.rows.items)) }
-    requires others { All (λ r. I.value point.y ≤ℤ r.y) (rows_of I.value (drop place lines.old.rows.items)) }
+    requires placed { IsPlaceOf (I.value point.y) (heights_in (rows_of I.value lines.old.rows.items)) place }
     ensures rising { OnOk result (AreRising (rows_of I.value lines.new.rows.items)) }
     ensures seen { OnOk result (AreSeen I.value lines.new) }
     ensures lines { OnOk result (lines_of I.value lines.new ≡ visited (point_of I.value point) (lines_of I.value lines.old)) }
@@ -307,9 +317,7 @@ fn visit_row<I: OverlayInt>(
     place: usize,
 ) -> Result<(), Fault>
     requires rising { AreRising (rows_of I.value rows.old.items) }
-    requires within { place ≤ length rows.old.items }
-    requires below { All (λ r. r.y <ℤ I.value point.y) (rows_of I.value (take place rows.old.items)) }
-    requires others { All (λ r. I.value point.y ≤ℤ r.y) (rows_of I.value (drop place rows.old.items)) }
+    requires placed { IsPlaceOf (I.value point.y) (heights_in (rows_of I.value rows.old.items)) place }
     ensures rows { OnOk result (rows_of I.value rows.new.items ≡
         at_height (I.value point.y) (stopped (point_of I.value point)) (rows_of I.value rows.old.items)) }
     ensures laid { OnOk result (entries_of I.value laid.new.items ≡ entries_of I.value laid.old.items ++

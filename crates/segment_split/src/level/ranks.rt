@@ -1,14 +1,15 @@
-//! A set of places 0 to n - 1, of which a sweep asks the last member before a place: a hierarchical bitmap in words of 64 bits.
+//! A set of places 0 to n - 1, of which a sweep asks the last member between two places: a hierarchical bitmap in words of 64 bits.
 //!
 //! Each place has a bit in the words. Each word has a bit in the groups, which is set where the word isn't empty, and each group has
 //! one in the tops. The last member before a place is the highest bit before it in its own word, or else the highest bit of the last
 //! word before that isn't empty, for which the level above is asked in the same way. The tops are searched one by one.
 //!
-//! It takes a word for about 63 places. A change writes a word of each level. A question reads a word of each level on its way up, and
+//! It takes a word for about 63 places. A change writes a word, and one of each level above as long as words come to have bits, or to
+//! have none. A question reads a word of each level on its way up, and
 //! one on its way down, and at worst all tops before the place, of which there is one for 2^18 places: members may be few or many.
 
-ghost use Rattle.std.specs.Prelude.{◌≡◌, ◌≢◌, ℕ, ◌/◌, ◌*◌, ◌+◌, ◌^◌, ◌<◌, ◌≤◌, ◌==◌, nat_lt, false, length, replicate, slice_index, slice_set};
-ghost use Rattle.std.specs.Prelude.{IfOk, IfSome, IfNone, IsOkUnless};
+ghost use Rattle.std.specs.Prelude.{◌≡◌, ◌≢◌, ℕ, ◌/◌, ◌*◌, ◌+◌, ◌^◌, ◌<◌, ◌≤◌, ◌==◌, nat_lt, false, [], length, replicate, slice_index, slice_set};
+ghost use Rattle.std.specs.Prelude.{IfOk, IfSome, IfNone, OnOk, OnErr, IsOkUnless};
 ghost use Rattle.std.specs.Int.{bit_at};
 ghost use Rattle.segment_split.specs.Ranks.{is_member, is_set, IsLastBefore, IsNoneBefore, IsNoneBeside, IsHighestBit, ChangesBit, Tells};
 
@@ -21,7 +22,7 @@ const BITS: usize = 64;
 
 /// A set of places below a bound.
 #[derive(Drop)]
-pub(super) struct Ranks {
+pub struct Ranks {
     places: usize,
     words: Vec<u64>,
     groups: Vec<u64>,
@@ -40,8 +41,20 @@ impl Model for Ranks {
 }
 
 impl Ranks {
+    /// No places, and no storage.
+    pub fn empty(alloc: Global) -> Self
+        ensures { result ≡ [] }
+    {
+        Ranks {
+            places: 0,
+            words: Vec::new(alloc),
+            groups: Vec::new(alloc),
+            tops: Vec::new(alloc),
+        }
+    }
+
     /// So many places, and no members.
-    pub(super) fn new(alloc: Global, places: usize) -> Result<Self, Fault>
+    pub fn new(alloc: Global, places: usize) -> Result<Self, Fault>
         ensures none { IfOk result (λ ranks. ranks ≡ replicate places false) }
         ensures memory { IsOkUnless result Fault.Memory }
     {
@@ -56,23 +69,48 @@ impl Ranks {
         })
     }
 
+    /// So many places from now on, and no members. Where that is refused, there are no places.
+    pub fn reset(&mut self, places: usize) -> Result<(), Fault>
+        ensures none { OnOk result (self.new ≡ replicate places false) }
+        ensures refused { OnErr result (self.new ≡ []) }
+        ensures memory { IsOkUnless result Fault.Memory }
+    {
+        self.places = 0;
+        self.words.clear();
+        self.groups.clear();
+        self.tops.clear();
+        self.words.resize(places / BITS + 1, 0)?;
+        self.groups.resize(places / BITS / BITS + 1, 0)?;
+        self.tops.resize(places / BITS / BITS / BITS + 1, 0)?;
+        self.places = places;
+        Ok(())
+    }
+
     /// Makes a place a member, or takes it out of the members, whether or not it is one.
-    pub(super) fn change(&mut self, place: usize, is_in: bool)
+    pub fn change(&mut self, place: usize, is_in: bool)
         requires within { place < length self.old }
         ensures { self.new ≡ slice_set self.old place is_in }
     {
         let group = place / BITS;
+        let had_word = 0 < self.words[group];
         let has_word = mark(&mut self.words, place, is_in);
+        if has_word == had_word {
+            return;
+        }
         let has_group = mark(&mut self.groups, group, has_word);
         mark(&mut self.tops, group / BITS, has_group);
     }
 
-    /// The greatest member before a place, which may be past the last.
-    pub(super) fn last_before(&self, before: usize) -> Option<usize>
-        ensures last { IfSome result (IsLastBefore (is_member self.now) before) }
-        ensures none { IfNone result (IsNoneBefore (is_member self.now) before) }
+    /// The greatest member from one place on and before another, which may be past the last.
+    pub fn last_between(&self, low: usize, before: usize) -> Option<usize>
+        ensures last { IfSome result (λ place. (low ≤ place) × IsLastBefore (is_member self.now) before place) }
+        ensures none { IfNone result ((k : ℕ) → low ≤ k → k < before → is_member self.now k ≡ false) }
     {
-        last_by_tops(&self.words, &self.groups, &self.tops, before)
+        if before <= low {
+            return None;
+        }
+        let place = last_by_tops(&self.words, &self.groups, &self.tops, before)?;
+        if low <= place { Some(place) } else { None }
     }
 }
 

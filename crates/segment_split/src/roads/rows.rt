@@ -8,11 +8,12 @@ ghost use Rattle.std.specs.Prelude.{◌≡◌, false, IfOk, OnOk, IsOkUnless};
 ghost use Rattle.plane_base.specs.Crossing.{marks_by};
 ghost use Rattle.segment_split.specs.MarkLists.{laid_marks, AreMarks};
 ghost use Rattle.segment_split.specs.Rows.{CountsPairsUpTo};
-ghost use Rattle.segment_split.specs.StepBounds.{most_by_buckets, most_by_columns};
+ghost use Rattle.segment_split.specs.StepBounds.{most_by_columns};
 ghost use Rattle.segment_split.specs.WholeLaws.{AllMeetWhole};
 
 use crate::count::WindingCount;
 use crate::mark::Mark;
+use crate::old::next_from;
 use crate::roads::look::Pass;
 use crate::segment::Segment;
 use i_tree::Steps;
@@ -42,10 +43,14 @@ pub(crate) fn find_marks<C: WindingCount, I: OverlayInt, D, L: Ledger>(
     ensures whole { IfOk result (λ off_grid. off_grid ≡ false → AllMeetWhole pass.now.edges) }
     ensures memory { IsOkUnless result Fault.Memory }
     ensures columns { CountsPairsUpTo steps.old steps.new (most_by_columns pass.now.edges) }
-    ensures buckets { CountsPairsUpTo steps.old steps.new (most_by_buckets pass.now.edges) }
 {
     let segments = pass.segments;
     marks.clear();
+    // where none is new, no pair lays anything
+    let first = next_from(pass.next_new, 0);
+    if first >= segments.len() {
+        return Ok(false);
+    }
     let alloc = *marks.allocator();
     let layout = RowLayout::over(segments);
     let rows = place_all(alloc, segments, pass.next_new, layout)?;

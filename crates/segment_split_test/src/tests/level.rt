@@ -3,8 +3,8 @@
 ghost use Rattle.std.specs.Prelude.{◌≡◌};
 
 use super::drawn::{coordinate, next, redrawn_slowly};
-use super::segment_from;
 use super::splitting::{are_equal, split_by};
+use super::{Row, segment_from, segments_from};
 use i_tree::Steps;
 use plane_base::fault::Fault;
 use reference::passes::redraw_given;
@@ -105,5 +105,102 @@ fn auto_redraws_by_lines_as_the_list(rt: HostRuntime) -> Result<(), Fail> {
         assert!(rt; is_changed == is_changed_by_list, "at map {map}");
         assert!(rt; are_equal(&by_lines, &by_list), "at map {map}");
     }
+    Ok(())
+}
+
+fn push_rows(
+    segments: &mut Vec<Segment<ShapeCountBoolean, i32, ()>>,
+    rows: &[Row],
+) -> Result<(), Fault> {
+    for row in rows {
+        if let Some(segment) = segment_from(*row) {
+            segments.push(segment)?;
+        }
+    }
+    Ok(())
+}
+
+// Squares of side 4, 16 from one to the next, are their own redrawing.
+#[test]
+fn squares_apart_stay(rt: HostRuntime) -> Result<(), Fail> {
+    let alloc = rt.alloc();
+    let mut given = Vec::new(alloc);
+    for i in 0..20_u8 {
+        let x = 16 * i32::from(i);
+        push_rows(
+            &mut given,
+            &[
+                ((x, 0), (x, 4), 1, 0),
+                ((x, 0), (x + 4, 0), 1, 0),
+                ((x, 4), (x + 4, 4), -1, 0),
+                ((x + 4, 0), (x + 4, 4), -1, 0),
+            ],
+        )?;
+    }
+    let mut laid = Vec::new(alloc);
+    let is_marked = redraw_by_lines(alloc, &mut laid, &given)?;
+    assert!(rt; is_marked == Some(false));
+    assert!(rt; are_equal(&laid, &given));
+    Ok(())
+}
+
+// So are edges on one line that end where others begin, or apart.
+#[test]
+fn edges_along_a_line_stay(rt: HostRuntime) -> Result<(), Fail> {
+    let alloc = rt.alloc();
+    let mut given = Vec::new(alloc);
+    for i in 0..64_u8 {
+        let x = 16 * i32::from(i);
+        push_rows(
+            &mut given,
+            &[((x, 0), (x + 4, 0), 1, 0), ((x + 4, 0), (x + 7, 0), 1, 0)],
+        )?;
+    }
+    let mut laid = Vec::new(alloc);
+    let is_marked = redraw_by_lines(alloc, &mut laid, &given)?;
+    assert!(rt; is_marked == Some(false));
+    assert!(rt; are_equal(&laid, &given));
+    Ok(())
+}
+
+// Each of 32 crosses is cut in four, as is a last one that comes behind edges that nothing cuts.
+#[test]
+fn crosses_are_cut(rt: HostRuntime) -> Result<(), Fail> {
+    let alloc = rt.alloc();
+    let mut given = Vec::new(alloc);
+    for i in 0..32_u8 {
+        let x = 16 * i32::from(i);
+        push_rows(
+            &mut given,
+            &[((x, 0), (x + 4, 0), 1, 0), ((x + 2, -2), (x + 2, 2), 0, 1)],
+        )?;
+    }
+    let mut laid = Vec::new(alloc);
+    let is_marked = redraw_by_lines(alloc, &mut laid, &given)?;
+    assert!(rt; is_marked == Some(true));
+    assert!(rt; laid.len() == 128);
+    let wanted = redrawn_slowly(alloc, &given, Precision::HIGH)?;
+    assert!(rt; are_equal(&laid, &wanted));
+    Ok(())
+}
+
+// A line of which the counts cancel cuts an upright edge all the same: an end lies inside one of its edges.
+#[test]
+fn cancelled_lines_cut(rt: HostRuntime) -> Result<(), Fail> {
+    let alloc = rt.alloc();
+    let given = segments_from(
+        alloc,
+        &[
+            ((0, 0), (9, 0), 1, 0),
+            ((0, 0), (4, 0), -1, 0),
+            ((4, 0), (9, 0), -1, 0),
+            ((2, -1), (2, 1), 1, 0),
+        ],
+    )?;
+    let mut laid = Vec::new(alloc);
+    let is_marked = redraw_by_lines(alloc, &mut laid, &given)?;
+    assert!(rt; is_marked == Some(true));
+    let wanted = segments_from(alloc, &[((2, -1), (2, 0), 1, 0), ((2, 0), (2, 1), 1, 0)])?;
+    assert!(rt; are_equal(&laid, &wanted));
     Ok(())
 }

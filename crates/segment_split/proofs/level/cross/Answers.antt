@@ -1,9 +1,8 @@
-use Rattle.std.proofs.Common.{◌≡◌, ◌∙◌, ◌<◌, ℕ, ◌<ℤ◌, ◌≤ℤ◌, None, Some, All, sym, ap, subst, arith}
-use Rattle.std.proofs.lemmas.List.{take-map, drop-map, length-map}
+use Rattle.std.proofs.Common.{◌≡◌, ◌∙◌, ◌<◌, ℕ, None, Some, sym, ap, arith}
 use Rattle.plane_base.specs.Plane.{Point}
 use Rattle.plane_base.specs.Views.{point_of}
 use Rattle.segment_split.specs.SegmentViews.{entries_of}
-use Rattle.segment_split.specs.Stops.{row_of, lines_of, next_of}
+use Rattle.segment_split.specs.Stops.{lines_of, next_of}
 use Rattle.segment_split.proofs.Stops.Onto.{crosses_none}
 use Rattle.segment_split.proofs.level.cross.Goals as goal
 
@@ -26,16 +25,8 @@ returns-in_default-clause-crossed g c =
 pub cross_from-requires-clause-placed : goal.cross_from-requires-clause-placed
 cross_from-requires-clause-placed g c =
     let value = g.I.OverlayInt.value in
-    let rows = c.args.lines.now.rows.items in
-    let place = c.place_of-place.result in
-    let top = point_of value c.in-Some.last in
-    let below = rw c.deref.ensures.value at c.place_of-place.ensures.below in
-    let others = rw c.deref.ensures.value at c.place_of-place.ensures.others in
-    let within = rw c.deref.ensures.value at c.place_of-place.ensures.within in
     record {
-      top = top;
+      top = point_of value c.in-Some.last;
       next = ap (next_of value) c.in-Some.is;
-      within = omega (arith, within, length-map rows (row_of value));
-      below = subst (All (λ r. r.y <ℤ top.y)) (sym (take-map (row_of value) place rows)) below;
-      others = subst (All (λ r. top.y ≤ℤ r.y)) (sym (drop-map (row_of value) place rows)) others;
+      placed = rw c.deref-2.ensures.value at c.place_of-top.ensures;
     }

@@ -3,7 +3,7 @@ use Rattle.std.proofs.lemmas.Bool.{false≢true}
 use Rattle.std.proofs.lemmas.Result.{err_from_is_err_and}
 use Rattle.plane_base.specs.Views.{point_of}
 use Rattle.segment_split.specs.SegmentViews.{entries_of}
-use Rattle.segment_split.specs.Stops.{lines_of}
+use Rattle.segment_split.specs.Stops.{lines_of, IsPlaceAbove}
 use Rattle.segment_split.proofs.Stops.Onto.{Comes, comes_at_first, comes_on, quiet_now, shorter_than, crosses_by, some_by}
 use Rattle.segment_split.proofs.Redrawing.Loops.{not_false}
 use Rattle.plane_base.proofs.Facts.Crossings.Tests.{not_true}
@@ -18,6 +18,7 @@ loop-next-init g c =
       c.requires.runs,
       comes_at_first (point_of value c.args.point) (lines_of value c.args.lines.now) (entries_of value c.args.laid.now.items) c.args.steps.now.pairs,
       λ e. absurd (false≢true e),
+      refl,
       refl,
     )
 
@@ -47,7 +48,13 @@ loop-next-preserved g c =
           (comes_on p lines laid now_lines now_laid new_lines new_laid c.loop-next.is_crossed done ticks now_ticks new_ticks c.loop-next.invariant.4 c.in_ok-next.ensures.counted c.in_ok-next.ensures.crossed c.in_ok-next.ensures.done),
       quiet_now p lines laid now_lines now_laid new_lines new_laid c.loop-next.is_crossed done ticks now_ticks new_ticks c.loop-next.invariant.4 c.in_ok-next.ensures.counted c.in_ok-next.ensures.crossed c.in_ok-next.ensures.done,
       c.cross_next.ensures.compared ∙ c.loop-next.invariant.6,
+      c.in_ok-next.ensures.heights ∙ c.loop-next.invariant.7,
     )
+
+pub cross_next-requires-clause-above : goal.cross_next-requires-clause-above
+cross_next-requires-clause-above g c =
+    let value = g.I.OverlayInt.value in
+    subst (λ hs. IsPlaceAbove (value c.args.point.y) hs c.args.low) (sym c.loop-next.invariant.7) c.requires.above
 
 pub returns-clause-rising : goal.returns-clause-rising
 returns-clause-rising g c = c.loop-next.invariant.0

@@ -1,10 +1,10 @@
 //! Segments of one row held against each other.
 
-ghost use Rattle.std.specs.Prelude.{◌≡◌, ◌+◌, ◌<◌, ◌≤◌, ◌^◌, ℕ, length, slice_index_or, IfOk, IsOkUnless, IsFalse};
+ghost use Rattle.std.specs.Prelude.{◌+◌, ◌<◌, ◌≤◌, ◌^◌, ℕ, length, slice_index_or, IfOk, IsOkUnless, IsFalse};
 ghost use Rattle.std.specs.List.Sorted.{IsNonDecreasing};
 ghost use Rattle.plane_base.specs.Crossing.{marks_by};
 ghost use Rattle.segment_split.specs.MarkLists.{laid_marks};
-ghost use Rattle.segment_split.specs.Rows.{place_in, ArePlaces, AreRows, reaches_of, AreTold, IsFirstAfter, Finds, Follows, FollowsInRows, FollowsIn};
+ghost use Rattle.segment_split.specs.Rows.{place_in, ArePlaces, AreRows, all_reaches, AreTold, IsFirstAfter, Finds, Follows, FollowsInRows, FollowsIn};
 ghost use Rattle.segment_split.specs.Rows.{FollowsAmong, CountsPairsUpTo, between, all_followers, row_followers};
 
 use super::places::{Places, ROW, Rows, place_in};
@@ -38,14 +38,18 @@ pub(super) fn hold_all<C: WindingCount, I: OverlayInt, D, L: Ledger>(
     requires told { AreTold pass.now.edges reaches.now }
     requires fresh_rows { AreRows (length pass.now.edges) rows.now.fresh.begins.items rows.now.fresh.passes.items }
     requires old_rows { AreRows (length pass.now.edges) rows.now.old.begins.items rows.now.old.passes.items }
-    ensures found { IfOk result (λ own. Finds I.stride I.least I.greatest (marks_by pass.now.rounding) pass.now.edges (FollowsAmong (reaches_of pass.now.edges)
-        rows.now.fresh.begins.items rows.now.fresh.passes.items rows.now.old.begins.items rows.now.old.passes.items)
+    ensures found { IfOk result (λ own. Finds I.stride I.least I.greatest (marks_by pass.now.rounding) pass.now.edges
+        (FollowsAmong (all_reaches pass.now.edges reaches.now) rows.now.fresh.begins.items rows.now.fresh.passes.items
+        rows.now.old.begins.items rows.now.old.passes.items)
         (laid_marks I.value I.Wide.number marks.old.items) (laid_marks I.value I.Wide.number marks.new.items) own) }
     ensures memory { IsOkUnless result Fault.Memory }
     ensures steps { CountsPairsUpTo steps.old steps.new
-        (row_followers (reaches_of pass.now.edges) rows.now.fresh.begins.items rows.now.fresh.passes.items rows.now.fresh.begins.items rows.now.fresh.passes.items
-        + row_followers (reaches_of pass.now.edges) rows.now.fresh.begins.items rows.now.fresh.passes.items rows.now.old.begins.items rows.now.old.passes.items
-        + row_followers (reaches_of pass.now.edges) rows.now.old.begins.items rows.now.old.passes.items rows.now.fresh.begins.items rows.now.fresh.passes.items) }
+        (row_followers (all_reaches pass.now.edges reaches.now)
+        rows.now.fresh.begins.items rows.now.fresh.passes.items rows.now.fresh.begins.items rows.now.fresh.passes.items
+        + row_followers (all_reaches pass.now.edges reaches.now)
+        rows.now.fresh.begins.items rows.now.fresh.passes.items rows.now.old.begins.items rows.now.old.passes.items
+        + row_followers (all_reaches pass.now.edges reaches.now)
+        rows.now.old.begins.items rows.now.old.passes.items rows.now.fresh.begins.items rows.now.fresh.passes.items) }
 {
     let of_new = hold_rows(marks, pass, reaches, &rows.fresh, &rows.fresh, steps)?;
     let of_both = hold_rows(marks, pass, reaches, &rows.fresh, &rows.old, steps)?;
@@ -66,11 +70,11 @@ fn hold_rows<C: WindingCount, I: OverlayInt, D, L: Ledger>(
     requires told { AreTold pass.now.edges reaches.now }
     requires from_rows { AreRows (length pass.now.edges) from.now.begins.items from.now.passes.items }
     requires to_rows { AreRows (length pass.now.edges) to.now.begins.items to.now.passes.items }
-    ensures found { IfOk result (λ own. Finds I.stride I.least I.greatest (marks_by pass.now.rounding) pass.now.edges (FollowsInRows (reaches_of pass.now.edges)
-        from.now.begins.items from.now.passes.items to.now.begins.items to.now.passes.items)
+    ensures found { IfOk result (λ own. Finds I.stride I.least I.greatest (marks_by pass.now.rounding) pass.now.edges
+        (FollowsInRows (all_reaches pass.now.edges reaches.now) from.now.begins.items from.now.passes.items to.now.begins.items to.now.passes.items)
         (laid_marks I.value I.Wide.number marks.old.items) (laid_marks I.value I.Wide.number marks.new.items) own) }
     ensures memory { IsOkUnless result Fault.Memory }
-    ensures steps { CountsPairsUpTo steps.old steps.new (row_followers (reaches_of pass.now.edges)
+    ensures steps { CountsPairsUpTo steps.old steps.new (row_followers (all_reaches pass.now.edges reaches.now)
         from.now.begins.items from.now.passes.items to.now.begins.items to.now.passes.items) }
 {
     let both_begin = hold_places(marks, pass, reaches, &from.begins, &to.begins, steps)?;
@@ -94,9 +98,10 @@ fn hold_places<C: WindingCount, I: OverlayInt, D, L: Ledger>(
     requires from_sorted { IsNonDecreasing from.now }
     requires to_sorted { IsNonDecreasing to.now }
     ensures found { IfOk result (λ own. Finds I.stride I.least I.greatest (marks_by pass.now.rounding) pass.now.edges
-        (Follows (reaches_of pass.now.edges) from.now to.now) (laid_marks I.value I.Wide.number marks.old.items) (laid_marks I.value I.Wide.number marks.new.items) own) }
+        (Follows (all_reaches pass.now.edges reaches.now) from.now to.now)
+        (laid_marks I.value I.Wide.number marks.old.items) (laid_marks I.value I.Wide.number marks.new.items) own) }
     ensures memory { IsOkUnless result Fault.Memory }
-    ensures steps { CountsPairsUpTo steps.old steps.new (all_followers (reaches_of pass.now.edges) from.now to.now) }
+    ensures steps { CountsPairsUpTo steps.old steps.new (all_followers (all_reaches pass.now.edges reaches.now) from.now to.now) }
 {
     // so few segments have places
     let _ = &pass.segments;
@@ -138,10 +143,18 @@ fn has_more(to: &[u64], first: usize, row: u64) -> bool
     requires sorted { IsNonDecreasing to.now }
     ensures { IsFalse result → (m : ℕ) → first ≤ m → m < length to.now → place_in row 4294967296 ≤ slice_index_or to.now m 0 }
 {
+    has_before(to, first, place_in(row, ROW as usize))
+}
+
+// Whether any place from this one on comes before the end.
+fn has_before(to: &[u64], first: usize, end: u64) -> bool
+    requires sorted { IsNonDecreasing to.now }
+    ensures { IsFalse result → (m : ℕ) → first ≤ m → m < length to.now → end ≤ slice_index_or to.now m 0 }
+{
     if first >= to.len() {
         return false;
     }
-    if to[first] < place_in(row, ROW as usize) {
+    if to[first] < end {
         return true;
     }
     false
@@ -164,11 +177,11 @@ fn hold_one<C: WindingCount, I: OverlayInt, D, L: Ledger>(
     requires to_sorted { IsNonDecreasing to.now }
     requires first { IsFirstAfter to.now (place_in seat.row seat.number) first }
     ensures found { IfOk result (λ own. Finds I.stride I.least I.greatest (marks_by pass.now.rounding) pass.now.edges
-        (FollowsIn to.now seat.row (slice_index_or (reaches_of pass.now.edges) seat.number 0) seat.number)
+        (FollowsIn to.now seat.row (slice_index_or (all_reaches pass.now.edges reaches.now) seat.number 0) seat.number)
         (laid_marks I.value I.Wide.number marks.old.items) (laid_marks I.value I.Wide.number marks.new.items) own) }
     ensures memory { IsOkUnless result Fault.Memory }
     ensures steps { CountsPairsUpTo steps.old steps.new (between to.now (place_in seat.row seat.number)
-        (place_in seat.row (slice_index_or (reaches_of pass.now.edges) seat.number 0))) }
+        (place_in seat.row (slice_index_or (all_reaches pass.now.edges reaches.now) seat.number 0))) }
 {
     let segments = pass.segments;
     if reaches.is_empty() && !has_more(to, first, seat.row) {
@@ -176,6 +189,9 @@ fn hold_one<C: WindingCount, I: OverlayInt, D, L: Ledger>(
     }
     let reach = reach_of(reaches, segments, seat.number);
     let end = place_in(seat.row, reach);
+    if !has_before(to, first, end) {
+        return Ok(false);
+    }
     let s = segments[seat.number].x_segment;
     let mut is_off_grid = false;
     for k in first..to.len() {

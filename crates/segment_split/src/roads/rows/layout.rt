@@ -5,10 +5,10 @@ ghost use Rattle.std.specs.Int.{int_min, int_max};
 ghost use Rattle.i_tree.specs.Layout.{offset_of};
 ghost use Rattle.segment_split.specs.Passes.{edges_of};
 ghost use Rattle.segment_split.specs.SegmentViews.{entries_of, AreWithin};
-ghost use Rattle.segment_split.specs.StepBounds.{y_range, all_values};
+ghost use Rattle.segment_split.specs.StepBounds.{y_range};
 ghost use Rattle.plane_base.specs.Segments.{IsEdgeWithin};
 ghost use Rattle.plane_base.specs.SegmentViews.{edge_of};
-ghost use Rattle.segment_split.specs.Rows.{row_of, lowest_row, highest_row, HasFewRows, RowsDivide};
+ghost use Rattle.segment_split.specs.Rows.{row_of, lowest_row, highest_row, HasFewRows};
 
 use crate::count::WindingCount;
 use crate::segment::Segment;
@@ -20,6 +20,9 @@ const MOST_ROWS: u64 = 1 << 30;
 
 // About so many segments tell how long and how high all are.
 const SAMPLES: usize = 1024;
+
+// Segments are few where one of so many at most is taken for the sample: below four times as many as there are samples.
+const FEW_STEPS: u64 = 4;
 
 // Rows of one width from the least y up.
 #[derive(Clone, Copy, Debug)]
@@ -40,7 +43,6 @@ impl RowLayout {
         segments: &[Segment<C, I, D>],
     ) -> RowLayout
         requires in_range { AreWithin I.least I.greatest (entries_of I.value segments.now) }
-        ensures divides { RowsDivide result.least result.width (all_values y_range (edges_of (entries_of I.value segments.now))) }
         ensures few { All (HasFewRows result.least result.width) (edges_of (entries_of I.value segments.now)) }
     {
         let measure = Measure::of(segments);
@@ -119,11 +121,10 @@ impl Measure {
         }
     }
 
-    // Up to which power of two rows are cheap: as high as a few segments, and no wider than a bucket. Whatever the sample tells, they
-    // are few enough to number them.
+    // Up to which power of two rows are cheap: as high as a few segments, and not much wider than the sample allows. Whatever it tells,
+    // rows are few enough to number them.
     fn shift(self, sample: Sample) -> u32
         ensures small { result < 64 }
-        ensures narrow { (2 ^ result ≡ 1) ⊎ (2 ^ result ≤ offset_of self.least self.greatest / 32) }
         ensures few { offset_of self.least self.greatest / 2 ^ result < 2 ^ 31 }
     {
         let span = self.greatest.abs_diff(self.least);
@@ -131,9 +132,10 @@ impl Measure {
         let height = sample.mean_height();
         let square = height.saturating_mul(span) / live;
         let wide = span / live;
+        let widest = sample.widest_row(span);
         let mut width: u64 = 1;
         for shift in 0..36 {
-            if width > span / 64 {
+            if width > widest {
                 return shift;
             }
             let is_cheap = width.saturating_mul(width) <= square || width <= wide;
@@ -197,6 +199,16 @@ impl Sample {
     {
         let length = self.length.saturating_mul(self.step);
         (length / self.right.abs_diff(self.left).max(1)).max(1)
+    }
+
+    // How wide rows may be: a 64th of the span, or a 16th of it where segments are few, since then a row costs more than it spares.
+    fn widest_row(self, span: u64) -> u64
+        ensures { (span / 64 ≤ result) × (result ≤ span / 16) }
+    {
+        if self.step <= FEW_STEPS {
+            return span / 16;
+        }
+        span / 64
     }
 
     // How high a segment is, on the average.

@@ -1,4 +1,8 @@
-//! How far segments reach along a sorted list: up to the number of the first that begins past the end.
+//! How far segments reach along a sorted list: up to a number from which on none lays anything on the segment, as far as x tells. That
+//! is the first that begins past its end. Those that begin just there lay nothing on it if neither is upright. So where reaches are
+//! told beforehand, a segment that isn't upright reaches only up to the begin of the run before that number, if these all begin at its
+//! end and none is upright. Upright ones come first of those that begin at one point, so a run is lost by one of them only up to it.
+//! Runs take one pass over the list, each reach a few steps from a guess, at worst as many as the list can be halved.
 
 ghost use Rattle.std.specs.Prelude.{◌≡◌, ◌+◌, ◌<◌, ◌≤◌, ◌<ℤ◌, ◌≤ℤ◌, ℕ, length, slice_index_or, IfOk, IsOkUnless, IsTrue, IsFalse};
 ghost use Rattle.plane_base.specs.Plane.{Edge};
@@ -6,7 +10,7 @@ ghost use Rattle.plane_base.specs.Counts.{IsNormal};
 ghost use Rattle.segment_split.specs.Passes.{edges_of};
 ghost use Rattle.segment_split.specs.SegmentViews.{entries_of};
 ghost use Rattle.segment_split.specs.MarkLists.{IsAt};
-ghost use Rattle.segment_split.specs.Rows.{reaches_of, AreTold};
+ghost use Rattle.segment_split.specs.Rows.{reaches_of, all_reaches, IsReach, AreTold, IsRun, AreRuns};
 
 use crate::count::WindingCount;
 use crate::old::next_from;
@@ -92,7 +96,7 @@ fn offset(least: i64, x: i64) -> usize {
     x.saturating_sub(least).max(0) as usize
 }
 
-// For each segment the number of the first that begins past its end. Nothing where few segments are new, since few are then asked for.
+// How far each segment reaches. Nothing where few segments are new, since few are then asked for.
 pub(super) fn find_reaches<C: WindingCount, I: OverlayInt, D>(
     alloc: Global,
     segments: &[Segment<C, I, D>],
@@ -107,12 +111,101 @@ pub(super) fn find_reaches<C: WindingCount, I: OverlayInt, D>(
     }
     let mut reaches = Vec::with_capacity(alloc, segments.len())?;
     let starts = Starts::of(alloc, segments)?;
+    let runs = find_runs(alloc, segments)?;
     for i in 0..segments.len() {
         let guess = starts.guess(segments.len(), segments[i].x_segment.b.x);
-        let reach = find_reach(segments, i, guess);
+        let past = find_reach(segments, i, guess);
+        let reach = without_run(segments, &runs, i, past);
         reaches.push_reserved(reach);
     }
     Ok(reaches)
+}
+
+// For each segment the number from which on all up to it begin at its x, none of them upright.
+fn find_runs<C: WindingCount, I: OverlayInt, D>(
+    alloc: Global,
+    segments: &[Segment<C, I, D>],
+) -> Result<Vec<usize>, Fault>
+    ensures runs { IfOk result (λ runs. AreRuns (edges_of (entries_of I.value segments.now)) runs.items) }
+    ensures long { IfOk result (λ runs. length runs.items ≡ length segments.now) }
+    ensures memory { IsOkUnless result Fault.Memory }
+{
+    let mut runs = Vec::with_capacity(alloc, segments.len())?;
+    let mut first = 0;
+    for i in 0..segments.len() {
+        let run = run_to(segments, first, i);
+        runs.push_reserved(run);
+        first = run;
+    }
+    Ok(runs)
+}
+
+// The same of the segment i, where it is known of the one before.
+fn run_to<C: WindingCount, I: OverlayInt, D>(
+    segments: &[Segment<C, I, D>],
+    first: usize,
+    i: usize,
+) -> usize
+    requires within { i < length segments.now }
+    requires upto { first ≤ i }
+    requires before { (j : ℕ) → j + 1 ≡ i → IsRun (edges_of (entries_of I.value segments.now)) j first }
+    ensures upto { result ≤ i + 1 }
+    ensures is { IsRun (edges_of (entries_of I.value segments.now)) i result }
+{
+    let s = segments[i].x_segment;
+    if !is_wide(s) {
+        return i + 1;
+    }
+    if i == 0 {
+        return i;
+    }
+    if begins_at(segments[i - 1].x_segment, s.a.x) {
+        return first;
+    }
+    i
+}
+
+// The reach of a segment, where the number is told from which on all begin past its end.
+fn without_run<C: WindingCount, I: OverlayInt, D>(
+    segments: &[Segment<C, I, D>],
+    runs: &[usize],
+    i: usize,
+    past: usize,
+) -> usize
+    requires within { i < length segments.now }
+    requires normal { IsNormal C.counting (entries_of I.value segments.now) }
+    requires runs { AreRuns (edges_of (entries_of I.value segments.now)) runs.now }
+    requires long { length runs.now ≡ length segments.now }
+    requires upto { past ≤ length segments.now }
+    requires past { past ≡ slice_index_or (reaches_of (edges_of (entries_of I.value segments.now))) i 0 }
+    ensures { (s : Edge) → IsAt (edges_of (entries_of I.value segments.now)) i s → IsReach (edges_of (entries_of I.value segments.now)) s result }
+{
+    let s = segments[i].x_segment;
+    if past == 0 {
+        return past;
+    }
+    if !is_wide(s) {
+        return past;
+    }
+    let last = past - 1;
+    if begins_at(segments[last].x_segment, s.b.x) {
+        return runs[last];
+    }
+    past
+}
+
+// Whether a segment isn't upright.
+fn is_wide<I: OverlayInt>(s: XSegment<I>) -> bool
+    ensures wide { IsTrue result → I.value s.a.x <ℤ I.value s.b.x }
+{
+    s.a.x.to_i64() < s.b.x.to_i64()
+}
+
+// Whether a segment begins at x.
+fn begins_at<I: OverlayInt>(s: XSegment<I>, x: I) -> bool
+    ensures at { IsTrue result → I.value s.a.x ≡ I.value x }
+{
+    s.a.x.to_i64() == x.to_i64()
 }
 
 // How far a segment reaches: what is told, or found now.
@@ -124,7 +217,7 @@ pub(super) fn reach_of<C: WindingCount, I: OverlayInt, D>(
     requires within { i < length segments.now }
     requires normal { IsNormal C.counting (entries_of I.value segments.now) }
     requires told { AreTold (edges_of (entries_of I.value segments.now)) reaches.now }
-    ensures { result ≡ slice_index_or (reaches_of (edges_of (entries_of I.value segments.now))) i 0 }
+    ensures { result ≡ slice_index_or (all_reaches (edges_of (entries_of I.value segments.now)) reaches.now) i 0 }
 {
     if i < reaches.len() {
         return reaches[i];

@@ -1,10 +1,10 @@
 use Rattle.std.proofs.Common.{◌∙◌, ◌+◌, ◌/◌, ap}
 use Rattle.segment_split.specs.Ranks.{members_of}
-use Rattle.segment_split.proofs.Ranks.{members_of-replicate, IsSound-replicate}
+use Rattle.segment_split.proofs.Ranks.{members_of-replicate, IsSound-new}
 use Rattle.segment_split.proofs.level.ranks.Ranks.new.Goals as goal
 
 pub invariant_of-result : goal.invariant_of-result
-invariant_of-result c = rw (c.in_ok-words.ensures.empty, c.in_ok-groups.ensures.empty, c.in_ok-tops.ensures.empty) (IsSound-replicate c.args.places)
+invariant_of-result c = rw (c.in_ok-words.ensures.empty, c.in_ok-groups.ensures.empty, c.in_ok-tops.ensures.empty) (IsSound-new c.args.places)
 
 pub returns-clause-none : goal.returns-clause-none
 returns-clause-none c = ap (members_of c.args.places) c.in_ok-words.ensures.empty ∙ members_of-replicate c.args.places (c.args.places / 64 + 1)

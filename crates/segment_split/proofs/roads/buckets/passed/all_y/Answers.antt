@@ -5,7 +5,7 @@ use Rattle.plane_base.proofs.Facts.Thinning.Indexes.{taken_to}
 use Rattle.segment_split.specs.Passes.{edges_of}
 use Rattle.segment_split.specs.SegmentViews.{entry_of, entries_of}
 use Rattle.segment_split.specs.StepBounds.{y_range}
-use Rattle.segment_split.proofs.Rows.Buckets.{measured}
+use Rattle.segment_split.proofs.Rows.Layouts.{measured}
 use Rattle.segment_split.proofs.roads.buckets.passed.all_y.Goals as goal
 
 pub loop-segment-preserved : goal.loop-segment-preserved

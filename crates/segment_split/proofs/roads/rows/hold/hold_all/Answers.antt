@@ -1,6 +1,6 @@
 use Rattle.std.proofs.Common.{◌⊎◌}
 use Rattle.segment_split.specs.MarkLists.{laid_marks}
-use Rattle.segment_split.specs.Rows.{reaches_of, FollowsInRows}
+use Rattle.segment_split.specs.Rows.{all_reaches, FollowsInRows}
 use Rattle.segment_split.proofs.Rows.Found.{finds_both}
 use Rattle.segment_split.proofs.roads.rows.hold.hold_all.Goals as goal
 
@@ -13,9 +13,9 @@ returns-clause-found g c =
     let es = c.args.pass.now.edges in
     let fresh = c.args.rows.now.fresh in
     let old = c.args.rows.now.old in
-    let of_new = FollowsInRows (reaches_of es) fresh.begins.items fresh.passes.items fresh.begins.items fresh.passes.items in
-    let of_both = FollowsInRows (reaches_of es) fresh.begins.items fresh.passes.items old.begins.items old.passes.items in
-    let of_old = FollowsInRows (reaches_of es) old.begins.items old.passes.items fresh.begins.items fresh.passes.items in
+    let of_new = FollowsInRows (all_reaches es c.args.reaches.now) fresh.begins.items fresh.passes.items fresh.begins.items fresh.passes.items in
+    let of_both = FollowsInRows (all_reaches es c.args.reaches.now) fresh.begins.items fresh.passes.items old.begins.items old.passes.items in
+    let of_old = FollowsInRows (all_reaches es c.args.reaches.now) old.begins.items old.passes.items fresh.begins.items fresh.passes.items in
     let before = laid_marks value g.I.Wide.WideIntNumber.number c.args.marks.now.items in
     let first = laid_marks value g.I.Wide.WideIntNumber.number c.hold_rows.new.marks.items in
     let second = laid_marks value g.I.Wide.WideIntNumber.number c.hold_rows-2.new.marks.items in

@@ -1,9 +1,10 @@
 use Rattle.std.proofs.Common.{◌≡◌, ◌∙◌, refl, ℕ, List, subst, sym, ◌<◌, ◌+◌, ◌/◌, ◌%◌, ◌⊎◌, length, take, slice_index_or, arith}
 use Rattle.segment_split.specs.MarkLists.{laid_marks}
-use Rattle.segment_split.specs.Rows.{place_in, reaches_of, Follows, FollowsIn, IsFirstAfter, CountsPairsUpTo, between, followers, all_followers}
+use Rattle.segment_split.specs.Rows.{place_in, all_reaches, Follows, FollowsIn, IsFirstAfter, CountsPairsUpTo, between, followers, all_followers}
 use Rattle.segment_split.proofs.Passes.SeenPasses.{pass_seen}
-use Rattle.segment_split.proofs.Rows.Laws.{FollowsTo, follows_all, follows_more, place_of, reaches_are}
+use Rattle.segment_split.proofs.Rows.Laws.{FollowsTo, follows_all, follows_more, place_of}
 use Rattle.segment_split.proofs.Rows.Counts.{through_sum, up_to_more, up_to_greater, next_followers, up_to_followers}
+use Rattle.segment_split.proofs.Rows.Reaches.{told_are}
 use Rattle.segment_split.proofs.Rows.Found.{finds_none, finds_fewer, finds_both}
 use Rattle.segment_split.proofs.Rows.Extents.{is_zero}
 use Rattle.segment_split.proofs.roads.rows.hold.hold_places.Goals as goal
@@ -14,7 +15,7 @@ loop-k-preserved g c =
     let rounding = c.args.pass.now.rounding in
     let es = c.args.pass.now.edges in
     let pass = pass_seen c.pass.invariant c.pass.view_is in
-    let reaches = reaches_of es in
+    let reaches = all_reaches es c.args.reaches.now in
     let from = c.args.from.now in
     let to = c.args.to.now in
     let k = c.loop-k.k in
@@ -31,7 +32,7 @@ loop-k-preserved g c =
     let reach = slice_index_or reaches i 0 in (
       finds_fewer g.I.OverlayInt.stride g.I.OverlayInt.least g.I.OverlayInt.greatest rounding es
           (λ n m. FollowsTo reaches from to k n m ⊎ FollowsIn to row reach i n m) (FollowsTo reaches from to (k + 1))
-          (follows_more reaches from to es few (reaches_are es pass.rising) k row i small (place_of p)) before next c.either-is_off_grid.result
+          (follows_more reaches from to es few (told_are es c.args.reaches.now pass.rising c.requires.told) k row i small (place_of p)) before next c.either-is_off_grid.result
           (finds_both g.I.OverlayInt.stride g.I.OverlayInt.least g.I.OverlayInt.greatest rounding es (FollowsTo reaches from to k) (FollowsIn to row reach i) before now next c.loop-k.is_off_grid c.in_ok-own.own c.either-is_off_grid.result
           c.either-is_off_grid.ensures c.loop-k.invariant.0 c.in_ok-own.ensures.found),
       up_to_more c.args.steps.now c.loop-k.steps c.hold_one.new.steps (all_followers reaches (take k from) to) (followers reaches to p) (all_followers reaches (take (k + 1) from) to) (next_followers reaches from to k (omega (arith, c.loop-k-test.true))) c.loop-k.invariant.1 own,
@@ -41,7 +42,7 @@ loop-k-preserved g c =
 pub returns-clause-found : goal.returns-clause-found
 returns-clause-found g c =
     let value = g.I.OverlayInt.value in
-    let reaches = reaches_of c.args.pass.now.edges in
+    let reaches = all_reaches c.args.pass.now.edges c.args.reaches.now in
     let from = c.args.from.now in
     let to = c.args.to.now in
     finds_fewer g.I.OverlayInt.stride g.I.OverlayInt.least g.I.OverlayInt.greatest c.args.pass.now.rounding c.args.pass.now.edges
@@ -50,7 +51,7 @@ returns-clause-found g c =
 
 pub returns-in_err-own-clause-steps : goal.returns-in_err-own-clause-steps
 returns-in_err-own-clause-steps g c =
-    let reaches = reaches_of c.args.pass.now.edges in
+    let reaches = all_reaches c.args.pass.now.edges c.args.reaches.now in
     let from = c.args.from.now in
     let to = c.args.to.now in
     let k = c.loop-k.k in
@@ -63,7 +64,7 @@ returns-in_err-own-clause-steps g c =
 
 pub returns-clause-steps : goal.returns-clause-steps
 returns-clause-steps g c =
-    let reaches = reaches_of c.args.pass.now.edges in
+    let reaches = all_reaches c.args.pass.now.edges c.args.reaches.now in
     let from = c.args.from.now in
     let to = c.args.to.now in
     up_to_greater c.args.steps.now c.loop-k.steps (all_followers reaches (take c.loop-k.k from) to) (all_followers reaches from to) (up_to_followers reaches from to c.loop-k.k) c.loop-k.invariant.1
@@ -99,7 +100,7 @@ no_follower reaches from to none i j (l, m, (r, here, (q, n, there))) = omega (a
 
 pub returns-then-is_empty-clause-found : goal.returns-then-is_empty-clause-found
 returns-then-is_empty-clause-found g c =
-    let reaches = reaches_of c.args.pass.now.edges in
+    let reaches = all_reaches c.args.pass.now.edges c.args.reaches.now in
     let none : length c.args.to.now ≡ 0 = is_zero (length c.args.to.now) (sym c.is_empty.ensures ∙ c.if-is_empty.true) in
     finds_none g.I.OverlayInt.stride g.I.OverlayInt.least g.I.OverlayInt.greatest c.args.pass.now.rounding c.args.pass.now.edges
     (Follows reaches c.args.from.now c.args.to.now) (no_follower reaches c.args.from.now c.args.to.now none) (laid_marks g.I.OverlayInt.value g.I.Wide.WideIntNumber.number c.args.marks.now.items)

@@ -1,6 +1,6 @@
 use Rattle.std.proofs.Common.{◌⊎◌}
 use Rattle.segment_split.specs.MarkLists.{laid_marks}
-use Rattle.segment_split.specs.Rows.{reaches_of, Follows, FollowsInRows}
+use Rattle.segment_split.specs.Rows.{all_reaches, Follows, FollowsInRows}
 use Rattle.segment_split.proofs.Rows.Found.{finds_fewer, finds_both}
 use Rattle.segment_split.proofs.roads.rows.hold.hold_rows.Goals as goal
 
@@ -11,7 +11,7 @@ returns-clause-found g c =
     let value = g.I.OverlayInt.value in
     let rounding = c.args.pass.now.rounding in
     let es = c.args.pass.now.edges in
-    let reaches = reaches_of es in
+    let reaches = all_reaches es c.args.reaches.now in
     let both_begin = Follows reaches c.deref.result.now c.deref-2.result.now in
     let other_passes = Follows reaches c.deref-3.result.now c.deref-4.result.now in
     let own_passes = Follows reaches c.deref-5.result.now c.deref-6.result.now in

@@ -2,7 +2,7 @@ use Rattle.std.proofs.Common.{arith}
 use Rattle.std.proofs.lemmas.Int.{ints}
 use Rattle.segment_split.specs.Passes.{edges_of}
 use Rattle.segment_split.specs.SegmentViews.{entries_of}
-use Rattle.segment_split.proofs.Rows.Buckets.{all_in_range}
+use Rattle.segment_split.proofs.Rows.Layouts.{all_in_range}
 use Rattle.segment_split.proofs.BucketTrees.Widths.{no_layout, some_layout, tree_empty}
 use Rattle.segment_split.proofs.roads.buckets.passed.Trees.over.Goals as goal
 

@@ -9,33 +9,12 @@ next_power : (k : ℕ) → 2 ^ (k + 1) ≡ 2 * 2 ^ k
 next_power k = let e : k + 1 ≡ suc k = omega arith in ap (λ n. 2 ^ n) e ∙ omega arith
 
 pub loop-shift-init : goal.loop-shift-init
-loop-shift-init c = (refl, inl refl)
+loop-shift-init c = refl
 
 pub loop-shift-preserved : goal.loop-shift-preserved
 loop-shift-preserved c =
-    let double : c.saturating_mul-width.result ≡ 2 * c.loop-shift.width = omega (arith, c.saturating_mul-width.ensures, c.if-width-span.false, c.abs_diff-span.type_inv) in
-    let is : c.saturating_mul-width.result ≡ 2 ^ (c.loop-shift.shift + 1) = omega (arith, double, c.loop-shift.invariant.0, next_power c.loop-shift.shift) in
-    let narrow : c.saturating_mul-width.result ≤ c.abs_diff-span.result / 32 = omega (arith, double, c.if-width-span.false) in
-    (is, inr narrow)
-
-pub returns-then-width-span-clause-narrow : goal.returns-then-width-span-clause-narrow
-returns-then-width-span-clause-narrow c =
-    let span : c.abs_diff-span.result ≡ offset_of c.args.self.least c.args.self.greatest = omega (arith, ints) in
-    subst (λ n. (2 ^ c.loop-shift.shift ≡ 1) ⊎ (2 ^ c.loop-shift.shift ≤ n / 32)) span
-    (subst (λ w. (w ≡ 1) ⊎ (w ≤ c.abs_diff-span.result / 32)) c.loop-shift.invariant.0 c.loop-shift.invariant.1)
-
-pub returns-then-span-shift-lt-MOST_ROWS-clause-narrow : goal.returns-then-span-shift-lt-MOST_ROWS-clause-narrow
-returns-then-span-shift-lt-MOST_ROWS-clause-narrow c =
-    let span : c.abs_diff-span.result ≡ offset_of c.args.self.least c.args.self.greatest = omega (arith, ints) in
-    subst (λ n. (2 ^ c.loop-shift.shift ≡ 1) ⊎ (2 ^ c.loop-shift.shift ≤ n / 32)) span
-    (subst (λ w. (w ≡ 1) ⊎ (w ≤ c.abs_diff-span.result / 32)) c.loop-shift.invariant.0 c.loop-shift.invariant.1)
-
-pub returns-clause-narrow : goal.returns-clause-narrow
-returns-clause-narrow c =
-    let span : c.abs_diff-span.result ≡ offset_of c.args.self.least c.args.self.greatest = omega (arith, ints) in
-    let end : c.loop-shift.shift ≡ 36 = omega (arith, c.loop-shift-test.false, c.loop-shift.auto.shift-end) in
-    subst (λ n. (2 ^ 36 ≡ 1) ⊎ (2 ^ 36 ≤ n / 32)) span
-    (subst (λ w. (w ≡ 1) ⊎ (w ≤ c.abs_diff-span.result / 32)) (subst (λ k. c.loop-shift.width ≡ 2 ^ k) end c.loop-shift.invariant.0) c.loop-shift.invariant.1)
+    let double : c.saturating_mul-width.result ≡ 2 * c.loop-shift.width = omega (arith, c.saturating_mul-width.ensures, c.if-width-widest.false, c.widest_row-widest.ensures.1, c.abs_diff-span.type_inv) in
+    omega (arith, double, c.loop-shift.invariant, next_power c.loop-shift.shift)
 
 -- a width that a 64th of the span doesn't reach makes few rows
 few_by_width : (span width : ℕ) → 0 < width → span / 64 < width → span / width < 2 ^ 31
@@ -45,12 +24,12 @@ few_by_width span width some wide = by (cases_lt (span / width) 64)
     by (inl few) = omega (arith, few)
     by (inr many) = let room : 64 * width ≤ span = (le-div_iff_mul-le some).0 many in absurd (omega (arith, room, wide))
 
-pub returns-then-width-span-clause-few : goal.returns-then-width-span-clause-few
-returns-then-width-span-clause-few c =
+pub returns-then-width-widest-clause-few : goal.returns-then-width-widest-clause-few
+returns-then-width-widest-clause-few c =
     let span : c.abs_diff-span.result ≡ offset_of c.args.self.least c.args.self.greatest = omega (arith, ints) in
-    let wide : c.abs_diff-span.result / 64 < c.loop-shift.width = omega (arith, c.if-width-span.true) in
+    let wide : c.abs_diff-span.result / 64 < c.loop-shift.width = omega (arith, c.if-width-widest.true, c.widest_row-widest.ensures.0) in
     subst (λ n. n / 2 ^ c.loop-shift.shift < 2 ^ 31) span
-    (subst (λ w. c.abs_diff-span.result / w < 2 ^ 31) c.loop-shift.invariant.0
+    (subst (λ w. c.abs_diff-span.result / w < 2 ^ 31) c.loop-shift.invariant
     (few_by_width c.abs_diff-span.result c.loop-shift.width (omega (arith, wide)) wide))
 
 pub returns-then-span-shift-lt-MOST_ROWS-clause-few : goal.returns-then-span-shift-lt-MOST_ROWS-clause-few

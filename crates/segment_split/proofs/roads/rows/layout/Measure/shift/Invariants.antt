@@ -1,6 +1,6 @@
-use Rattle.std.specs.Prelude.{◌≡◌, ◌⊎◌, ◌/◌, ◌^◌, ◌≤◌}
+use Rattle.std.specs.Prelude.{◌≡◌, ◌^◌}
 use Rattle.segment_split.proofs.roads.rows.layout.Measure.shift.Given as goal
 
--- The width is this power of two, and no wider than a bucket.
+-- The width is this power of two.
 abbrev pub invariant-loop-shift : goal.invariant-loop-shift
-invariant-loop-shift l = (l.width ≡ 2 ^ l.shift) × ((l.width ≡ 1) ⊎ (l.width ≤ l.span / 32))
+invariant-loop-shift l = l.width ≡ 2 ^ l.shift

@@ -1,11 +1,11 @@
-use Rattle.std.proofs.Common.{◌≡◌, ◌∙◌, ◌⊎◌, ◌/◌, ◌<◌, ◌≤◌, ◌≤ℤ◌, ◌^◌, sym, ap, ap₂, subst, to_z, of_z, w64, arith}
+use Rattle.std.proofs.Common.{◌≡◌, ◌∙◌, ◌/◌, ◌<◌, ◌≤ℤ◌, ◌^◌, sym, ap, ap₂, subst, to_z, of_z, w64, arith}
 use Rattle.i_tree.specs.Layout.{offset_of}
 use Rattle.std.proofs.lemmas.Int.{ints, to_z-of_z}
 use Rattle.std.specs.Int.{int_max}
 use Rattle.plane_base.proofs.Facts.Crossings.Place.{max_second}
 use Rattle.segment_split.specs.Passes.{edges_of}
 use Rattle.segment_split.specs.SegmentViews.{entries_of}
-use Rattle.segment_split.proofs.Rows.Buckets.{rows_divide, few_rows, all_in_range}
+use Rattle.segment_split.proofs.Rows.Layouts.{few_rows, all_in_range}
 use Rattle.segment_split.proofs.roads.rows.layout.RowLayout.over.Goals as goal
 
 pub returns : goal.returns
@@ -19,9 +19,6 @@ returns g c =
     let least : to_z w64 (of_z w64 c.max.result) ≡ int_max first g.I.OverlayInt.least = kept ∙ (c.max.ensures.value ∙ ap₂ int_max same bottom) in
     let all = all_in_range g.I.OverlayInt.least g.I.OverlayInt.greatest (omega (arith, ints, g.met.I.OverlayInt.least_holds)) (omega (arith, ints, g.met.I.OverlayInt.greatest_holds)) entries c.requires.in_range in
     record {
-      divides =
-          rows_divide g.I.OverlayInt.least (edges_of entries) first last (to_z w64 (of_z w64 c.max.result)) c.power_of.result all c.of-measure.ensures.least c.of-measure.ensures.greatest
-          least (c.shift-shift.result, c.power_of.ensures.is) (subst (λ w. (w ≡ 1) ⊎ (w ≤ offset_of first last / 32)) (sym c.power_of.ensures.is) c.shift-shift.ensures.narrow);
       few =
           few_rows g.I.OverlayInt.least (edges_of entries) first last (to_z w64 (of_z w64 c.max.result)) c.power_of.result all c.of-measure.ensures.least c.of-measure.ensures.greatest
           least c.power_of.ensures.some (subst (λ w. offset_of first last / w < 2 ^ 31) (sym c.power_of.ensures.is) c.shift-shift.ensures.few);

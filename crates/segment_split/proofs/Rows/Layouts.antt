@@ -1,27 +1,23 @@
--- Keys that share a row share a bucket, where buckets are whole rows.
-use Rattle.std.specs.Prelude.{◌≡◌, ◌⊎◌, ℕ, zero, suc, ◌++◌, ◌+◌, ◌-◌, ◌*◌, ◌/◌, ◌^◌, ◌<◌, ◌≤◌, ℤ, pos, negsuc, ◌≤ℤ◌, ◌<ℤ◌, Bool, true, false, ◌&&◌, cond, nat_le, int_lt, unsigned_abs, List, [], ◌∷◌, map, fold, All, Contains}
+-- How many rows there are, and who shares a column of x.
+use Rattle.std.specs.Prelude.{◌≡◌, ◌⊎◌, ℕ, ◌++◌, ◌+◌, ◌-◌, ◌/◌, ◌^◌, ◌<◌, ◌≤◌, ℤ, pos, negsuc, ◌≤ℤ◌, ◌<ℤ◌, Bool, true, false, ◌&&◌, cond, nat_le, int_lt, unsigned_abs, List, [], ◌∷◌, map, fold, All, Contains}
 use Rattle.std.specs.Int.{int_min, int_max, int_gap}
-use Rattle.std.proofs.Common.{refl, sym, ap, ap₂, ◌∙◌, subst, inl, inr, arith}
-use Rattle.std.proofs.Math.Nat.{div-div-eq-div-mul, le-div_iff_mul-le}
-use Rattle.std.proofs.Math.Pow.{pow-lt}
+use Rattle.std.proofs.Common.{refl, sym, ap, ◌∙◌, subst, inl, inr, arith}
 use Rattle.std.proofs.lemmas.Int.{ints, fold-int_min_reached}
-use Rattle.std.proofs.lemmas.Nat.{pow-add}
-use Rattle.std.proofs.lemmas.Bool.{cases_Bool, cases_lt, leb-true}
+use Rattle.std.proofs.lemmas.Bool.{cases_Bool}
 use Rattle.std.proofs.lemmas.List.Elements.{All-nil, All-head, All-tail, All-map, All-contains, All-weaker}
-use Rattle.i_tree.specs.Layout.{bucket_of, offset_of}
+use Rattle.i_tree.specs.Layout.{offset_of}
 use Rattle.plane_base.specs.Plane.{Edge, is_before}
 use Rattle.plane_base.specs.Counts.{Entry}
 use Rattle.plane_base.specs.Segments.{IsEdgeWithin}
 use Rattle.segment_split.specs.Passes.{edges_of}
 use Rattle.plane_base.proofs.Facts.Crossings.Place.{min_first, max_first}
-use Rattle.segment_split.specs.Rows.{row_of, lowest_row, highest_row, HasFewRows, RowsDivide}
-use Rattle.segment_split.specs.StepBounds.{Values, x_range, y_range, share_point, share_bucket, width_up_to, all_values, span_of, buckets_over, has_layout, pairs_by, all_pairs, bucket_pairs, most_by_buckets, most_by_columns}
-use Rattle.segment_split.proofs.Passes.PairCounts.{pairs_rise, pairs_among_all}
-use Rattle.segment_split.proofs.Passes.Columns.{LiesAmong, all_among, width_fits, width_positive, quotient_rises, pairs_in_columns}
+use Rattle.segment_split.specs.Rows.{row_of, lowest_row, highest_row, HasFewRows}
+use Rattle.segment_split.specs.StepBounds.{x_range, y_range, share_point, all_values, pairs_by, most_by_columns}
+use Rattle.segment_split.proofs.Passes.PairCounts.{pairs_rise}
+use Rattle.segment_split.proofs.Passes.Columns.{LiesAmong, all_among, quotient_rises, pairs_in_columns}
 use Rattle.segment_split.proofs.Rows.Bounds.{share_x_and_row}
 use Rattle.segment_split.proofs.Rows.Laws.{gap_above}
 use Rattle.segment_split.proofs.BucketTrees.Met.{both_of}
-use Rattle.segment_split.proofs.Rows.Meetings.{at_most_nat}
 
 through : (x y z : ℤ) → x ≤ℤ y → y ≤ℤ z → x ≤ℤ z
 through x y z a b = omega (arith, ints)
@@ -29,91 +25,12 @@ through x y z a b = omega (arith, ints)
 pub min_to_max : (x y : ℤ) → int_min x y ≤ℤ int_max x y
 min_to_max x y = through (int_min x y) x (int_max x y) (min_first x y) (max_first x y)
 
-module _ (values : Values) (width n : ℕ) (whole : (buckets_over values).width ≡ width * n) where
-  -- a bucket is so many rows
-  bucket_is : (y : ℤ) → values.least ≤ℤ y → bucket_of (buckets_over values) y ≡ row_of values.least width y / n
-  bucket_is y h =
-      let gap : offset_of values.least y ≡ int_gap values.least y = ap unsigned_abs (sym (gap_above values.least y h)) in
-      ap₂ (λ a b. a / b) gap whole ∙ sym (div-div-eq-div-mul (int_gap values.least y) width n)
-
-  some_rows : 0 < n
-  some_rows = by (cases_lt 0 n)
-    where
-      by : (0 < n) ⊎ (n ≤ 0) → 0 < n
-      by (inl more) = more
-      by (inr none) =
-          let is : n ≡ 0 = omega (arith, none) in
-          let zero : width * n ≡ width * 0 = ap (λ m. width * m) is in
-          let some = width_positive (span_of values) (span_of values) in
-          absurd (omega (arith, zero, some, whole))
-
-  rows_to_buckets : (y z : ℤ) → values.least ≤ℤ y → values.least ≤ℤ z → nat_le (row_of values.least width y) (row_of values.least width z) ≡ true
-      → nat_le (bucket_of (buckets_over values) y) (bucket_of (buckets_over values) z) ≡ true
-  rows_to_buckets y z h k e =
-      let low : row_of values.least width y ≤ row_of values.least width z = leb-true (row_of values.least width y) (row_of values.least width z) e in
-      let rises = quotient_rises n (row_of values.least width y) (row_of values.least width z) some_rows low in
-      let one = bucket_is y h in
-      let other = bucket_is z k in
-      at_most_nat (bucket_of (buckets_over values) y) (bucket_of (buckets_over values) z) (omega (arith, rises, one, other))
-
-  shared : (s t : Edge) → LiesAmong values (y_range s) → LiesAmong values (y_range t) → share_x_and_row values.least width s t ≡ true
-      → (share_point (x_range s) (x_range t) && share_bucket (buckets_over values) (y_range s) (y_range t)) ≡ true
-  shared s t p q e =
-      let parts = both_of (share_point (x_range s) (x_range t)) (nat_le (lowest_row values.least width s) (highest_row values.least width t) && nat_le (lowest_row values.least width t) (highest_row values.least width s)) e in
-      let rows = both_of (nat_le (lowest_row values.least width s) (highest_row values.least width t)) (nat_le (lowest_row values.least width t) (highest_row values.least width s)) parts.1 in
-      let high = λ (u : Edge) (r : LiesAmong values (y_range u)). through values.least (y_range u).least (y_range u).greatest r.from (min_to_max u.a.y u.b.y) in
-      ap₂ (λ a b. a && b) parts.0 (ap₂ (λ a b. a && b)
-      (rows_to_buckets (y_range s).least (y_range t).greatest p.from (high t q) rows.0)
-      (rows_to_buckets (y_range t).least (y_range s).greatest q.from (high s p) rows.1))
-
-pub rows_in_buckets : (least : ℤ) (width : ℕ) (es : List Edge) → RowsDivide least width (all_values y_range es) → pairs_by (share_x_and_row least width) es ≤ most_by_buckets es
-rows_in_buckets least width es divides = by (has_layout (all_values y_range es)) refl
-  where
-    by : (b : Bool) → has_layout (all_values y_range es) ≡ b → pairs_by (share_x_and_row least width) es ≤ cond b (bucket_pairs (buckets_over (all_values y_range es)) es) (all_pairs es)
-    by true up =
-        let values = all_values y_range es in
-        let n = (divides.whole up).0 in
-        subst (λ l. pairs_by (share_x_and_row l width) es ≤ bucket_pairs (buckets_over values) es) (sym (divides.from up))
-        (pairs_rise (λ s. LiesAmong values (y_range s)) (share_x_and_row values.least width) (λ s t. share_point (x_range s) (x_range t) && share_bucket (buckets_over values) (y_range s) (y_range t))
-        (shared values width n (divides.whole up).1) es (all_among y_range es))
-    by false down = pairs_among_all (share_x_and_row least width) es
-
 pub rows_in_columns : (least : ℤ) (width : ℕ) (es : List Edge) → All (λ s. is_before s.a s.b ≡ true) es → pairs_by (share_x_and_row least width) es ≤ most_by_columns es
 rows_in_columns least width es ahead =
     let fewer = pairs_rise (λ s. is_before s.a s.b ≡ true) (share_x_and_row least width) (λ s t. share_point (x_range s) (x_range t))
     (λ s t p q e. (both_of (share_point (x_range s) (x_range t)) (nat_le (lowest_row least width s) (highest_row least width t) && nat_le (lowest_row least width t) (highest_row least width s)) e).0) es ahead in
     let columns = pairs_in_columns es ahead in
     omega (arith, fewer, columns)
-
--- ---- how wide rows are
-
-pub width_power : (span k : ℕ) → (m : ℕ) × (width_up_to span k ≡ 2 ^ m)
-width_power span zero = (0, refl)
-width_power span (suc k) = by (nat_le (span / width_up_to span k) 31) (width_power span k)
-  where
-    by : (b : Bool) → (m : ℕ) × (width_up_to span k ≡ 2 ^ m) → (m : ℕ) × (cond b (width_up_to span k) (2 * width_up_to span k) ≡ 2 ^ m)
-    by true h = h
-    by false (m, e) = (suc m, omega (arith, e))
-
--- a power of two that is narrow enough divides the buckets' width
-pub divides_width : (span width : ℕ) → (k : ℕ) × (width ≡ 2 ^ k) → (width ≡ 1) ⊎ (width ≤ span / 32) → (n : ℕ) × (width_up_to span span ≡ width * n)
-divides_width span width (k, e) (inl one) = (width_up_to span span, let same : width * width_up_to span span ≡ 1 * width_up_to span span = ap (λ w. w * width_up_to span span) one in omega (arith, same))
-divides_width span width (k, e) (inr narrow) = by (width_power span span) (cases_lt (width_up_to span span) width)
-  where
-    by : (m : ℕ) × (width_up_to span span ≡ 2 ^ m) → (width_up_to span span < width) ⊎ (width ≤ width_up_to span span) → (n : ℕ) × (width_up_to span span ≡ width * n)
-    by (m, is) (inl wider) =
-        let some = width_positive span span in
-        let room : 32 * width_up_to span span ≤ span = omega (arith, narrow, wider) in
-        let many : 32 ≤ span / width_up_to span span = (le-div_iff_mul-le some).1 room in
-        let fits = width_fits span in
-        absurd (omega (arith, many, fits))
-    by (m, is) (inr fits) = at (cases_lt m k)
-      where
-        at : (m < k) ⊎ (k ≤ m) → (n : ℕ) × (width_up_to span span ≡ width * n)
-        at (inl less) = let below = pow-lt less in absurd (omega (arith, below, is, e, fits))
-        at (inr more) =
-            let split : m ≡ k + (m - k) = omega (arith, more) in
-            (2 ^ (m - k), is ∙ (ap (λ i. 2 ^ i) split ∙ (pow-add 2 k (m - k) ∙ ap (λ w. w * 2 ^ (m - k)) (sym e))))
 
 -- ---- what is measured
 
@@ -170,22 +87,6 @@ kept_above bottom y h = by (cases_Bool (int_lt bottom y))
     by : (int_lt bottom y ≡ true) ⊎ (int_lt bottom y ≡ false) → int_max y bottom ≡ y
     by (inl up) = ap (λ c. cond c y bottom) up
     by (inr down) = ap (λ c. cond c y bottom) down ∙ level down
-
--- rows of a width that is narrow enough divide the buckets
-pub rows_divide : (bottom : ℤ) (es : List Edge) (first last least : ℤ) (width : ℕ) → All (InRange bottom) es
-    → first ≡ fold int_min (pos 9223372036854775807) (map (λ t. (y_range t).least) es) → last ≡ fold int_max (negsuc 9223372036854775807) (map (λ t. (y_range t).greatest) es)
-    → least ≡ int_max first bottom → (k : ℕ) × (width ≡ 2 ^ k) → (width ≡ 1) ⊎ (width ≤ offset_of first last / 32) → RowsDivide least width (all_values y_range es)
-rows_divide bottom [] first last least width all e f is power narrow = record { from = λ up. absurd (cc); whole = λ up. absurd (cc) }
-rows_divide bottom (s ∷ es) first last least width all e f is power narrow =
-    let own = All-head (InRange bottom) s es all in
-    let low : first ≡ (all_values y_range (s ∷ es)).least = e ∙ least_measured s es own.1 in
-    let high : last ≡ (all_values y_range (s ∷ es)).greatest = f ∙ greatest_measured s es own.2 in
-    let holds = least_holds bottom s es (All-weaker (InRange bottom) (λ t. bottom ≤ℤ (y_range t).least) (λ t h. h.0) (s ∷ es) all) in
-    let spans : offset_of first last ≡ span_of (all_values y_range (s ∷ es)) = ap₂ offset_of low high in
-    record {
-      from = λ up. is ∙ (ap (λ y. int_max y bottom) low ∙ kept_above bottom (all_values y_range (s ∷ es)).least holds);
-      whole = λ up. divides_width (span_of (all_values y_range (s ∷ es))) width power (subst (λ n. (width ≡ 1) ⊎ (width ≤ n / 32)) spans narrow);
-    }
 
 -- a y up to the greatest has its row among the first ones, if the greatest has
 row_below : (least greatest y : ℤ) (width : ℕ) → 0 < width → least ≤ℤ y → y ≤ℤ greatest → offset_of least greatest / width < 2 ^ 31 → row_of least width y < 2 ^ 31
