@@ -1,0 +1,11 @@
+-- Sizing: what moved contours of an answer wind round, in rows and in columns.
+pub mod Terms
+pub mod Windows
+pub mod Denominators
+pub mod Moves
+pub mod Places
+pub mod Across
+pub mod Up
+pub mod Once
+pub mod Answers
+pub mod Laws

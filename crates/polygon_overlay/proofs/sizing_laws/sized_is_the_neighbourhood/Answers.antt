@@ -1,0 +1,9 @@
+use Rattle.plane_base.specs.Counts.{boolean}
+use Rattle.polygon_overlay.proofs.Sized.Laws.{sized_is_the_neighbourhood}
+use Rattle.polygon_overlay.proofs.sizing_laws.sized_is_the_neighbourhood.Goals as goal
+
+pub returns : goal.returns
+returns c =
+    sized_is_the_neighbourhood (c.passes_rearrange.ensures.redrawn boolean) (c.redrawing_comes_to_rest.ensures.ends boolean) c.redrawn_maps_are_balanced.ensures
+    c.filled_is_bounded.ensures c.answers_are_orderly.ensures c.answers_wind.ensures c.corners_stay.ensures c.whole_meetings_keep_windings.ensures
+    c.held_winds_as_given.ensures (c.redrawn_of_level_and_upright.ensures.whole boolean) (c.redrawn_of_level_and_upright.ensures.redrawn boolean)

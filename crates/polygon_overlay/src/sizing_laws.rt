@@ -1,0 +1,27 @@
+//! The law of sizing, the contract of a function that does nothing.
+
+ghost use Rattle.polygon_overlay.specs.SizingLaws.{SizedIsTheNeighbourhood};
+
+use crate::given_laws::held_winds_as_given;
+use contour_walk::answer_laws::{answers_are_orderly, answers_wind};
+use contour_walk::binding_laws::corners_stay;
+use segment_arrangement::laws::filled_is_bounded;
+use segment_split::count::ShapeCountBoolean;
+use segment_split::laws::{passes_rearrange, redrawing_comes_to_rest, redrawn_maps_are_balanced};
+use segment_split::spread_laws::{redrawn_of_level_and_upright, whole_meetings_keep_windings};
+
+/// What an answer for level and upright contours, moved in x and then in y, winds round: the sized region.
+pub fn sized_is_the_neighbourhood()
+    ensures { SizedIsTheNeighbourhood }
+{
+    passes_rearrange::<ShapeCountBoolean>();
+    redrawing_comes_to_rest::<ShapeCountBoolean>();
+    redrawn_maps_are_balanced();
+    filled_is_bounded();
+    answers_are_orderly();
+    answers_wind();
+    corners_stay();
+    whole_meetings_keep_windings();
+    held_winds_as_given();
+    redrawn_of_level_and_upright::<ShapeCountBoolean>();
+}
