@@ -481,8 +481,9 @@ static inline uint32_t polygon_contains_points(const polygon_c_contours *contour
 
 /*
  * Tells of each of `places_len` points where it lies, at the beginning of `found`: POLYGON_C_ON_EDGE on an edge of a contour, its ends
- * among them; else POLYGON_C_INSIDE in one of the shapes, as polygon_contains_points tells it; else POLYGON_C_OUTSIDE. It holds each point
- * against each edge: where edges don't matter, polygon_contains_points is faster. Here too POLYGON_C_ROOM is told before anything is reckoned.
+ * among them; else POLYGON_C_INSIDE in one of the shapes, as polygon_contains_points tells it; else POLYGON_C_OUTSIDE. Points are asked one by
+ * one under boxes of contours: where these lie over each other, as of contours in one another, polygon_contains_points is faster for many
+ * points. Here too POLYGON_C_ROOM is told before anything is reckoned.
  */
 static inline uint32_t polygon_locate(const polygon_c_contours *contours, const size_t *shapes, size_t shapes_len,
                                       const polygon_c_point *places, size_t places_len, uint8_t *found, size_t found_room) {

@@ -1,9 +1,9 @@
 -- Laws of points that are located.
-use Rattle.std.proofs.Common.{◌≡◌, Bool, true, false, cond, List, [], ◌∷◌, get_or, sym, ap, ◌∙◌, arith}
+use Rattle.std.proofs.Common.{◌≡◌, Bool, true, false, cond, List, sym, ap, ◌∙◌}
 use Rattle.plane_base.specs.Plane.{Point}
 use Rattle.segment_arrangement.specs.FanLaws.{whole}
 use Rattle.contour_walk.specs.BindingLaws.{all_contours}
-use Rattle.polygon_overlay.specs.Location.{in_shapes, is_on_edge, AreLocated}
+use Rattle.polygon_overlay.specs.Location.{in_shapes, is_on_edge}
 use Rattle.polygon_c.specs.Placing.{place_of}
 use Rattle.polygon_c.specs.Relating.{flag}
 
@@ -16,8 +16,3 @@ module _ (shapes : List (List (List Point))) (p : Point) where
   pub off_edges : (on : Bool) → on ≡ is_on_edge (all_contours shapes) (whole p) → on ≡ false → (inside : Bool) → inside ≡ in_shapes shapes (whole p)
       → flag inside ≡ place_of shapes p
   off_edges on is no' inside e = ap flag e ∙ sym (ap (λ b. cond b 2 (flag (in_shapes shapes (whole p)))) (sym is ∙ no'))
-
-  -- the answer for one point
-  pub located_alone : (on : Bool) → on ≡ is_on_edge (all_contours shapes) (whole p) → on ≡ false → (found : List Bool)
-      → AreLocated (all_contours shapes) (in_shapes shapes) (p ∷ []) found → (e : Bool) → get_or found 0 e ≡ in_shapes shapes (whole p)
-  located_alone on is no' found are e = are.told 0 p e (omega arith) (sym is ∙ no')

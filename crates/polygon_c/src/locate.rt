@@ -18,11 +18,12 @@ use polygon_overlay::plane::fault::Fault;
 use polygon_overlay::plane::int::OverlayInt;
 use polygon_overlay::plane::path::IntShapes;
 use polygon_overlay::plane::point::IntPoint;
-use polygon_overlay::point_location::IntPointContainment;
+use polygon_overlay::point_location::PointLocator;
 use std::alloc::Global;
 
 /// Tells of each point where it lies, at the beginning of an array: 2 on an edge of a contour, its ends among them; else 1 in one of the
-/// shapes, as `polygon_c_contains_points` tells it; else 0. Of p points and n edges it takes p times n steps.
+/// shapes, as `polygon_c_contains_points` tells it; else 0. Of n edges it takes n steps, and for each point few where boxes of edges lie
+/// apart, n where they lie over each other.
 ///
 /// Statuses, and what stays as it was, are those of `polygon_c_contains_points`.
 #[unsafe(no_mangle)]
@@ -96,29 +97,34 @@ fn places_in<I: OverlayInt>(
         ≡ map (place_of (shapes_of I.value shapes.now.shapes.items)) (points_of I.value places.now)) }
     ensures memory { IsOkUnless result Fault.Memory }
 {
+    let locator = PointLocator::new(alloc, shapes)?;
+    places_under(alloc, &locator, places)
+}
+
+// Where each point lies, under the boxes of a locator.
+fn places_under<I: OverlayInt>(
+    alloc: Global,
+    locator: &PointLocator<I>,
+    places: &[IntPoint<I>],
+) -> Result<Vec<u8>, Fault>
+    requires { All (IsWithin I.least I.greatest) (points_of I.value places.now) }
+    ensures placed { IfOk result (λ numbers. numbers.items ≡ map (place_of locator.now) (points_of I.value places.now)) }
+    ensures memory { IsOkUnless result Fault.Memory }
+{
     let mut numbers = Vec::with_capacity(alloc, places.len())?;
     for place in places {
-        numbers.push(place_in(alloc, shapes, *place)?)?;
+        numbers.push(place_in(locator, *place))?;
     }
     Ok(numbers)
 }
 
 // Where a point lies.
-fn place_in<I: OverlayInt>(
-    alloc: Global,
-    shapes: &IntShapes<I>,
-    place: IntPoint<I>,
-) -> Result<u8, Fault>
-    requires shapes_in_range { All (All (IsWithin I.least I.greatest)) (all_contours (shapes_of I.value shapes.now.shapes.items)) }
-    requires place_in_range { IsWithin I.least I.greatest (point_of I.value place) }
-    ensures placed { IfOk result (λ number. number ≡ place_of (shapes_of I.value shapes.now.shapes.items) (point_of I.value place)) }
-    ensures memory { IsOkUnless result Fault.Memory }
+fn place_in<I: OverlayInt>(locator: &PointLocator<I>, place: IntPoint<I>) -> u8
+    requires { IsWithin I.least I.greatest (point_of I.value place) }
+    ensures { result ≡ place_of locator.now (point_of I.value place) }
 {
-    if shapes.is_on_edge(place) {
-        return Ok(2);
+    if locator.is_on_edge(place) {
+        return 2;
     }
-    let mut places = Vec::with_capacity(alloc, 1)?;
-    places.push(place)?;
-    let inside = shapes.contains_points(alloc, &places)?;
-    Ok(flag(inside[0]))
+    flag(locator.contains(place))
 }

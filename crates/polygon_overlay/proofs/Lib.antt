@@ -44,6 +44,7 @@ mod StringBoxLaws
 mod VectorBoxLaws
 mod LoadLaws
 mod Tiles
+mod Sized
 mod TallyLaws
 mod BalanceTally
 mod EdgeLaws
@@ -51,3 +52,8 @@ mod AddingLaws
 mod PointBoxLaws
 mod ThinnedLaws
 mod ApartLaws
+mod StretchLaws
+mod OutlineLaws
+mod NoneLaws
+mod IndexLaws
+mod BorderLaws

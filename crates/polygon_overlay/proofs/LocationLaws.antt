@@ -770,7 +770,7 @@ once a = ap₂ (λ x y. record { x = x; y = y }) (one a.x) (one a.y)
     one : (z : ℤ) → pos 1 *ℤ z ≡ z
     one z = omega (arith, ints)
 
-on_whole : (s : Edge) (p : Point) → lies_on s (whole p) ≡ (int_eq (turn s.a s.b p) (pos 0) && is_le (point_order s.a p) && is_le (point_order p s.b))
+pub on_whole : (s : Edge) (p : Point) → lies_on s (whole p) ≡ (int_eq (turn s.a s.b p) (pos 0) && is_le (point_order s.a p) && is_le (point_order p s.b))
 on_whole s p =
     ap (λ t. int_eq t (pos 0) && is_le (point_order (scaled 1 s.a) p) && is_le (point_order p (scaled 1 s.b))) (side_of_whole s.a s.b p)
     ∙ ap₂ (λ a b. int_eq (turn s.a s.b p) (pos 0) && is_le (point_order a p) && is_le (point_order p b)) (once s.a) (once s.b)

@@ -26,10 +26,13 @@ pub mod Tiles
 pub mod TileViews
 pub mod TileGrids
 pub mod TileLaws
+pub mod Sizing
+pub mod SizingLaws
 pub mod Hierarchies
 pub mod Location
 pub mod LocationViews
 pub mod PointBoxes
+pub mod Stretches
 pub mod VectorAnswers
 pub mod Tallies
 pub mod EdgePairs

@@ -1,6 +1,8 @@
 //! Whether points lie inside of contours, by parity, and whether contours meet themselves in ends alone.
 //!
-//! Points are asked for together: they are sorted by x once, and each edge is held against those in its column alone.
+//! A point is asked for under boxes: those of stretches of contours, and of shapes that lie near each other. Where they tell little, as for contours that
+//! lie in one another, points that are asked for together are sorted by x, and each edge is held against those in its column alone. `PointLocator` keeps
+//! the boxes from query to query.
 
 ghost use Rattle.std.specs.Prelude.{◌≡◌, ◌↔◌, Bool, List, [], ◌∷◌, IsTrue, IfOk, IsOkUnless, All};
 ghost use Rattle.plane_base.specs.Plane.{Point, RationalPoint, IsWithin};
@@ -12,20 +14,29 @@ ghost use Rattle.contour_walk.specs.ShapeViews.{shapes_of};
 ghost use Rattle.polygon_overlay.specs.Location.{in_contour, in_shape, in_shapes, is_on_edge, AreLocated, IsResolved};
 
 use crate::point_location::edges::{is_on_contour, is_on_contours, is_on_shapes};
-use crate::point_location::queries::{answers, locate_in_contour, locate_in_shape, sorted_queries};
 use crate::point_location::resolved::{
     are_contours_resolved, are_shapes_resolved, is_contour_resolved,
 };
+use crate::point_location::roads::{contour_located, shape_located, shapes_located};
+pub use locator::PointLocator;
 use plane_base::fault::Fault;
 use plane_base::int::OverlayInt;
 use plane_base::path::{IntContour, IntShape, IntShapes};
 use plane_base::point::IntPoint;
 use std::alloc::Global;
 
+mod borders;
+mod columns;
 mod edges;
+mod locator;
+mod outline;
 mod queries;
 mod query_point;
 mod resolved;
+mod roads;
+mod sample;
+mod shape_index;
+mod stretches;
 
 /// Points in contours. A contour has those points inside round which it winds an odd number of times, a shape those inside of an odd
 /// number of its contours, and shapes those inside of one of them. All coordinates are in range.
@@ -51,7 +62,8 @@ pub trait IntPointContainment<I: OverlayInt> {
     /// Whether each point is inside, in the order of the points. Nothing is promised of a point on an edge. Contours may meet in any way:
     /// where one isn't resolved parity tells all the same.
     ///
-    /// Of p points and n edges it takes time (p + n) log p, and a step for each point in the column of each edge. Refused with `Memory` alone.
+    /// Of p points and n edges it takes time n + p log n where boxes of edges lie apart, as those of parcels or of a coast. Else, and of few edges, it takes
+    /// (p + n) log p, and a step for each point in the column of each edge. Refused with `Memory` alone.
     fn contains_points(&self, alloc: Global, points: &[IntPoint<I>]) -> Result<Vec<bool>, Fault>
         requires in_range { All (All (IsWithin I.least I.greatest)) (contours self.now) }
         requires points_in_range { All (IsWithin I.least I.greatest) (points_of I.value points.now) }
@@ -77,9 +89,7 @@ impl<I: OverlayInt> IntPointContainment<I> for IntContour<I> {
     }
 
     fn contains_points(&self, alloc: Global, points: &[IntPoint<I>]) -> Result<Vec<bool>, Fault> {
-        let mut queries = sorted_queries(alloc, points)?;
-        locate_in_contour(&self.points, &mut queries);
-        answers(alloc, points, &queries)
+        contour_located(alloc, &self.points, points)
     }
 }
 
@@ -101,9 +111,7 @@ impl<I: OverlayInt> IntPointContainment<I> for IntShape<I> {
     }
 
     fn contains_points(&self, alloc: Global, points: &[IntPoint<I>]) -> Result<Vec<bool>, Fault> {
-        let mut queries = sorted_queries(alloc, points)?;
-        locate_in_shape(&self.contours, &mut queries);
-        answers(alloc, points, &queries)
+        shape_located(alloc, &self.contours, points)
     }
 }
 
@@ -125,10 +133,6 @@ impl<I: OverlayInt> IntPointContainment<I> for IntShapes<I> {
     }
 
     fn contains_points(&self, alloc: Global, points: &[IntPoint<I>]) -> Result<Vec<bool>, Fault> {
-        let mut queries = sorted_queries(alloc, points)?;
-        for shape in &self.shapes {
-            locate_in_shape(&shape.contours, &mut queries);
-        }
-        answers(alloc, points, &queries)
+        shapes_located(alloc, &self.shapes, points)
     }
 }

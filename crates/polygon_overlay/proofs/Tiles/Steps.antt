@@ -195,7 +195,7 @@ module _ (u v : Point) (p : RationalPoint) (begun : at_or_before u p ≡ true) (
       sum : (z x y : ℤ) → z ≡ x +ℤ y → x ≤ℤ pos 0 → y ≤ℤ pos 0 → z ≤ℤ pos 0
       sum z x y e l m = omega (arith, ints)
 
-  passes_level : u.y ≡ v.y → is_above u v p ≡ int_lt (pos p.q *ℤ u.y) p.y
+  pub passes_level : u.y ≡ v.y → is_above u v p ≡ int_lt (pos p.q *ℤ u.y) p.y
   passes_level e = by (int_lt (pos p.q *ℤ u.y) p.y) refl
     where
       by : (b : Bool) → int_lt (pos p.q *ℤ u.y) p.y ≡ b → is_above u v p ≡ b

@@ -30,7 +30,7 @@ use Rattle.segment_split.specs.declared.solver.Precision.{Precision}
 use Rattle.segment_arrangement.specs.EdgeSides.{is_boundary, boundary}
 use Rattle.segment_arrangement.specs.SideLaws.{IsArrangement}
 use Rattle.segment_arrangement.proofs.Facts.ConstantSides.{Contains-map}
-use Rattle.contour_walk.specs.Answering.{answer_with}
+use Rattle.contour_walk.specs.Answering.{Answering, answer_with}
 use Rattle.contour_walk.specs.BindingLaws.{all_contours, CornersStay, PassOnce}
 use Rattle.contour_walk.specs.Orderly.{AreOrderly, AnswersAreOrderly}
 use Rattle.contour_walk.specs.Shapes.{without_straight, finished}
@@ -75,7 +75,7 @@ second_left w v y x e f = alone (w *ℤ y) (v *ℤ x) (ap (λ z. z *ℤ y) e ∙
     alone m n e f = omega (arith, ints)
 
 -- two straight steps on one line are one
-straight_joined : (u v w : Point) → turn u v w ≡ pos 0 → IsStraight (record { a = u; b = v }) → IsStraight (record { a = v; b = w }) → IsStraight (record { a = u; b = w })
+pub straight_joined : (u v w : Point) → turn u v w ≡ pos 0 → IsStraight (record { a = u; b = v }) → IsStraight (record { a = v; b = w }) → IsStraight (record { a = u; b = w })
 straight_joined u v w flat h k = by (level_or_upright u v h) (level_or_upright v w k)
   where
     after_level : u.y ≡ v.y → v.x ≡ w.x → (v.x -ℤ u.x ≡ pos 0) ⊎ (w.y -ℤ u.y ≡ pos 0) → IsStraight (record { a = u; b = w })
@@ -259,45 +259,50 @@ module _ (fill : FillRule) (rule : OverlayRule) (es : List (Entry Count)) (outpu
 module _ (rearranges : (precision : Precision) → Rearranges boolean (redrawn boolean precision)) (ends : (precision : Precision) → RedrawsToTheEnd boolean precision)
     (balanced : (precision : Precision) (es : List (Entry Count)) → IsBalancedMap es → IsBalancedMap (redrawn boolean precision es))
     (orderly : AnswersAreOrderly) (corners : CornersStay) (whole : LevelAndUprightMeetWhole boolean) (lines : (precision : Precision) → RedrawsByLines boolean precision) where
+  -- an answer, with all its points and as it is finished
+  module _ (least greatest : ℤ) (o : Answering) (fill : FillRule) (rule : OverlayRule) (precision : Precision) (held : List (Entry Count))
+      (is_held : IsHeld least greatest held) (none : o.least ≡ 0) (all : AllLevelOrUpright (edges_of (normal boolean held))) where
+    abbrev pub redrawn_map : List (Entry Count)
+    redrawn_map = redrawn_of precision held
+
+    pub arranged : IsArrangement redrawn_map
+    arranged = redrawn_arrangement least greatest precision (rearranges precision) (ends precision) (balanced precision) held is_held
+
+    pub told : AreOrderly o.clockwise o.keep_all (borders fill rule redrawn_map) (answer_with o (borders fill rule redrawn_map))
+    told = orderly o fill rule redrawn_map arranged none
+
+    abbrev pub full_contours : List (List Point)
+    full_contours = all_contours told.full
+
+    pub are_finished : all_contours (answer_with o (borders fill rule redrawn_map)) ≡ map (finished o.keep_all) full_contours
+    are_finished = ap all_contours told.is ∙ all_mapped (finished o.keep_all) told.full
+
+    pub redrawn_straight : All IsStraightEntry redrawn_map
+    redrawn_straight = entries_redrawn precision whole (lines precision) (normal boolean held) (normal_is_normal boolean held is_held.directed) all
+
+    pub full_straight : AreLevelOrUpright full_contours
+    full_straight =
+        each_part full_contours
+        (All-permutation IsStraight (map (step_along o.clockwise) (borders fill rule redrawn_map)) (flat_map contour_steps full_contours) told.passed
+        (steps_straight fill rule redrawn_map o.clockwise redrawn_straight))
+
+    passed : PassOnce (borders fill rule redrawn_map) (map as_contour full_contours)
+    passed = pass_once fill rule redrawn_map o.clockwise full_contours arranged told.passed (in_place_some o.clockwise told.full told.places)
+
+    pub is_thinned : (c : List Point) → Contains full_contours c → IsThinned c (without_straight c)
+    is_thinned c here =
+        All-contains (λ (c : Contour). IsThinned c.points (without_straight c.points)) (map as_contour full_contours) (as_contour c)
+        (corners.thinned fill rule redrawn_map (map as_contour full_contours) arranged passed) (Contains-map as_contour full_contours c here)
+
+    finished_straight : AreLevelOrUpright (map (finished o.keep_all) full_contours)
+    finished_straight =
+        All-map (λ c. AllLevelOrUpright (contour_steps c)) (finished o.keep_all) full_contours
+        (λ i d l. one o.keep_all (get_or full_contours i d) (All-contains_itself full_contours i d l) (full_straight i d l))
+      where
+        one : (keep_all : Bool) (c : List Point) → Contains full_contours c → AllLevelOrUpright (contour_steps c) → AllLevelOrUpright (contour_steps (finished keep_all c))
+        one true c here h = h
+        one false c here h = thinned c (without_straight c) (is_thinned c here) h
+
   pub answers_stay_level_or_upright : AnswersStayLevelOrUpright
-  answers_stay_level_or_upright least greatest o fill rule precision held is_held none all = subst AreLevelOrUpright (sym are_finished) finished_straight
-    where
-      es : List (Entry Count)
-      es = redrawn_of precision held
-
-      arranged : IsArrangement es
-      arranged = redrawn_arrangement least greatest precision (rearranges precision) (ends precision) (balanced precision) held is_held
-
-      told : AreOrderly o.clockwise o.keep_all (borders fill rule es) (answer_with o (borders fill rule es))
-      told = orderly o fill rule es arranged none
-
-      contours : List (List Point)
-      contours = all_contours told.full
-
-      are_finished : all_contours (answer_with o (borders fill rule es)) ≡ map (finished o.keep_all) contours
-      are_finished = ap all_contours told.is ∙ all_mapped (finished o.keep_all) told.full
-
-      keys : All IsStraightEntry es
-      keys = entries_redrawn precision whole (lines precision) (normal boolean held) (normal_is_normal boolean held is_held.directed) all
-
-      full_straight : AreLevelOrUpright contours
-      full_straight =
-          each_part contours
-          (All-permutation IsStraight (map (step_along o.clockwise) (borders fill rule es)) (flat_map contour_steps contours) told.passed
-          (steps_straight fill rule es o.clockwise keys))
-
-      passed : PassOnce (borders fill rule es) (map as_contour contours)
-      passed = pass_once fill rule es o.clockwise contours arranged told.passed (in_place_some o.clockwise told.full told.places)
-
-      one : (keep_all : Bool) (c : List Point) → Contains contours c → AllLevelOrUpright (contour_steps c) → AllLevelOrUpright (contour_steps (finished keep_all c))
-      one true c here h = h
-      one false c here h =
-          thinned c (without_straight c)
-          (All-contains (λ (c : Contour). IsThinned c.points (without_straight c.points)) (map as_contour contours) (as_contour c)
-          (corners.thinned fill rule es (map as_contour contours) arranged passed) (Contains-map as_contour contours c here))
-          h
-
-      finished_straight : AreLevelOrUpright (map (finished o.keep_all) contours)
-      finished_straight =
-          All-map (λ c. AllLevelOrUpright (contour_steps c)) (finished o.keep_all) contours
-          (λ i d l. one o.keep_all (get_or contours i d) (All-contains_itself contours i d l) (full_straight i d l))
+  answers_stay_level_or_upright least greatest o fill rule precision held is_held none all =
+      subst AreLevelOrUpright (sym (are_finished least greatest o fill rule precision held is_held none all)) (finished_straight least greatest o fill rule precision held is_held none all)

@@ -25,11 +25,11 @@ module _ (S : Point → Point → Type 0) (joined : (u v w : Point) → turn u v
       (All-append P (steps_to x (y ∷ ys)) (steps_to y (x ∷ xs)) (All-back P (steps_to y (x ∷ xs)) (steps_to x (y ∷ ys)) all)
       (All-front P (steps_to y (x ∷ xs)) (steps_to x (y ∷ ys)) all))
 
-  same_cycle : (c d : List Point) → SameCycle c d → All P (contour_steps c) → All P (contour_steps d)
+  pub same_cycle : (c d : List Point) → SameCycle c d → All P (contour_steps c) → All P (contour_steps d)
   same_cycle c d h all =
       subst (λ z. All P (contour_steps z)) (sym h.second) (turned_round h.front h.back (subst (λ z. All P (contour_steps z)) h.first all))
 
-  taken_out : (c d : List Point) → TakesOut c d → All P (contour_steps c) → All P (contour_steps d)
+  pub taken_out : (c d : List Point) → TakesOut c d → All P (contour_steps c) → All P (contour_steps d)
   taken_out c d t all =
       let step_in : Edge = record { a = t.before; b = t.p } in
       let step_out : Edge = record { a = t.p; b = t.after } in

@@ -61,8 +61,8 @@ pub(crate) fn is_on_contour<I: OverlayInt>(points: &[IntPoint<I>], point: IntPoi
     false
 }
 
-// Whether a point lies on an edge, its ends included.
-fn lies_on<I: OverlayInt>(edge: XSegment<I>, point: IntPoint<I>) -> bool
+/// Whether a point lies on an edge, its ends included.
+pub(super) fn lies_on<I: OverlayInt>(edge: XSegment<I>, point: IntPoint<I>) -> bool
     requires in_range { IsEdgeWithin I.least I.greatest (edge_of I.value edge) }
     requires point_in_range { IsWithin I.least I.greatest (point_of I.value point) }
     ensures { result ≡ lies_on (edge_of I.value edge) (whole (point_of I.value point)) }

@@ -1,22 +1,23 @@
 //! Which points lie in contours, shapes and lists of shapes, and which contours are resolved: rows worked out by hand.
 
-ghost use Rattle.std.specs.Prelude.{IsTrue, All, negsuc, pos};
+ghost use Rattle.std.specs.Prelude.{IsTrue, All};
 ghost use Rattle.plane_base.specs.Plane.{IsWithin};
 ghost use Rattle.contour_walk.specs.BindingLaws.{all_contours};
 ghost use Rattle.contour_walk.specs.ShapeViews.{shapes_of};
 
 use super::words::{point_from, shapes_from};
 use plane_base::fault::Fault;
+use plane_base::int::OverlayInt;
 use plane_base::path::{IntContour, IntShape, IntShapes};
 use plane_base::point::IntPoint;
 use plane_base::range::{all_contours_in_range, all_in_range, is_in_range};
-use polygon_overlay::point_location::IntPointContainment;
+use polygon_overlay::point_location::{IntPointContainment, PointLocator};
 use row_words::Words;
 use std::alloc::Global;
 
 // Whether all coordinates are in range.
-fn are_in_range(shapes: &[IntShape<i32>]) -> bool
-    ensures { IsTrue result → All (All (IsWithin (negsuc 524287) (pos 524287))) (all_contours (shapes_of (λ x. x) shapes.now)) }
+pub(super) fn are_in_range<I: OverlayInt>(shapes: &[IntShape<I>]) -> bool
+    ensures { IsTrue result → All (All (IsWithin I.least I.greatest)) (all_contours (shapes_of I.value shapes.now)) }
 {
     for shape in shapes {
         if !all_contours_in_range(&shape.contours) {
@@ -54,10 +55,10 @@ fn in_shape(
     shape.contains_points(alloc, points)
 }
 
-pub(super) fn in_shapes(
+pub(super) fn in_shapes<I: OverlayInt>(
     alloc: Global,
-    shapes: &IntShapes<i32>,
-    points: &[IntPoint<i32>],
+    shapes: &IntShapes<I>,
+    points: &[IntPoint<I>],
 ) -> Result<Vec<bool>, Fault> {
     if !are_in_range(&shapes.shapes) {
         return Err(Fault::Failed);
@@ -66,6 +67,52 @@ pub(super) fn in_shapes(
         return Err(Fault::Failed);
     }
     shapes.contains_points(alloc, points)
+}
+
+// The answers of a locator, point by point.
+pub(super) fn in_locator<I: OverlayInt>(
+    alloc: Global,
+    shapes: &IntShapes<I>,
+    points: &[IntPoint<I>],
+) -> Result<Vec<bool>, Fault> {
+    if !are_in_range(&shapes.shapes) {
+        return Err(Fault::Failed);
+    }
+    let locator = PointLocator::new(alloc, shapes)?;
+    let mut found = Vec::new(alloc);
+    for i in 0..points.len() {
+        if !is_in_range(points[i]) {
+            return Err(Fault::Failed);
+        }
+        found.push(locator.contains(points[i]))?;
+    }
+    Ok(found)
+}
+
+// Whether just the points with an e lie on edges, as a locator tells them.
+fn are_on_kept_edges(
+    alloc: Global,
+    shapes: &IntShapes<i32>,
+    points: &[IntPoint<i32>],
+    wanted: &str,
+) -> Result<bool, Fault> {
+    if !are_in_range(&shapes.shapes) {
+        return Err(Fault::Failed);
+    }
+    let locator = PointLocator::new(alloc, shapes)?;
+    let wanted = wanted.as_bytes();
+    if points.len() != wanted.len() {
+        return Ok(false);
+    }
+    for i in 0..points.len() {
+        if !is_in_range(points[i]) {
+            return Err(Fault::Failed);
+        }
+        if locator.is_on_edge(points[i]) != (wanted[i] == b'e') {
+            return Ok(false);
+        }
+    }
+    Ok(true)
 }
 
 // The answers by the least type that has the contours.
@@ -159,7 +206,7 @@ fn are_on_edges(shapes: &IntShapes<i32>, points: &[IntPoint<i32>], wanted: &str)
     true
 }
 
-// Whether a row is answered as it says, also as a list of shapes.
+// Whether a row is answered as it says, also as a list of shapes, and by a locator.
 fn is_located(alloc: Global, row: &str) -> bool {
     let mut words = Words::of(alloc, row);
     let shapes = shapes_from(&mut words);
@@ -168,7 +215,9 @@ fn is_located(alloc: Global, row: &str) -> bool {
     words.are_read()
         && is_told(locate(alloc, &shapes, &points), wanted)
         && is_told(in_shapes(alloc, &shapes, &points), wanted)
+        && is_told(in_locator(alloc, &shapes, &points), wanted)
         && are_on_edges(&shapes, &points, wanted)
+        && are_on_kept_edges(alloc, &shapes, &points, wanted) == Ok(true)
 }
 
 // A row has shapes, points, and whether each is inside, outside or on an edge. A list stands behind the number of its members.
@@ -187,6 +236,9 @@ const ROWS: &str = "\
 # a contour of one point, and one of two
 1 1 1 3 3 2 3 3 3 4 e0
 1 1 2 0 0 5 5 3 1 2 2 1 3 3 00e
+# one point 17 times, and a contour of none beside a square
+1 1 17 3 3 3 3 3 3 3 3 3 3 3 3 3 3 3 3 3 3 3 3 3 3 3 3 3 3 3 3 3 3 3 3 3 3 2 3 3 3 4 e0
+1 2 0 4 0 0 10 0 10 10 0 10 2 5 5 12 5 10
 # the edges end and begin in the column of the points
 1 1 4 0 0 5 -5 10 0 5 5 3 5 0 5 6 5 -6 100
 # corners, points along edges and upright ones, and on their lines outside

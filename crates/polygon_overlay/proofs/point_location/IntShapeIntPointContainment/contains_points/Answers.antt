@@ -1,46 +1,24 @@
-use Rattle.std.proofs.Common.{◌≡◌, false, ◌∙◌, map, All, refl, sym, ap, subst}
+use Rattle.std.proofs.Common.{◌≡◌, map, All, sym, subst}
+use Rattle.std.specs.Prelude.{IfOk}
 use Rattle.std.proofs.lemmas.Result.{IfOk-weaker}
 use Rattle.plane_base.specs.GivenViews.{contours_of}
-use Rattle.plane_base.specs.Plane.{IsWithin}
+use Rattle.plane_base.specs.Plane.{Point, IsWithin}
 use Rattle.plane_base.specs.Views.{points_of}
+use Rattle.segment_arrangement.specs.FanLaws.{whole}
 use Rattle.polygon_overlay.specs.Location.{in_shape}
-use Rattle.polygon_overlay.specs.LocationViews.{located}
-use Rattle.polygon_overlay.proofs.LocationLaws.{IsUnderWay, all_even, begun, goes_on, all_found, located_from}
+use Rattle.polygon_overlay.proofs.LocationLaws.{located_from}
 use Rattle.polygon_overlay.proofs.point_location.IntShapeIntPointContainment.contains_points.Goals as goal
 
-pub locate_in_shape-requires-clause-in_range : goal.locate_in_shape-requires-clause-in_range
-locate_in_shape-requires-clause-in_range g c =
+pub shape_located-requires-clause-in_range : goal.shape_located-requires-clause-in_range
+shape_located-requires-clause-in_range g c =
     subst (λ cs. All (All (IsWithin g.I.OverlayInt.least g.I.OverlayInt.greatest)) (contours_of g.I.OverlayInt.value cs)) (sym c.deref.ensures.value) c.requires.in_range
-
-pub answers-requires : goal.answers-requires
-answers-requires g c =
-    let value = g.I.OverlayInt.value in
-    let points = c.args.points.now in
-    let contours = contours_of value c.args.self.now.contours.items in
-    let queries = c.in_ok-queries.queries in
-    let located_so = c.locate_in_shape.ensures ∙ ap (λ cs. map (located value (contours_of value cs)) c.deref_mut.result.now) c.deref.ensures.value in
-    let way = goes_on g.I.OverlayInt.least g.I.OverlayInt.greatest value points contours (λ _. false) (in_shape contours) (λ p. refl) queries.items c.deref_mut.result.now
-    c.locate_in_shape.new.queries queries.len c.deref_mut.ensures.value c.deref_mut.ensures.len located_so
-    (begun g.I.OverlayInt.least g.I.OverlayInt.greatest value points queries.items c.in_ok-queries.ensures.all c.in_ok-queries.ensures.ready) in
-    (subst (IsUnderWay g.I.OverlayInt.least g.I.OverlayInt.greatest value points (in_shape contours)) (sym c.deref-2.ensures.value) way).each
 
 pub returns-clause-located : goal.returns-clause-located
 returns-clause-located g c =
     let value = g.I.OverlayInt.value in
-    let points = c.args.points.now in
+    let points = points_of value c.args.points.now in
     let contours = contours_of value c.args.self.now.contours.items in
-    let queries = c.in_ok-queries.queries in
-    let located_so = c.locate_in_shape.ensures ∙ ap (λ cs. map (located value (contours_of value cs)) c.deref_mut.result.now) c.deref.ensures.value in
-    let way = goes_on g.I.OverlayInt.least g.I.OverlayInt.greatest value points contours (λ _. false) (in_shape contours) (λ p. refl) queries.items c.deref_mut.result.now
-    c.locate_in_shape.new.queries queries.len c.deref_mut.ensures.value c.deref_mut.ensures.len located_so
-    (begun g.I.OverlayInt.least g.I.OverlayInt.greatest value points queries.items c.in_ok-queries.ensures.all c.in_ok-queries.ensures.ready) in
-    let done = subst (IsUnderWay g.I.OverlayInt.least g.I.OverlayInt.greatest value points (in_shape contours)) (sym c.deref-2.ensures.value) way in
-    IfOk-weaker c.answers.result _ _ (λ found is. located_from contours (in_shape contours) (points_of value points) found.items is)
-    (c.answers.ensures.is (in_shape contours) (all_found value (in_shape contours) c.deref-2.result.now done.found))
-
-pub locate_in_shape-requires-clause-even : goal.locate_in_shape-requires-clause-even
-locate_in_shape-requires-clause-even g c =
-    let value = g.I.OverlayInt.value in
-    let queries = c.in_ok-queries.queries.items in
-    let way = begun g.I.OverlayInt.least g.I.OverlayInt.greatest value c.args.points.now queries c.in_ok-queries.ensures.all c.in_ok-queries.ensures.ready in
-    subst (All (λ q. q.is_odd ≡ false)) (sym c.deref_mut.ensures.value) (all_even value (λ _. false) queries way.found)
+    let located : IfOk c.shape_located.result (λ found. found.items ≡ map (λ (p : Point). in_shape contours (whole p)) points) =
+    subst (λ cs. IfOk c.shape_located.result (λ found. found.items ≡ map (λ (p : Point). in_shape (contours_of value cs) (whole p)) points)) c.deref.ensures.value
+    c.shape_located.ensures.located in
+    IfOk-weaker c.shape_located.result _ _ (λ found is. located_from contours (in_shape contours) points found.items is) located

@@ -1,0 +1,114 @@
+use Rattle.std.proofs.Common.{◌≡◌, ◌∙◌, ◌<◌, [], length, get_or, All, false, sym, ap, subst, arith}
+use Rattle.std.proofs.lemmas.Grind.{common_steps}
+use Rattle.std.specs.List.{AllZip}
+use Rattle.std.proofs.lemmas.Bool.{true≢false, false≢true}
+use Rattle.std.proofs.lemmas.List.{length-map}
+use Rattle.plane_base.specs.GivenViews.{contours_of}
+use Rattle.plane_base.specs.Plane.{IsWithin}
+use Rattle.plane_base.specs.Views.{point_of}
+use Rattle.plane_base.specs.declared.path.IntShape.{IntShape}
+use Rattle.plane_base.proofs.Facts.Lists.Views.{All-mapped}
+use Rattle.segment_arrangement.specs.FanLaws.{whole}
+use Rattle.contour_walk.specs.ShapeViews.{shapes_of}
+use Rattle.polygon_overlay.specs.Location.{is_on_edge}
+use Rattle.polygon_overlay.specs.Stretches.{IsOutlined}
+use Rattle.polygon_overlay.specs.declared.point_location.shape_index.Placed.{Placed}
+use Rattle.polygon_overlay.proofs.BorderLaws.{one_borders}
+use Rattle.polygon_overlay.proofs.IndexLaws.{zip_length, shape_at, outlined_at, number_inside, none_with_number}
+use Rattle.polygon_overlay.proofs.NoneLaws.{none_at_first}
+use Rattle.polygon_overlay.proofs.point_location.borders.some_borders.Given.{Over}
+use Rattle.polygon_overlay.proofs.point_location.borders.some_borders.Goals.{After-number_at-number}
+use Rattle.polygon_overlay.proofs.point_location.borders.some_borders.Goals as goal
+
+-- the shape's number is one of a shape
+within_shapes : (g : Over) (c : After-number_at-number g) → c.number_at-number.result < length c.args.shapes.now
+within_shapes g c =
+    number_inside c.args.order.now c.loop-place.place c.number_at-number.result (omega (arith, c.requires.within, c.loop-place-test.true)) c.number_at-number.ensures
+    (length c.args.shapes.now) c.requires.inside
+
+within_outlines : (g : Over) (c : After-number_at-number g) → c.number_at-number.result < length c.args.outlines.now
+within_outlines g c =
+    let value = g.I.OverlayInt.value in
+    let same = zip_length (λ cs os. AllZip (IsOutlined value) cs os.items) (shapes_of value c.args.shapes.now) c.args.outlines.now c.requires.outlined in
+    let long = length-map c.args.shapes.now (λ (s : IntShape g.row.I.Denot). contours_of value s.contours.items) in
+    let here = within_shapes g c in
+    omega (arith, same, long, here)
+
+pub loop-place-init : goal.loop-place-init
+loop-place-init g c =
+    let value = g.I.OverlayInt.value in
+    none_at_first (λ (s : Placed). is_on_edge (get_or (shapes_of value c.args.shapes.now) s.number []) (whole (point_of value c.args.point))) c.args.order.now c.args.first
+
+pub bounds-shapes-number : goal.bounds-shapes-number
+bounds-shapes-number g c = within_shapes g (goal.at.bounds-shapes-number g c).After-number_at-number
+
+pub bounds-outlines-number : goal.bounds-outlines-number
+bounds-outlines-number g c = within_outlines g (goal.at.bounds-outlines-number g c).After-number_at-number
+
+pub offset_bounds-shapes-number : goal.offset_bounds-shapes-number
+offset_bounds-shapes-number g c =
+    let here = within_shapes g (goal.at.offset_bounds-shapes-number g c).After-number_at-number in
+    grind (arith, common_steps, here)
+
+pub offset_bounds-outlines-number : goal.offset_bounds-outlines-number
+offset_bounds-outlines-number g c =
+    let here = within_outlines g (goal.at.offset_bounds-outlines-number g c).After-number_at-number in
+    grind (arith, common_steps, here)
+
+pub borders_shape-requires-clause-in_range : goal.borders_shape-requires-clause-in_range
+borders_shape-requires-clause-in_range g c =
+    let value = g.I.OverlayInt.value in
+    let within = All (IsWithin g.I.OverlayInt.least g.I.OverlayInt.greatest) in
+    subst (λ cs. All within (contours_of value cs)) (sym (c.deref.ensures.value ∙ ap (λ (s : IntShape g.row.I.Denot). s.contours.items) (sym c.index-shapes-number.is)))
+    (All-mapped (All within) (λ (s : IntShape g.row.I.Denot). contours_of value s.contours.items) c.args.shapes.now c.number_at-number.result
+    c.index-shapes-number.result (within_shapes g (goal.at.borders_shape-requires-clause-in_range g c).After-number_at-number) c.index-shapes-number.is
+    c.requires.in_range)
+
+pub borders_shape-requires-clause-outlined : goal.borders_shape-requires-clause-outlined
+borders_shape-requires-clause-outlined g c =
+    let value = g.I.OverlayInt.value in
+    let after = (goal.at.borders_shape-requires-clause-outlined g c).After-number_at-number in
+    let n = c.number_at-number.result in
+    let shape = c.index-shapes-number.result in
+    subst (λ cs. AllZip (IsOutlined value) (contours_of value cs) c.deref-in-loop-place.result.now) (sym (c.deref.ensures.value ∙ ap (λ (s : IntShape g.row.I.Denot). s.contours.items) (sym c.index-shapes-number.is)))
+    (subst (λ cs. AllZip (IsOutlined value) cs c.deref-in-loop-place.result.now)
+    (sym (shape_at value c.args.shapes.now n shape (within_shapes g after) c.index-shapes-number.is []))
+    (outlined_at value (shapes_of value c.args.shapes.now) c.args.outlines.now n c.index-outlines-number.result (within_outlines g after)
+    c.index-outlines-number.is c.deref-in-loop-place.result.now c.deref-in-loop-place.ensures.value c.requires.outlined))
+
+pub returns-then-borders_shape-clause-found : goal.returns-then-borders_shape-clause-found
+returns-then-borders_shape-clause-found g c = λ _.
+    let value = g.I.OverlayInt.value in
+    let p = whole (point_of value c.args.point) in
+    let shapes = shapes_of value c.args.shapes.now in
+    let n = c.number_at-number.result in
+    let shape = c.index-shapes-number.result in
+    let here = within_shapes g (goal.at.returns-then-borders_shape-clause-found g c).After-number_at-number in
+    let long = length-map c.args.shapes.now (λ (s : IntShape g.row.I.Denot). contours_of value s.contours.items) in
+    one_borders shapes (point_of value c.args.point) n (omega (arith, here, long))
+    (ap (λ cs. is_on_edge cs p) (sym (shape_at value c.args.shapes.now n shape here c.index-shapes-number.is []))
+    ∙ (ap (λ cs. is_on_edge (contours_of value cs) p) (sym (c.deref.ensures.value ∙ ap (λ (s : IntShape g.row.I.Denot). s.contours.items) (sym c.index-shapes-number.is))) ∙ (sym c.borders_shape.ensures ∙ c.if-borders_shape.true)))
+
+pub returns-then-borders_shape-clause-none : goal.returns-then-borders_shape-clause-none
+returns-then-borders_shape-clause-none g c = λ e. absurd (true≢false e)
+
+pub loop-place-preserved : goal.loop-place-preserved
+loop-place-preserved g c =
+    let value = g.I.OverlayInt.value in
+    let p = whole (point_of value c.args.point) in
+    let shapes = shapes_of value c.args.shapes.now in
+    let i = c.loop-place.place in
+    let n = c.number_at-number.result in
+    let shape = c.index-shapes-number.result in
+    let here = within_shapes g (goal.at.loop-place-preserved g c).After-number_at-number in
+    let lacks : is_on_edge (get_or shapes n []) p ≡ false =
+    ap (λ cs. is_on_edge cs p) (sym (shape_at value c.args.shapes.now n shape here c.index-shapes-number.is []))
+    ∙ (ap (λ cs. is_on_edge (contours_of value cs) p) (sym (c.deref.ensures.value ∙ ap (λ (s : IntShape g.row.I.Denot). s.contours.items) (sym c.index-shapes-number.is))) ∙ (sym c.borders_shape.ensures ∙ c.if-borders_shape.false)) in
+    none_with_number c.args.order.now i n (omega (arith, c.requires.within, c.loop-place-test.true)) c.number_at-number.ensures (λ m. is_on_edge (get_or shapes m []) p)
+    c.args.first lacks c.loop-place.invariant
+
+pub returns-clause-found : goal.returns-clause-found
+returns-clause-found g c = λ e. absurd (false≢true e)
+
+pub returns-clause-none : goal.returns-clause-none
+returns-clause-none g c = λ _ k d h l. c.loop-place.invariant k d h (omega (arith, l, h, c.loop-place-test.false))

@@ -1,0 +1,35 @@
+use Rattle.std.proofs.Common.{◌≡◌, ◌∙◌, ◌+◌, ◌-◌, ◌≤◌, length, sym, subst, arith}
+use Rattle.std.proofs.lemmas.List.{length-map}
+use Rattle.plane_base.specs.Views.{point_of, points_of}
+use Rattle.segment_arrangement.specs.FanLaws.{whole}
+use Rattle.contour_walk.specs.Walks.{contour_edges}
+use Rattle.polygon_overlay.specs.PointBoxes.{bounds_of}
+use Rattle.polygon_overlay.specs.Stretches.{IsParityBetween}
+use Rattle.polygon_overlay.proofs.OutlineLaws.{run_clear, run_under}
+use Rattle.polygon_overlay.proofs.point_location.outline.run_is_odd.Goals as goal
+
+pub returns-then-is_clear : goal.returns-then-is_clear
+returns-then-is_clear g c =
+    let value = g.I.OverlayInt.value in
+    let s = c.args.stretch in
+    let many : s.end ≡ s.first + (s.end - s.first) = omega (arith, c.requires.some) in
+    let within : s.end ≤ length (points_of value c.args.points.now) = let e = length-map c.args.points.now (point_of value) in omega (arith, e, c.requires.within) in
+    run_clear (points_of value c.args.points.now) (point_of value c.args.point) (bounds_of value s.bounds) (sym c.is_clear.ensures ∙ c.if-is_clear.true)
+    s.first (s.end - s.first) s.end many within c.requires.boxed
+
+pub returns-then-is_under : goal.returns-then-is_under
+returns-then-is_under g c =
+    let value = g.I.OverlayInt.value in
+    let points = points_of value c.args.points.now in
+    let p = point_of value c.args.point in
+    let s = c.args.stretch in
+    let many : s.end ≡ s.first + (s.end - s.first) = omega (arith, c.requires.some) in
+    let within : s.end ≤ length points = let e = length-map c.args.points.now (point_of value) in omega (arith, e, c.requires.within) in
+    subst (IsParityBetween (contour_edges points) (whole p) s.first s.end) (sym (c.ends_are_parted.ensures p))
+    (run_under points p (bounds_of value s.bounds) (sym c.is_under.ensures ∙ c.if-is_under.true) s.first (s.end - s.first) s.end many within c.requires.boxed p)
+
+pub edges_are_odd-requires-clause-ordered : goal.edges_are_odd-requires-clause-ordered
+edges_are_odd-requires-clause-ordered g c = omega (arith, c.requires.some)
+
+pub returns : goal.returns
+returns g c = c.edges_are_odd.ensures

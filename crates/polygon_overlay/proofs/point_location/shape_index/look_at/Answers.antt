@@ -1,0 +1,41 @@
+use Rattle.std.proofs.Common.{◌∙◌, inl, inr, refl, sym, arith}
+use Rattle.std.proofs.lemmas.Bool.{false≢true}
+use Rattle.plane_base.specs.Views.{point_of}
+use Rattle.contour_walk.specs.ShapeViews.{shapes_of}
+use Rattle.polygon_overlay.specs.PointBoxes.{bounds_of}
+use Rattle.polygon_overlay.proofs.IndexLaws.{field_off}
+use Rattle.polygon_overlay.proofs.point_location.shape_index.look_at.Goals as goal
+
+pub returns-then-opens-clause-fewer : goal.returns-then-opens-clause-fewer
+returns-then-opens-clause-fewer g c = omega arith
+
+pub returns-then-opens-clause-found : goal.returns-then-opens-clause-found
+returns-then-opens-clause-found g c = λ e. absurd (false≢true e)
+
+pub returns-then-opens-clause-looked : goal.returns-then-opens-clause-looked
+returns-then-opens-clause-looked g c = inl (refl, c.opens.ensures c.if-opens.true, refl)
+
+pub returns-then-is_off-clause-fewer : goal.returns-then-is_off-clause-fewer
+returns-then-is_off-clause-fewer g c = c.requires.earlier
+
+pub returns-then-is_off-clause-found : goal.returns-then-is_off-clause-found
+returns-then-is_off-clause-found g c = λ e. absurd (false≢true e)
+
+pub returns-then-is_off-clause-looked : goal.returns-then-is_off-clause-looked
+returns-then-is_off-clause-looked g c =
+    let value = g.I.OverlayInt.value in
+    let field = c.args.field in
+    inr (
+      refl,
+      λ _. field_off (shapes_of value c.args.shapes.now) c.args.order.now (point_of value c.args.point) (bounds_of value field.bounds) field.first field.end
+          c.requires.within c.requires.boxed (sym c.is_off.ensures ∙ c.if-is_off.true),
+    )
+
+pub returns-clause-fewer : goal.returns-clause-fewer
+returns-clause-fewer g c = c.requires.earlier
+
+pub returns-clause-found : goal.returns-clause-found
+returns-clause-found g c = c.some_has-is_so.ensures.found
+
+pub returns-clause-looked : goal.returns-clause-looked
+returns-clause-looked g c = inr (refl, c.some_has-is_so.ensures.none)
