@@ -1,2 +1,3 @@
+mod Contours
 mod Pieces
 mod Sets

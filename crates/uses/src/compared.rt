@@ -1,4 +1,4 @@
-//! Overlays beside one another: two solvers, and areas that add up.
+//! Overlays beside one another: two solvers, two types of coordinates, and areas that add up.
 
 ghost use Rattle.std.specs.Prelude.{◌≡◌, ◌-ℤ◌, IfOk};
 ghost use Rattle.polygon_overlay.specs.AreaLaws.{areas};
@@ -10,6 +10,7 @@ use polygon_overlay::arrangement::fill_rule::FillRule;
 use polygon_overlay::arrangement::overlay_rule::OverlayRule;
 use polygon_overlay::laws::{
     areas_add_up, holding_goes_on, order_does_not_matter, sources_are_held, strategies_agree,
+    widths_agree,
 };
 use polygon_overlay::overlay::Overlay;
 use polygon_overlay::plane::fault::Fault;
@@ -33,6 +34,23 @@ pub fn unions_of_both<I: OverlayInt>(
     let union = one.overlay(OverlayRule::Union, FillRule::NonZero)?;
     let again = other.overlay(OverlayRule::Union, FillRule::NonZero)?;
     Ok((union, again))
+}
+
+/// The union of what each of two builders holds, which is the same though their coordinates are of two types. Their options and the precision of their
+/// solvers are the same too: then both unions are one, contour for contour, in either type.
+pub fn unions_in_two_widths<I: OverlayInt, J: OverlayInt>(
+    narrow: &mut Overlay<I>,
+    wide: &mut Overlay<J>,
+) -> Result<(IntShapes<I>, IntShapes<J>), Fault>
+    requires held { held_by narrow.old ≡ held_by wide.old }
+    requires options { narrow.old.options ≡ wide.old.options }
+    requires precision { narrow.old.solver.precision ≡ wide.old.solver.precision }
+    ensures same { IfOk result (λ unions. shapes_of I.value unions.0.shapes.items ≡ shapes_of J.value unions.1.shapes.items) }
+{
+    widths_agree();
+    let before = narrow.overlay(OverlayRule::Union, FillRule::NonZero)?;
+    let now = wide.overlay(OverlayRule::Union, FillRule::NonZero)?;
+    Ok((before, now))
 }
 
 /// A land, what of it a flood leaves dry, and what it covers.

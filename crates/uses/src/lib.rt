@@ -4,6 +4,7 @@
 pub mod blocks;
 pub mod clips;
 pub mod compared;
+pub mod depths;
 pub mod difference;
 pub mod floods;
 pub mod intersection;
@@ -13,6 +14,8 @@ pub mod owners;
 pub mod parcels;
 pub mod queries;
 pub mod relations;
+pub mod sheets;
 pub mod simplification;
 pub mod slices;
+pub mod stores;
 pub mod tiles;
