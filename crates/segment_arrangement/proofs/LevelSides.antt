@@ -4,4 +4,6 @@ pub mod Rows
 pub mod Heights
 pub mod Pairs
 pub mod Uprights
-pub mod Bounds
+pub mod Halves
+pub mod Members
+pub mod Costs

@@ -1,9 +1,11 @@
 -- The level edges that a sweep passed, a row for each height at which such edges run.
-use Rattle.std.specs.Prelude.{◌≡◌, ℕ, ◌+◌, ◌*◌, ◌/◌, ◌<◌, ◌≤◌, ℤ, ◌≤ℤ◌, ◌<ℤ◌, int_lt, Bool, true, false, Option, Some, None}
-use Rattle.std.specs.Prelude.{List, take, length, slice_index_or, AllPairs, Contains}
+use Rattle.std.specs.Prelude.{◌≡◌, ℕ, ◌+◌, ◌*◌, ◌^◌, ◌<◌, ◌≤◌, ℤ, ◌≤ℤ◌, ◌<ℤ◌, int_lt, Bool, true, false, Option, Some, None}
+use Rattle.std.specs.Prelude.{List, take, drop, length, slice_index_or, AllPairs, Contains}
+use Rattle.i_tree.specs.Steps.{Counts, CountsExactly}
 use Rattle.plane_base.specs.Plane.{Edge}
 use Rattle.plane_base.specs.Counts.{Count, Entry}
 use Rattle.plane_base.specs.Views.{point_of}
+use Rattle.segment_split.specs.Ranks.{is_member, members}
 use Rattle.segment_arrangement.specs.EdgeSides.{lower_side, upper_side}
 use Rattle.segment_arrangement.specs.declared.level_sides.LevelEnd.{LevelEnd}
 use Rattle.segment_arrangement.specs.declared.level_sides.LevelRows.{LevelRows}
@@ -36,10 +38,11 @@ pub record IsHeight {I : Type 0} (value : I → ℤ) (heights : List I) (y : ℤ
   pub within : place < length heights
   pub is : (d : I) → value (slice_index_or heights place d) ≡ y
 
--- the heights at which edges of the map run, rising
+-- the heights at which edges of the map run, rising, no more than edges
 pub record AreHeights {I : Type 0} (value : I → ℤ) (es : List (Entry Count)) (heights : List I) : Type 0 where
   pub rising : AllPairs (λ y z. value y <ℤ value z) heights
   pub all : (e : Entry Count) → Contains es e → e.edge.a.x <ℤ e.edge.b.x → IsHeight value heights e.edge.a.y
+  pub few : length heights ≤ length es
 
 -- each row holds the last end of the first n edges at its height
 pub record HoldEnds {I : Type 0} (value : I → ℤ) (es : List (Entry Count)) (n : ℕ) (heights : List I) (ends : List (Option (LevelEnd I))) : Type 0 where
@@ -74,26 +77,23 @@ abbrev pub is_live_row : {I : Type 0} → (I → ℤ) → ℤ → Option (LevelE
 is_live_row value x None = false
 is_live_row value x (Some end) = int_lt x (value end.x)
 
--- A bound for each block of so many rows: a row that ends beyond a column has a bound beyond it.
-pub record AreBounds {I : Type 0} (value : I → ℤ) (size : ℕ) (ends : List (Option (LevelEnd I))) (bounds : List ℤ) : Type 0 where
-  pub enough : length ends ≤ length bounds * size
-  pub low : (r : ℕ) (d : Option (LevelEnd I)) (b x : ℤ) → r < length ends → slice_index_or bounds (r / size) b ≤ℤ x →
-      is_live_row value x (slice_index_or ends r d) ≡ false
+-- The members are places of rows, among them each that reaches beyond the column x.
+pub record MayLive {I : Type 0} (value : I → ℤ) (x : ℤ) (ends : List (Option (LevelEnd I))) (live : List Bool) : Type 0 where
+  pub one_each : length live ≡ length ends
+  pub all : (r : ℕ) (d : Option (LevelEnd I)) → r < length ends → is_live_row value x (slice_index_or ends r d) ≡ true → is_member live r ≡ true
 
--- a block ends before this place, and its bound isn't beyond the column x
-pub record IsPassed (size place : ℕ) (bounds : List ℤ) (x : ℤ) : Type 0 where
-  pub whole : size ≤ place
-  pub low : (i : ℕ) (b : ℤ) → place ≤ i + size → i < place → slice_index_or bounds (i / size) b ≤ℤ x
-
--- these rows hold the last ends of the first n edges, with bounds by blocks, by spans and by regions
-pub record HoldBounded {I : Type 0} (value : I → ℤ) (es : List (Entry Count)) (n : ℕ) (heights : List I) (ends : List (Option (LevelEnd I))) (blocks spans regions : List ℤ) : Type 0 where
+-- These rows hold the last ends of the first n edges, and the members are enough for each edge to come.
+pub record HoldRows {I : Type 0} (value : I → ℤ) (es : List (Entry Count)) (n : ℕ) (heights : List I) (ends : List (Option (LevelEnd I))) (live : List Bool) : Type 0 where
   pub hold : HoldEnds value es n heights ends
-  pub by_blocks : AreBounds value 8 ends blocks
-  pub by_spans : AreBounds value 128 ends spans
-  pub by_regions : AreBounds value 4096 ends regions
+  pub may : (e : Entry Count) → Contains (drop n es) e → MayLive value e.edge.a.x ends live
 
 abbrev pub AreRows : {I W : Type 0} → (I → ℤ) → List (Entry Count) → ℕ → LevelRows I W → Type 0
-AreRows value es n rows = HoldBounded value es n rows.heights.items rows.ends.items rows.block_bounds.items rows.span_bounds.items rows.region_bounds.items
+AreRows value es n rows = HoldRows value es n rows.heights.items rows.ends.items rows.live
+
+-- the heights stay, and what is kept of an upright edge
+pub record KeepsHeights {I W : Type 0} (old new : LevelRows I W) : Type 0 where
+  pub heights : new.heights.items ≡ old.heights.items
+  pub upright : new.upright ≡ old.upright
 
 -- the row at the place r reaches beyond the column x, and none from there up to the place `before`
 pub record IsLiveBelow {I : Type 0} (value : I → ℤ) (x : ℤ) (ends : List (Option (LevelEnd I))) (before r : ℕ) : Type 0 where
@@ -105,3 +105,27 @@ pub record IsLiveBelow {I : Type 0} (value : I → ℤ) (x : ℤ) (ends : List (
 abbrev pub IsGreatestLive : {I : Type 0} → (I → ℤ) → ℤ → List (Option (LevelEnd I)) → ℕ → Option ℕ → Type 0
 IsGreatestLive value x ends before None = (i : ℕ) (d : _) → i < before → is_live_row value x (slice_index_or ends i d) ≡ false
 IsGreatestLive value x ends before (Some r) = IsLiveBelow value x ends before r
+
+-- ---- how many comparisons
+
+-- So many halves lead to a place among so many heights: enough to tell all places apart, and no more than that takes.
+pub record AreHalves (heights halves : ℕ) : Type 0 where
+  pub enough : heights + 2 ≤ 2 * 2 ^ halves
+  pub few : 2 ^ halves ≤ 2 * heights + 1
+
+-- the comparison that finds an answer, if there is one
+abbrev pub finding : Option ℕ → ℕ
+finding None = 0
+finding (Some _) = 1
+
+-- Each comparison takes a member out, but for the one that finds the answer.
+pub record TakesOut (old new : Counts) (live live' : List Bool) (found : Option ℕ) : Type 0 where
+  pub gone : ℕ
+  pub members : members live' + gone ≡ members live
+  pub counted : CountsExactly old new (gone + finding found)
+
+-- The comparisons, and with them the members as comparisons to come, rise by no more than one number is above another.
+pub record CountsWithMembers (old new : Counts) (live live' : List Bool) (low high : ℕ) : Type 0 where
+  pub never_falls : old.comparisons ≤ new.comparisons
+  pub bound : new.comparisons + members live' + low ≤ old.comparisons + members live + high
+  pub pairs : new.pairs ≡ old.pairs

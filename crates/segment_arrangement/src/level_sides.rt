@@ -1,10 +1,22 @@
 //! The sides of the edges of an arrangement, all level or upright, by one pass over their starts.
 //!
 //! A row for each height at which level edges run holds where the last of them ends that was passed, and what lies above it. What
-//! lies below a point is what lies above the edge of the highest row below it that reaches beyond its column.
+//! lies below a point is what lies above the edge of the highest row below it that reaches beyond its column; or, where an upright
+//! edge ends there, what lies to the right of that edge.
+//!
+//! A set keeps the places of the rows that may reach beyond the column. The search takes its members from the highest below the point
+//! downward. It takes out each that doesn't reach beyond the column, which never does later, and ends at the first that does.
+//!
+//! Each test of a row is counted as a comparison. It finds the answer or takes a member out, and each level edge puts one in at most, so
+//! there are no more such tests than starts and level edges together. The place of a start's height is guessed, which takes two
+//! comparisons, and else found by halves, which takes one for each binary digit of the number of heights at most. So n edges, at least
+//! 64 of them, take 4nk comparisons at most, where k is the greatest with 2^k up to n + 1. What a search in the set reads besides is
+//! said at `Ranks`: a few words, and at worst one for each 2^18 rows.
 
-ghost use Rattle.std.specs.Prelude.{◌≡◌, ℕ, false, ◌+◌, ◌-◌, ◌<◌, ◌≤◌, ◌^◌, ◌⊎◌, ◌<ℤ◌};
-ghost use Rattle.std.specs.Prelude.{Some, length, map, take, drop, slice_index_or, filter, List, AllPairs, Contains, OnOk, IfOk, IfErr, IsTrue};
+ghost use Rattle.std.specs.Prelude.{◌≡◌, ℕ, false, ◌+◌, ◌-◌, ◌*◌, ◌<◌, ◌≤◌, ◌^◌, ◌⊎◌, ◌<ℤ◌, int_lt};
+ghost use Rattle.std.specs.Prelude.{Some, None, length, map, take, drop, slice_index_or, filter, List, AllPairs, Contains, OnOk, IfOk, IfErr, IsTrue};
+ghost use Rattle.i_tree.specs.Steps.{CountsExactly, CountsAtMost};
+ghost use Rattle.i_tree.specs.TreeBound.{most_comparisons};
 ghost use Rattle.plane_base.specs.Plane.{Point};
 ghost use Rattle.plane_base.specs.Counts.{Entry, Count as Windings};
 ghost use Rattle.plane_base.specs.Views.{point_of};
@@ -14,14 +26,16 @@ ghost use Rattle.plane_base.specs.declared.fault.Fault.TheVariants.{Count, Memor
 ghost use Rattle.segment_split.specs.Kinds.{count_fits};
 ghost use Rattle.segment_split.specs.LineLaws.{is_level_or_upright, AllLevelOrUpright};
 ghost use Rattle.segment_split.specs.Passes.{edges_of};
+ghost use Rattle.segment_split.specs.Ranks.{members};
 ghost use Rattle.segment_split.specs.SegmentViews.{AreWithin};
 ghost use Rattle.segment_arrangement.specs.EdgeSides.{lower_side, upper_side};
 ghost use Rattle.segment_arrangement.specs.FanLaws.{whole, starts_at};
-ghost use Rattle.segment_arrangement.specs.LevelRows.{AreHeights, AreRows, AreBounds, HoldsUpright, IsPlaceOf, IsGreatestLive, is_live_row};
+ghost use Rattle.segment_arrangement.specs.LevelRows.{AreHeights, AreRows, HoldsUpright, IsPlaceOf, MayLive, IsGreatestLive, is_live_row};
+ghost use Rattle.segment_arrangement.specs.LevelRows.{KeepsHeights, AreHalves, TakesOut, CountsWithMembers};
 ghost use Rattle.segment_arrangement.specs.RuleViews.{fill_rule_of};
 ghost use Rattle.segment_arrangement.specs.Seen.{seen_of, all_seen, fill_told};
 ghost use Rattle.segment_arrangement.specs.SideLaws.{IsArrangement};
-ghost use Rattle.segment_arrangement.specs.Sweeps.{IsHandled, IsRefused, HasSideOutOfRange};
+ghost use Rattle.segment_arrangement.specs.Sweeps.{IsHandled, IsRefused, HasSideOutOfRange, slanted, calls_of};
 ghost use Rattle.segment_arrangement.specs.SweepViews.{sides_of_segment, AreStartsAt};
 
 use crate::count::FilledCount;
@@ -29,8 +43,8 @@ use crate::fan_list::end_of_fan;
 use crate::fan_sides::sides_of;
 use crate::fill_rule::FillRule;
 use crate::handler::FillHandler;
-use crate::level_bounds::{lay_bounds, passes_block, raise_bound};
 use crate::sweep::{Fans, SegmentSides, tell};
+use i_tree::Steps;
 use plane_base::equality::equality_of_segments;
 use plane_base::fault::Fault;
 use plane_base::int::OverlayInt;
@@ -38,15 +52,10 @@ use plane_base::point::IntPoint;
 use plane_base::segment::XSegment;
 use segment_split::count::ShapeCountBoolean;
 use segment_split::guesses::Guesses;
+use segment_split::level::ranks::Ranks;
 use segment_split::segment::Segment;
 use std::alloc::Global;
-
-// How many rows have a bound in common: those of a block, of a span of blocks, and of a region of spans.
-const BLOCK: usize = 8;
-
-const SPAN: usize = 128;
-
-const REGION: usize = 4096;
+use std::sync::ledger::Ledger;
 
 /// Where a level edge ends, and what lies above it.
 #[derive(Clone, Copy)]
@@ -62,17 +71,14 @@ pub(crate) struct UprightEnd<I> {
     right: ShapeCountBoolean,
 }
 
-/// The rows of level edges, by rising heights.
+/// The rows of level edges, by rising heights, and the last upright edge.
 #[derive(Drop)]
 pub(crate) struct LevelRows<I: OverlayInt> {
     heights: Vec<I>,
     ends: Vec<Option<LevelEnd<I>>>,
-    // bounds on the ends of the rows of each block, span and region
-    block_bounds: Vec<i64>,
-    span_bounds: Vec<i64>,
-    region_bounds: Vec<i64>,
-    // the place of the last start's height
-    place: usize,
+    // the places of rows that may reach beyond the sweep's column
+    live: Ranks,
+    upright: Option<UprightEnd<I>>,
     // where each height may stand
     guesses: Guesses,
 }
@@ -83,10 +89,8 @@ impl<I: OverlayInt> LevelRows<I> {
         LevelRows {
             heights: Vec::new(alloc),
             ends: Vec::new(alloc),
-            block_bounds: Vec::new(alloc),
-            span_bounds: Vec::new(alloc),
-            region_bounds: Vec::new(alloc),
-            place: 0,
+            live: Ranks::empty(alloc),
+            upright: None,
             guesses: Guesses::new(alloc),
         }
     }
@@ -140,6 +144,7 @@ fn push_height<I: OverlayInt>(
 ) -> Result<(), Fault>
     ensures own { OnOk result (I.value segment.a.x <ℤ I.value segment.b.x → Contains heights.new.items segment.a.y) }
     ensures kept { OnOk result ((y : _) → Contains heights.old.items y → Contains heights.new.items y) }
+    ensures few { OnOk result (length heights.new.items ≤ length heights.old.items + 1) }
     ensures err { IfErr result (λ fault. fault ≡ Memory) }
 {
     let XSegment { a, b } = segment;
@@ -176,6 +181,8 @@ fn lay_rows<C: FilledCount, I: OverlayInt, D>(
 ) -> Result<(), Fault>
     ensures heights { OnOk result (AreHeights I.value (all_seen C.sides I.value segments.now) rows.new.heights.items) }
     ensures ends { OnOk result (AreRows I.value (all_seen C.sides I.value segments.now) 0 rows.new) }
+    ensures upright { OnOk result (rows.new.upright ≡ None) }
+    ensures none { OnOk result (members rows.new.live ≡ 0) }
     ensures err { IfErr result (λ fault. fault ≡ Memory) }
 {
     rows.guesses.reset(segments.len())?;
@@ -183,74 +190,115 @@ fn lay_rows<C: FilledCount, I: OverlayInt, D>(
     tell_places(&mut rows.guesses, &rows.heights);
     rows.ends.clear();
     rows.ends.resize(rows.heights.len(), None)?;
-    lay_bounds(&mut rows.block_bounds, rows.heights.len(), BLOCK)?;
-    lay_bounds(&mut rows.span_bounds, rows.heights.len(), SPAN)?;
-    lay_bounds(&mut rows.region_bounds, rows.heights.len(), REGION)?;
-    rows.place = 0;
+    rows.live.reset(rows.heights.len())?;
+    rows.upright = None;
     Ok(())
 }
 
+// Whether the height at a place is below another, by one comparison.
+fn is_below<I: OverlayInt, L: Ledger>(
+    heights: &[I],
+    place: usize,
+    y: I,
+    steps: &mut Steps<L>,
+) -> bool
+    requires within { place < length heights.now }
+    ensures is { (d : _) → result ≡ int_lt (I.value (slice_index_or heights.now place d)) (I.value y) }
+    ensures cost { CountsExactly steps.old steps.new 1 }
+{
+    steps.tick_comparison();
+    heights[place].to_i64() < y.to_i64()
+}
+
 // Whether this many heights are below this one.
-fn is_place_of<I: OverlayInt>(heights: &[I], y: I, place: usize) -> bool
+fn is_place_of<I: OverlayInt, L: Ledger>(
+    heights: &[I],
+    y: I,
+    place: usize,
+    steps: &mut Steps<L>,
+) -> bool
     requires rising { AllPairs (λ y z. I.value y <ℤ I.value z) heights.now }
-    ensures { IsTrue result → IsPlaceOf I.value heights.now (I.value y) place }
+    ensures is { IsTrue result → IsPlaceOf I.value heights.now (I.value y) place }
+    ensures cost { CountsAtMost steps.old steps.new 2 }
 {
     if place > heights.len() {
         return false;
     }
-    if place > 0 && y.to_i64() <= heights[place - 1].to_i64() {
+    if place > 0 && !is_below(heights, place - 1, y, steps) {
         return false;
     }
-    place == heights.len() || y.to_i64() <= heights[place].to_i64()
+    place == heights.len() || !is_below(heights, place, y, steps)
+}
+
+// How many heights are below this one, by halves.
+fn place_by_halves<I: OverlayInt, L: Ledger>(heights: &[I], y: I, steps: &mut Steps<L>) -> usize
+    requires rising { AllPairs (λ y z. I.value y <ℤ I.value z) heights.now }
+    ensures is { IsPlaceOf I.value heights.now (I.value y) result }
+    ensures halves { (halves : ℕ) × (CountsExactly steps.old steps.new halves × AreHalves (length heights.now) halves) }
+{
+    let mut low = 0;
+    let mut high = heights.len();
+    while low < high {
+        let middle = low + (high - low) / 2;
+        if is_below(heights, middle, y, steps) {
+            low = middle + 1;
+        } else {
+            high = middle;
+        }
+    }
+    low
 }
 
 // How many heights are below this one, by a search that tries a place first.
-fn place_of<I: OverlayInt>(heights: &[I], y: I, near: usize) -> usize
+fn place_of<I: OverlayInt, L: Ledger>(
+    heights: &[I],
+    y: I,
+    near: usize,
+    steps: &mut Steps<L>,
+) -> usize
     requires rising { AllPairs (λ y z. I.value y <ℤ I.value z) heights.now }
-    ensures { IsPlaceOf I.value heights.now (I.value y) result }
+    ensures is { IsPlaceOf I.value heights.now (I.value y) result }
+    ensures cost { (halves : ℕ) × ((2 ^ halves ≤ 2 * length heights.now + 1) × CountsAtMost steps.old steps.new (halves + 2)) }
 {
-    if is_place_of(heights, y, near) {
+    if is_place_of(heights, y, near, steps) {
         return near;
     }
-    heights.partition_point(|height: &I| height.to_i64() < y.to_i64())
+    place_by_halves(heights, y, steps)
 }
 
-// Whether the row reaches beyond a column.
-fn is_live<I: OverlayInt>(row: Option<LevelEnd<I>>, x: I) -> bool
-    ensures { result ≡ is_live_row I.value (I.value x) row }
+// Whether the row reaches beyond a column, by one comparison.
+fn is_live<I: OverlayInt, L: Ledger>(row: Option<LevelEnd<I>>, x: I, steps: &mut Steps<L>) -> bool
+    ensures is { result ≡ is_live_row I.value (I.value x) row }
+    ensures cost { CountsExactly steps.old steps.new 1 }
 {
+    steps.tick_comparison();
     match row {
         Some(end) => x.to_i64() < end.x.to_i64(),
         None => false,
     }
 }
 
-// The greatest place below this one whose row reaches beyond a column.
-fn live_below<I: OverlayInt>(rows: &LevelRows<I>, before: usize, x: I) -> Option<usize>
-    requires within { before ≤ length rows.now.ends.items }
-    requires blocks { AreBounds I.value 8 rows.now.ends.items rows.now.block_bounds.items }
-    requires spans { AreBounds I.value 128 rows.now.ends.items rows.now.span_bounds.items }
-    requires regions { AreBounds I.value 4096 rows.now.ends.items rows.now.region_bounds.items }
-    ensures { IsGreatestLive I.value (I.value x) rows.now.ends.items before result }
+// The greatest place below this one whose row reaches beyond a column. Takes out the rows above that don't.
+fn live_below<I: OverlayInt, L: Ledger>(
+    ends: &[Option<LevelEnd<I>>],
+    live: &mut Ranks,
+    before: usize,
+    x: I,
+    steps: &mut Steps<L>,
+) -> Option<usize>
+    requires within { before ≤ length ends.now }
+    requires may { MayLive I.value (I.value x) ends.now live.old }
+    ensures is { IsGreatestLive I.value (I.value x) ends.now before result }
+    ensures may { MayLive I.value (I.value x) ends.now live.new }
+    ensures counted { TakesOut steps.old steps.new live.old live.new result }
 {
-    let mut place = before;
-    while place > 0 {
-        if passes_block(&rows.region_bounds, REGION, place, x) {
-            place -= REGION;
-            continue;
-        }
-        if passes_block(&rows.span_bounds, SPAN, place, x) {
-            place -= SPAN;
-            continue;
-        }
-        if passes_block(&rows.block_bounds, BLOCK, place, x) {
-            place -= BLOCK;
-            continue;
-        }
-        place -= 1;
-        if is_live(rows.ends[place], x) {
+    let mut left = before;
+    while let Some(place) = live.last_between(0, left) {
+        if is_live(ends[place], x, steps) {
             return Some(place);
         }
+        live.change(place, false);
+        left = place;
     }
     None
 }
@@ -265,54 +313,66 @@ fn top_of<I: OverlayInt>(row: Option<LevelEnd<I>>) -> ShapeCountBoolean
     }
 }
 
-// What lies below a point at which segments start, from the rows of those that start before it.
-fn below_by_rows<C: FilledCount, I: OverlayInt, D>(
+// What lies below a point at which segments start, from the rows below the place of its height.
+fn below_by_rows<C: FilledCount, I: OverlayInt, D, L: Ledger>(
     segments: &[Segment<C, I, D>],
     from: usize,
     to: usize,
     start: IntPoint<I>,
-    rows: &LevelRows<I>,
+    before: usize,
+    rows: &mut LevelRows<I>,
+    steps: &mut Steps<L>,
 ) -> ShapeCountBoolean
     requires arrangement { IsArrangement (all_seen C.sides I.value segments.now) }
     requires level { AllLevelOrUpright (edges_of (all_seen C.sides I.value segments.now)) }
-    requires order { from ≤ to }
+    requires some { from < to }
+    requires within { to ≤ length segments.now }
     requires starts { AreStartsAt (all_seen C.sides I.value segments.now) (point_of I.value start) from to }
-    requires heights { AreHeights I.value (all_seen C.sides I.value segments.now) rows.now.heights.items }
-    requires ends { AreRows I.value (all_seen C.sides I.value segments.now) from rows.now }
-    ensures { result ≡ winding (all_seen C.sides I.value segments.now) (whole (point_of I.value start)) }
+    requires heights { AreHeights I.value (all_seen C.sides I.value segments.now) rows.old.heights.items }
+    requires ends { AreRows I.value (all_seen C.sides I.value segments.now) from rows.old }
+    requires place { IsPlaceOf I.value rows.old.heights.items (I.value start.y) before }
+    ensures is { result ≡ winding (all_seen C.sides I.value segments.now) (whole (point_of I.value start)) }
+    ensures stay { KeepsHeights rows.old rows.new }
+    ensures ends { AreRows I.value (all_seen C.sides I.value segments.now) from rows.new }
+    ensures cost { CountsWithMembers steps.old steps.new rows.old.live rows.new.live 0 1 }
 {
-    let before = place_of(&rows.heights, start.y, rows.place);
-    match live_below(rows, before, start.x) {
+    match live_below(&rows.ends, &mut rows.live, before, start.x, steps) {
         Some(place) => top_of(rows.ends[place]),
         None => ShapeCountBoolean { subj: 0, clip: 0 },
     }
 }
 
 // What lies below a point at which segments start: to the right of an upright one that ends there, or else by the rows.
-fn below_level_start<C: FilledCount, I: OverlayInt, D>(
+fn below_level_start<C: FilledCount, I: OverlayInt, D, L: Ledger>(
     segments: &[Segment<C, I, D>],
     from: usize,
     to: usize,
     start: IntPoint<I>,
-    rows: &LevelRows<I>,
-    upright: Option<UprightEnd<I>>,
+    before: usize,
+    rows: &mut LevelRows<I>,
+    steps: &mut Steps<L>,
 ) -> ShapeCountBoolean
     requires arrangement { IsArrangement (all_seen C.sides I.value segments.now) }
     requires level { AllLevelOrUpright (edges_of (all_seen C.sides I.value segments.now)) }
-    requires order { from ≤ to }
+    requires some { from < to }
+    requires within { to ≤ length segments.now }
     requires starts { AreStartsAt (all_seen C.sides I.value segments.now) (point_of I.value start) from to }
-    requires heights { AreHeights I.value (all_seen C.sides I.value segments.now) rows.now.heights.items }
-    requires ends { AreRows I.value (all_seen C.sides I.value segments.now) from rows.now }
-    requires upright { HoldsUpright I.value (all_seen C.sides I.value segments.now) upright }
-    ensures { result ≡ winding (all_seen C.sides I.value segments.now) (whole (point_of I.value start)) }
+    requires heights { AreHeights I.value (all_seen C.sides I.value segments.now) rows.old.heights.items }
+    requires ends { AreRows I.value (all_seen C.sides I.value segments.now) from rows.old }
+    requires upright { HoldsUpright I.value (all_seen C.sides I.value segments.now) rows.old.upright }
+    requires place { IsPlaceOf I.value rows.old.heights.items (I.value start.y) before }
+    ensures is { result ≡ winding (all_seen C.sides I.value segments.now) (whole (point_of I.value start)) }
+    ensures stay { KeepsHeights rows.old rows.new }
+    ensures ends { AreRows I.value (all_seen C.sides I.value segments.now) from rows.new }
+    ensures cost { CountsWithMembers steps.old steps.new rows.old.live rows.new.live 0 1 }
 {
     equality_of_segments::<I>();
-    if let Some(end) = upright {
+    if let Some(end) = rows.upright {
         if end.point == start {
             return end.right;
         }
     }
-    below_by_rows(segments, from, to, start, rows)
+    below_by_rows(segments, from, to, start, before, rows, steps)
 }
 
 // The end of a segment that is upright, with what lies to its right, in place of the one that was kept.
@@ -331,11 +391,12 @@ fn upright_end<I: OverlayInt>(
     kept
 }
 
-// Keeps the end of a segment that isn't upright, with what lies above it.
+// Keeps the end of a segment that isn't upright, with what lies above it, in the row of its height, which is at the place.
 fn keep_level<C: FilledCount, I: OverlayInt, D>(
     segments: &[Segment<C, I, D>],
     at: usize,
     top: ShapeCountBoolean,
+    place: usize,
     rows: &mut LevelRows<I>,
 )
     requires arrangement { IsArrangement (all_seen C.sides I.value segments.now) }
@@ -343,19 +404,19 @@ fn keep_level<C: FilledCount, I: OverlayInt, D>(
     requires within { at < length segments.now }
     requires upper { (d : _) →
         top ≡ upper_side (all_seen C.sides I.value segments.now) (seen_of C.sides I.value (slice_index_or segments.now at d)) }
+    requires place { (d : _) → IsPlaceOf I.value rows.old.heights.items (I.value (slice_index_or segments.now at d).x_segment.a.y) place }
     requires heights { AreHeights I.value (all_seen C.sides I.value segments.now) rows.old.heights.items }
     requires ends { AreRows I.value (all_seen C.sides I.value segments.now) at rows.old }
-    ensures heights { rows.new.heights.items ≡ rows.old.heights.items }
+    ensures stay { KeepsHeights rows.old rows.new }
     ensures ends { AreRows I.value (all_seen C.sides I.value segments.now) (at + 1) rows.new }
+    ensures few { members rows.new.live + slanted (take at (all_seen C.sides I.value segments.now))
+        ≤ members rows.old.live + slanted (take (at + 1) (all_seen C.sides I.value segments.now)) }
 {
     let segment = segments[at].x_segment;
     let XSegment { a, b } = segment;
     if a.x.to_i64() < b.x.to_i64() {
-        let place = place_of(&rows.heights, a.y, rows.place);
         rows.ends[place] = Some(LevelEnd { x: b.x, top });
-        raise_bound(&mut rows.block_bounds, place / BLOCK, b.x);
-        raise_bound(&mut rows.span_bounds, place / SPAN, b.x);
-        raise_bound(&mut rows.region_bounds, place / REGION, b.x);
+        rows.live.change(place, true);
     }
 }
 
@@ -394,19 +455,20 @@ fn sides_of_pair<C: FilledCount, I: OverlayInt, D>(
 }
 
 // Finds the sides of the segments that start at one point, and keeps the ends of those that aren't upright.
-fn level_fan<C: FilledCount, I: OverlayInt, D>(
+fn level_fan<C: FilledCount, I: OverlayInt, D, L: Ledger>(
     rule: FillRule,
     segments: &[Segment<C, I, D>],
     from: usize,
     to: usize,
     rows: &mut LevelRows<I>,
     fans: &mut Fans<I>,
-    upright: &mut Option<UprightEnd<I>>,
+    steps: &mut Steps<L>,
 ) -> Result<(), Fault>
     requires in_range { AreWithin I.least I.greatest (all_seen C.sides I.value segments.now) }
     requires arrangement { IsArrangement (all_seen C.sides I.value segments.now) }
     requires level { AllLevelOrUpright (edges_of (all_seen C.sides I.value segments.now)) }
     requires few { length segments.now < 2 ^ 31 }
+    requires many { 64 ≤ length segments.now }
     requires some { from < to }
     requires within { to ≤ length segments.now }
     requires together { (i : ℕ) (d : _) → from ≤ i → i < to →
@@ -415,9 +477,9 @@ fn level_fan<C: FilledCount, I: OverlayInt, D>(
         AreStartsAt (all_seen C.sides I.value segments.now) (point_of I.value (slice_index_or segments.now from d).x_segment.a) from to }
     requires heights { AreHeights I.value (all_seen C.sides I.value segments.now) rows.old.heights.items }
     requires ends { AreRows I.value (all_seen C.sides I.value segments.now) from rows.old }
-    requires upright { HoldsUpright I.value (all_seen C.sides I.value segments.now) upright.old }
+    requires upright { HoldsUpright I.value (all_seen C.sides I.value segments.now) rows.old.upright }
     ensures heights { rows.new.heights.items ≡ rows.old.heights.items }
-    ensures upright { OnOk result (HoldsUpright I.value (all_seen C.sides I.value segments.now) upright.new) }
+    ensures upright { OnOk result (HoldsUpright I.value (all_seen C.sides I.value segments.now) rows.new.upright) }
     ensures ends { OnOk result (AreRows I.value (all_seen C.sides I.value segments.now) to rows.new) }
     ensures len { OnOk result (length fans.new.sides.items ≡ to - from) }
     ensures fills { OnOk result (map (λ s. s.fill) fans.new.sides.items
@@ -425,23 +487,27 @@ fn level_fan<C: FilledCount, I: OverlayInt, D>(
         (take (to - from) (drop from segments.now))) }
     ensures err { IfErr result (λ fault.
         (fault ≡ Memory) ⊎ ((fault ≡ Count) × HasSideOutOfRange (all_seen C.sides I.value segments.now))) }
+    ensures cost { CountsWithMembers steps.old steps.new rows.old.live rows.new.live
+        (calls_of (take from (all_seen C.sides I.value segments.now)) * most_comparisons (length segments.now))
+        (calls_of (take to (all_seen C.sides I.value segments.now)) * most_comparisons (length segments.now)) }
 {
     let start = segments[from].x_segment.a;
     let near = rows.guesses.place(start.y.to_i64());
-    rows.place = place_of(&rows.heights, start.y, near);
-    let below = below_level_start(segments, from, to, start, rows, *upright);
+    let place = place_of(&rows.heights, start.y, near, steps);
+    let below = below_level_start(segments, from, to, start, place, rows, steps);
     let right = sides_of_pair(rule, &segments[from..to], below, &mut fans.sides)?;
-    keep_fan(segments, from, to, &fans.sides, rows);
-    *upright = upright_end(segments[from].x_segment, right, *upright);
+    keep_fan(segments, from, to, &fans.sides, place, rows);
+    rows.upright = upright_end(segments[from].x_segment, right, rows.upright);
     Ok(())
 }
 
-// Keeps the ends of those segments of a fan that aren't upright.
+// Keeps the ends of those segments of a fan that aren't upright, all in the row of the fan's height.
 fn keep_fan<C: FilledCount, I: OverlayInt, D>(
     segments: &[Segment<C, I, D>],
     from: usize,
     to: usize,
     sides: &[SegmentSides],
+    place: usize,
     rows: &mut LevelRows<I>,
 )
     requires arrangement { IsArrangement (all_seen C.sides I.value segments.now) }
@@ -452,29 +518,35 @@ fn keep_fan<C: FilledCount, I: OverlayInt, D>(
     requires uppers { (i : ℕ) (d : _) (e : _) → i < to - from →
         (slice_index_or sides.now i e).top ≡ upper_side (all_seen C.sides I.value segments.now)
         (seen_of C.sides I.value (slice_index_or segments.now (from + i) d)) }
+    requires place { (i : ℕ) (d : _) → from ≤ i → i < to →
+        IsPlaceOf I.value rows.old.heights.items (I.value (slice_index_or segments.now i d).x_segment.a.y) place }
     requires heights { AreHeights I.value (all_seen C.sides I.value segments.now) rows.old.heights.items }
     requires ends { AreRows I.value (all_seen C.sides I.value segments.now) from rows.old }
-    ensures heights { rows.new.heights.items ≡ rows.old.heights.items }
+    ensures stay { KeepsHeights rows.old rows.new }
     ensures ends { AreRows I.value (all_seen C.sides I.value segments.now) to rows.new }
+    ensures few { members rows.new.live + slanted (take from (all_seen C.sides I.value segments.now))
+        ≤ members rows.old.live + slanted (take to (all_seen C.sides I.value segments.now)) }
 {
     for i in from..to {
-        keep_level(segments, i, sides[i - from].top, rows);
+        keep_level(segments, i, sides[i - from].top, place, rows);
     }
 }
 
 /// Tells the handler each segment of an arrangement with its fill, in their order, until it breaks off: the sweep where all are
 /// level or upright.
-pub(crate) fn sweep_levels<C: FilledCount, I: OverlayInt, D, H: FillHandler<C, I, D>>(
+pub(crate) fn sweep_levels<C: FilledCount, I: OverlayInt, D, H: FillHandler<C, I, D>, L: Ledger>(
     rule: FillRule,
     segments: &[Segment<C, I, D>],
     rows: &mut LevelRows<I>,
     fans: &mut Fans<I>,
     mut handler: H,
+    steps: &mut Steps<L>,
 ) -> Result<H::Output, Fault>
     requires in_range { AreWithin I.least I.greatest (all_seen C.sides I.value segments.now) }
     requires arrangement { IsArrangement (all_seen C.sides I.value segments.now) }
     requires level { AllLevelOrUpright (edges_of (all_seen C.sides I.value segments.now)) }
     requires few { length segments.now < 2 ^ 31 }
+    requires many { 64 ≤ length segments.now }
     ensures ok { IfOk result (λ output. IsHandled (λ h n s. H.handles h n s.x_segment s.count s.datum) H.finishes
         (fill_told C.filled I.value (fill_rule_of rule) (all_seen C.sides I.value segments.now))
         0 segments.now handler output) }
@@ -482,13 +554,14 @@ pub(crate) fn sweep_levels<C: FilledCount, I: OverlayInt, D, H: FillHandler<C, I
         ⊎ IsRefused (λ h n s. H.handles h n s.x_segment s.count s.datum) (λ h n s. H.refuses h n s.x_segment s.count s.datum)
         (fill_told C.filled I.value (fill_rule_of rule) (all_seen C.sides I.value segments.now)) 0 segments.now handler fault
         ⊎ ((fault ≡ Count) × HasSideOutOfRange (all_seen C.sides I.value segments.now))) }
+    ensures cost { CountsAtMost steps.old steps.new
+        (calls_of (all_seen C.sides I.value segments.now) * most_comparisons (length segments.now)) }
 {
     lay_rows(rows, segments)?;
-    let mut upright = None;
     let mut from = 0;
     while from < segments.len() {
         let to = end_of_fan(segments, from);
-        level_fan(rule, segments, from, to, rows, fans, &mut upright)?;
+        level_fan(rule, segments, from, to, rows, fans, steps)?;
         if let Some(output) = tell(&segments[from..to], from, &fans.sides, &mut handler)? {
             return Ok(output);
         }

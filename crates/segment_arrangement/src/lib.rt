@@ -22,7 +22,6 @@ pub mod filter;
 pub mod graph;
 pub mod handler;
 pub mod laws;
-mod level_bounds;
 mod level_sides;
 pub mod link;
 mod live;

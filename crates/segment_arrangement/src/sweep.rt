@@ -10,6 +10,7 @@ ghost use Rattle.plane_base.specs.declared.fault.Fault.TheVariants.{Count, Memor
 ghost use Rattle.segment_split.specs.LineLaws.{AllLevelOrUpright};
 ghost use Rattle.segment_split.specs.Passes.{edges_of};
 ghost use Rattle.segment_split.specs.SegmentViews.{AreWithin};
+ghost use Rattle.segment_split.specs.declared.solver.Strategy.TheVariants.{Auto};
 ghost use Rattle.segment_arrangement.specs.EdgeSides.{upper_side};
 ghost use Rattle.segment_arrangement.specs.RuleViews.{fill_rule_of};
 ghost use Rattle.segment_arrangement.specs.Seen.{seen_of, all_seen, fill_told};
@@ -128,7 +129,14 @@ impl<I: OverlayInt> SweepRunner<I> {
             );
         }
         if goes_by_levels(solver.strategy, segments) {
-            return sweep_levels(rule, segments, &mut self.levels, &mut self.fans, handler);
+            return sweep_levels(
+                rule,
+                segments,
+                &mut self.levels,
+                &mut self.fans,
+                handler,
+                steps,
+            );
         }
         if stands_in_row(solver.strategy, segments) {
             self.row.clear();
@@ -164,12 +172,13 @@ fn stands_on_list(strategy: Strategy, number: usize) -> bool
     }
 }
 
-// Whether a sweep that needs no list goes by the rows of level edges, which compares nothing.
+// Whether a sweep that needs no list goes by the rows of level edges. They bound its comparisons as a tree does.
 fn goes_by_levels<C: FilledCount, I: OverlayInt, D>(
     strategy: Strategy,
     segments: &[Segment<C, I, D>],
 ) -> bool
-    ensures { IsTrue result → AllLevelOrUpright (edges_of (all_seen C.sides I.value segments.now)) }
+    ensures level { IsTrue result → AllLevelOrUpright (edges_of (all_seen C.sides I.value segments.now)) }
+    ensures strategy { IsTrue result → strategy ≡ Auto }
 {
     matches!(strategy, Strategy::Auto) && are_level_or_upright(segments)
 }

@@ -1,17 +1,17 @@
 -- The heights at which edges run, and rows in which there is nothing yet.
-use Rattle.std.proofs.Common.{◌≡◌, ℕ, ◌+◌, ◌<◌, ◌≤◌, ℤ, ◌<ℤ◌, Bool, true, ◌⊎◌, inl, inr, Option, None, List, [], length, map, get_or, replicate, All, Contains, sym, ap, subst, ◌∙◌, arith}
+use Rattle.std.proofs.Common.{◌≡◌, ℕ, ◌+◌, ◌<◌, ◌≤◌, ℤ, ◌<ℤ◌, Bool, true, false, ◌⊎◌, inl, inr, Option, None, List, [], ◌∷◌, length, map, get_or, replicate, All, Contains, sym, ap, subst, ◌∙◌, arith}
 use Rattle.std.specs.Cmp.{IsEquivalence, IsTotalOrder}
-use Rattle.std.specs.List.{dedup}
+use Rattle.std.specs.List.{dedup, items_where_true}
 use Rattle.std.specs.List.Retain.{IsFiltered, DiffersFromLast}
 use Rattle.std.specs.List.Sorted.{IsPermutation, IsSorted}
 use Rattle.std.specs.Ordering.{int_cmp, eq_by_cmp}
 use Rattle.std.specs.declared.cmp.Ordering.{Ordering}
 use Rattle.std.proofs.lemmas.Bool.{cases_lt}
-use Rattle.std.proofs.lemmas.List.{get_or_default, length-replicate, get_or-replicate}
+use Rattle.std.proofs.lemmas.List.{get_or_default, length-map, length-replicate, get_or-replicate}
 use Rattle.std.proofs.lemmas.List.Elements.{All-map, All-contains}
 use Rattle.std.proofs.lemmas.List.Filters.{dedup_is}
 use Rattle.std.proofs.lemmas.List.Kept.{Contains-dedup, IsStrictlySortedBy-dedup}
-use Rattle.std.proofs.lemmas.List.Sorted.{Contains-permutation}
+use Rattle.std.proofs.lemmas.List.Sorted.{Contains-permutation, length_permutation}
 use Rattle.std.proofs.lemmas.Map.Keys.{Less-from_sorted}
 use Rattle.plane_base.specs.Counts.{Count, Entry}
 use Rattle.plane_base.proofs.Facts.Points.Orders.{int_less, int_equal, is_equal}
@@ -40,6 +40,12 @@ one_tested P segments n s within is new old i d l = by (cases_lt i n)
 
 -- ---- heights
 
+no_more_picked : {X : Type 0} (bs : List Bool) (xs : List X) → length (items_where_true bs xs) ≤ length xs
+no_more_picked [] xs = omega arith
+no_more_picked (b ∷ bs) [] = omega arith
+no_more_picked (true ∷ bs) (x ∷ xs) = let rest = no_more_picked bs xs in omega (arith, rest)
+no_more_picked (false ∷ bs) (x ∷ xs) = let rest = no_more_picked bs xs in omega (arith, rest)
+
 module _ {I : Type 0} (value : I → ℤ) (cmp : I → I → Ordering) (same : I → I → Bool) (total : IsTotalOrder cmp) (ordered : (a b : I) → cmp a b ≡ int_cmp (value a) (value b)) (equivalence : IsEquivalence same) (ties : (a b : I) → same a b ≡ eq_by_cmp cmp a b) (value_tells : (a b : I) → value a ≡ value b → a ≡ b) where
   tells : (a b : I) → same a b ≡ true → a ≡ b
   tells a b e = value_tells a b (int_equal (value a) (value b) (sym (ordered a b) ∙ is_equal (cmp a b) (sym (ties a b) ∙ e)))
@@ -47,8 +53,8 @@ module _ {I : Type 0} (value : I → ℤ) (cmp : I → I → Ordering) (same : I
   pub are_heights :
       {X : Type 0} (entry : X → Entry Count) (segments : List X) (height : X → I) → ((s : X) → value (height s) ≡ (entry s).edge.a.y) → (found sorted kept : List I)
       → ((i : ℕ) (d : X) → i < length segments → (entry (get_or segments i d)).edge.a.x <ℤ (entry (get_or segments i d)).edge.b.x → Contains found (height (get_or segments i d)))
-      → IsPermutation found sorted → IsSorted cmp sorted → IsFiltered (DiffersFromLast same) [] sorted kept → AreHeights value (map entry segments) kept
-  are_heights {X} entry segments height heights found sorted kept each moved up filtered = record {
+      → length found ≤ length segments → IsPermutation found sorted → IsSorted cmp sorted → IsFiltered (DiffersFromLast same) [] sorted kept → AreHeights value (map entry segments) kept
+  are_heights {X} entry segments height heights found sorted kept each fewer moved up filtered = record {
     rising = λ i j d l m.
         int_less (value (get_or kept i d)) (value (get_or kept j d))
         (sym (ordered (get_or kept i d) (get_or kept j d)) ∙ Less-from_sorted cmp kept i j d (rw is (IsStrictlySortedBy-dedup total ties sorted up)) l m);
@@ -57,6 +63,9 @@ module _ {I : Type 0} (value : I → ℤ) (cmp : I → I → Ordering) (same : I
         (from_places entry segments (λ e. e.edge.a.x <ℤ e.edge.b.x → IsHeight value kept e.edge.a.y)
         (λ i d l w. subst (IsHeight value kept) (heights (get_or segments i d)) (height_at (height (get_or segments i d)) (in_kept (height (get_or segments i d)) (each i d l w)))))
         here wide;
+    few =
+        let picked : length kept ≤ length sorted = rw filtered.4 (no_more_picked filtered.0 sorted) in
+        omega (arith, picked, length_permutation found sorted moved, fewer, length-map segments entry);
   }
     where
       is : kept ≡ dedup same sorted

@@ -1,7 +1,6 @@
 -- What the rows tell of a point at which edges start, and how they are kept from edge to edge.
-use Rattle.std.proofs.Common.{◌≡◌, ◌≢◌, ℕ, ◌+◌, ◌-◌, ◌<◌, ◌≤◌, ◌⊎◌, inl, inr, ℤ, ◌≤ℤ◌, ◌<ℤ◌, int_lt, true, false, Option, Some, None, List, [], ◌∷◌, ◌++◌, length, map, take, get_or, set, AllPairs, Contains, refl, sym, ap, subst, ◌∙◌, arith}
+use Rattle.std.proofs.Common.{◌≡◌, ◌≢◌, ℕ, ◌+◌, ◌-◌, ◌<◌, ◌≤◌, ◌⊎◌, inl, inr, ℤ, ◌≤ℤ◌, ◌<ℤ◌, true, false, Option, Some, None, List, [], ◌∷◌, ◌++◌, length, map, take, get_or, set, AllPairs, Contains, refl, sym, ap, subst, ◌∙◌, arith}
 use Rattle.std.specs.Cmp.{int_cmp_is}
-use Rattle.std.specs.List.Sorted.{IsPartitionedBy}
 use Rattle.std.specs.Ordering.{int_cmp, int_eq, is_lt}
 use Rattle.std.specs.declared.cmp.Ordering.TheVariants.{Less, Equal}
 use Rattle.std.proofs.lemmas.Bool.{false≢true, cases_lt}
@@ -101,17 +100,6 @@ place_between {I} value y heights place rising within before at = record {
     by_others : (i : ℕ) (d : I) → place ≤ i → i < length heights → (place < i) ⊎ (i ≤ place) → y ≤ℤ value (get_or heights i d)
     by_others i d g l (inl m) = let up = rising place i d m l in let high = at d (omega (arith, m, l)) in omega (arith, ints, up, high)
     by_others i d g l (inr h) = let same : place ≡ i = omega (arith, g, h) in subst (λ k. y ≤ℤ value (get_or heights k d)) same (at d (omega (arith, same, l)))
-
--- those below a height come first
-pub parted_by_height : {I : Type 0} (value : I → ℤ) (y : ℤ) (heights : List I) → AllPairs (λ y z. value y <ℤ value z) heights → IsPartitionedBy (λ (h : I). int_lt (value h) y) heights
-parted_by_height {I} value y heights rising i j d l m left = by (cases_lt i j)
-  where
-    further : (a b : ℤ) → a <ℤ b → int_lt b y ≡ true → int_lt a y ≡ true
-    further a b n e = grind (arith, ints, n, e)
-
-    by : (i < j) ⊎ (j ≤ i) → int_lt (value (get_or heights i d)) y ≡ true
-    by (inl n) = further (value (get_or heights i d)) (value (get_or heights j d)) (rising i j d n m) left
-    by (inr n) = let e : j ≡ i = omega (arith, l, n) in subst (λ k. int_lt (value (get_or heights k d)) y ≡ true) e left
 
 -- ---- what lies below a point at which edges start
 

@@ -1,10 +1,13 @@
-use Rattle.std.proofs.Common.{◌≡◌}
-use Rattle.segment_arrangement.specs.LevelRows.{AreRows}
+use Rattle.std.proofs.Common.{◌+◌, ◌≤◌, take}
+use Rattle.segment_split.specs.Ranks.{members}
+use Rattle.segment_arrangement.specs.LevelRows.{AreRows, KeepsHeights}
 use Rattle.segment_arrangement.specs.Seen.{all_seen}
+use Rattle.segment_arrangement.specs.Sweeps.{slanted}
 use Rattle.segment_arrangement.proofs.level_sides.keep_fan.Given as goal
 
 abbrev pub invariant-loop-i : goal.invariant-loop-i
 invariant-loop-i g l = record {
-  heights : l.rows.heights.items ≡ l.fn.rows.heights.items;
+  stay : KeepsHeights l.fn.rows l.rows;
   ends : AreRows g.I.OverlayInt.value (all_seen g.C.FilledCount.sides g.I.OverlayInt.value l.segments) l.i l.rows;
+  few : members l.rows.live + slanted (take l.from (all_seen g.C.FilledCount.sides g.I.OverlayInt.value l.segments)) ≤ members l.fn.rows.live + slanted (take l.i (all_seen g.C.FilledCount.sides g.I.OverlayInt.value l.segments));
 }

@@ -1,9 +1,13 @@
-use Rattle.std.proofs.Common.{◌≡◌, ◌+◌, ◌-◌, ◌≤◌, inl, inr, length, take, drop, sym, ap, subst, arith}
+use Rattle.std.proofs.Common.{◌≡◌, ◌+◌, ◌-◌, ◌*◌, ◌≤◌, inl, inr, [], length, take, drop, sym, ap, subst, arith}
 use Rattle.std.proofs.lemmas.List.{drop_all}
 use Rattle.std.proofs.lemmas.Result.{err_from_is_err_and}
+use Rattle.i_tree.specs.TreeBound.{most_comparisons}
 use Rattle.plane_base.specs.Views.{point_of}
-use Rattle.segment_arrangement.specs.LevelRows.{AreHeights}
+use Rattle.segment_arrangement.specs.LevelRows.{AreHeights, HoldsUpright}
 use Rattle.segment_arrangement.specs.RuleViews.{fill_rule_of}
+use Rattle.segment_arrangement.specs.Sweeps.{calls_of}
+use Rattle.segment_arrangement.proofs.LevelSides.Costs.{nothing_yet, and_then, in_all}
+use Rattle.segment_arrangement.proofs.Sweeps.Calls.{calls_whole}
 use Rattle.segment_arrangement.proofs.Sweeps.Fans.{as_found, fan_length, fan_and_rest, starts_there, seam_after, known_by_values}
 use Rattle.segment_arrangement.proofs.Sweeps.Seams.{first_seam}
 use Rattle.segment_arrangement.specs.Seen.{seen_of, all_seen, fill_told}
@@ -39,6 +43,10 @@ loop-from-preserved g c = record {
   heights = subst (AreHeights g.I.OverlayInt.value (all_seen g.C.FilledCount.sides g.I.OverlayInt.value c.args.segments.now)) (sym c.level_fan.ensures.heights) c.loop-from.invariant.heights;
   ends = c.in_ok-level_fan.ensures.ends;
   upright = c.in_ok-level_fan.ensures.upright;
+  cost =
+      let es = all_seen g.C.FilledCount.sides g.I.OverlayInt.value c.args.segments.now in
+      let most = most_comparisons (length c.args.segments.now) in
+      and_then _ _ _ [] _ _ 0 (calls_of (take c.loop-from.from es) * most) (calls_of (take c.end_of_fan-to.result es) * most) c.loop-from.invariant.cost c.level_fan.ensures.cost;
   led = λ output told.
       let value = g.I.OverlayInt.value in
       let es = all_seen g.C.FilledCount.sides value c.args.segments.now in
@@ -82,10 +90,56 @@ loop-from-init g c = record {
   seam = first_seam (all_seen g.C.FilledCount.sides g.I.OverlayInt.value c.args.segments.now);
   heights = c.in_ok-lay_rows.ensures.heights;
   ends = c.in_ok-lay_rows.ensures.ends;
-  upright = tt;
+  upright = subst (HoldsUpright g.I.OverlayInt.value (all_seen g.C.FilledCount.sides g.I.OverlayInt.value c.args.segments.now)) (sym c.in_ok-lay_rows.ensures.upright) tt;
+  cost = nothing_yet c.args.steps.now c.lay_rows.new.rows.live _ c.in_ok-lay_rows.ensures.none;
   led = λ output told. told;
   so_far = λ fault refused. refused;
 }
 
 pub returns-clause-ok : goal.returns-clause-ok
 returns-clause-ok g c = c.loop-from.invariant.led c.finish.result (rw (drop_all c.loop-from.from c.args.segments.now (omega arith)) c.finish.ensures)
+
+pub returns-clause-cost : goal.returns-clause-cost
+returns-clause-cost g c =
+    let es = all_seen g.C.FilledCount.sides g.I.OverlayInt.value c.args.segments.now in
+    let most = most_comparisons (length c.args.segments.now) in
+    in_all _ _ _ (calls_of (take c.loop-from.from es)) (calls_of es) most c.loop-from.invariant.cost (calls_whole es c.loop-from.from c.loop-from.invariant.seam)
+
+pub returns-in_err-level_fan-clause-cost : goal.returns-in_err-level_fan-clause-cost
+returns-in_err-level_fan-clause-cost g c =
+    let value = g.I.OverlayInt.value in
+    let es = all_seen g.C.FilledCount.sides value c.args.segments.now in
+    let from = c.loop-from.from in
+    let to = c.end_of_fan-to.result in
+    let fan = c.end_of_fan-to.ensures in
+    let most = most_comparisons (length c.args.segments.now) in
+    in_all _ _ _ (calls_of (take to es)) (calls_of es) most (and_then _ _ _ [] _ _ 0 (calls_of (take from es) * most) (calls_of (take to es) * most) c.loop-from.invariant.cost c.level_fan.ensures.cost)
+    (calls_whole es to
+    (seam_after (seen_of g.C.FilledCount.sides value) c.args.segments.now from to c.requires.arrangement.rising fan.beyond fan.within c.loop-from.invariant.seam (λ d i l m. ap (point_of value) (fan.together i d l m))
+    (λ d l same. fan.ended d l (known_by_values value g.met.I.OverlayInt.value_tells _ _ same))))
+
+pub returns-in_err-output-clause-cost : goal.returns-in_err-output-clause-cost
+returns-in_err-output-clause-cost g c =
+    let value = g.I.OverlayInt.value in
+    let es = all_seen g.C.FilledCount.sides value c.args.segments.now in
+    let from = c.loop-from.from in
+    let to = c.end_of_fan-to.result in
+    let fan = c.end_of_fan-to.ensures in
+    let most = most_comparisons (length c.args.segments.now) in
+    in_all _ _ _ (calls_of (take to es)) (calls_of es) most (and_then _ _ _ [] _ _ 0 (calls_of (take from es) * most) (calls_of (take to es) * most) c.loop-from.invariant.cost c.level_fan.ensures.cost)
+    (calls_whole es to
+    (seam_after (seen_of g.C.FilledCount.sides value) c.args.segments.now from to c.requires.arrangement.rising fan.beyond fan.within c.loop-from.invariant.seam (λ d i l m. ap (point_of value) (fan.together i d l m))
+    (λ d l same. fan.ended d l (known_by_values value g.met.I.OverlayInt.value_tells _ _ same))))
+
+pub returns-in-Some-clause-cost : goal.returns-in-Some-clause-cost
+returns-in-Some-clause-cost g c =
+    let value = g.I.OverlayInt.value in
+    let es = all_seen g.C.FilledCount.sides value c.args.segments.now in
+    let from = c.loop-from.from in
+    let to = c.end_of_fan-to.result in
+    let fan = c.end_of_fan-to.ensures in
+    let most = most_comparisons (length c.args.segments.now) in
+    in_all _ _ _ (calls_of (take to es)) (calls_of es) most (and_then _ _ _ [] _ _ 0 (calls_of (take from es) * most) (calls_of (take to es) * most) c.loop-from.invariant.cost c.level_fan.ensures.cost)
+    (calls_whole es to
+    (seam_after (seen_of g.C.FilledCount.sides value) c.args.segments.now from to c.requires.arrangement.rising fan.beyond fan.within c.loop-from.invariant.seam (λ d i l m. ap (point_of value) (fan.together i d l m))
+    (λ d l same. fan.ended d l (known_by_values value g.met.I.OverlayInt.value_tells _ _ same))))

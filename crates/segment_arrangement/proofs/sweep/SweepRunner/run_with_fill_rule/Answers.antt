@@ -1,11 +1,12 @@
-use Rattle.std.proofs.Common.{◌+◌, ◌*◌, ◌≤◌, length, arith}
+use Rattle.std.proofs.Common.{◌≡◌, ◌+◌, ◌*◌, ◌≤◌, false, ltb, length, sym, subst, ◌∙◌, arith}
+use Rattle.std.proofs.lemmas.Bool.{ltb-false}
 use Rattle.std.proofs.lemmas.List.{length-map}
 use Rattle.std.proofs.lemmas.Result.{IfOk-weaker}
 use Rattle.i_tree.specs.TreeBound.{greatest_power}
 use Rattle.segment_arrangement.proofs.Sweeps.Calls.{calls_of-le, with_tree}
 use Rattle.plane_base.specs.SegmentViews.{edge_of}
 use Rattle.segment_arrangement.specs.RuleViews.{fill_rule_of}
-use Rattle.segment_arrangement.specs.Sweeps.{calls_of}
+use Rattle.segment_arrangement.specs.Sweeps.{calls_of, stands_on_list}
 use Rattle.segment_arrangement.proofs.Facts.GroupSides.{handled_alone}
 use Rattle.segment_arrangement.specs.Seen.{seen_of, all_seen}
 use Rattle.segment_arrangement.proofs.sweep.SweepRunner.run_with_fill_rule.Goals as goal
@@ -25,6 +26,21 @@ returns-then-stands_in_row-clause-tree_cost g c = λ tree.
     let n = length c.args.segments.now in
     let few : calls_of es ≤ 2 * n = omega (arith, calls_of-le es, length-map c.args.segments.now (seen_of g.C.FilledCount.sides value)) in
     with_tree _ _ (calls_of es) n (greatest_power n (n + 1)) few c.sweep-then-stands_in_row.ensures.cost
+
+pub sweep_levels-requires-clause-many : goal.sweep_levels-requires-clause-many
+sweep_levels-requires-clause-many g c =
+    let n = length c.args.segments.now in
+    let tree : stands_on_list c.args.solver.now.strategy n ≡ false = sym c.stands_on_list.ensures ∙ c.if-stands_on_list.false in
+    let few : ltb n 64 ≡ false = subst (λ s. stands_on_list s n ≡ false) (c.goes_by_levels.ensures.strategy c.if-goes_by_levels.true) tree in
+    ltb-false n 64 few
+
+pub returns-then-goes_by_levels-clause-tree_cost : goal.returns-then-goes_by_levels-clause-tree_cost
+returns-then-goes_by_levels-clause-tree_cost g c = λ tree.
+    let value = g.I.OverlayInt.value in
+    let es = all_seen g.C.FilledCount.sides value c.args.segments.now in
+    let n = length c.args.segments.now in
+    let few : calls_of es ≤ 2 * n = omega (arith, calls_of-le es, length-map c.args.segments.now (seen_of g.C.FilledCount.sides value)) in
+    with_tree _ _ (calls_of es) n (greatest_power n (n + 1)) few c.sweep_levels.ensures.cost
 
 pub returns-clause-alone : goal.returns-clause-alone
 returns-clause-alone g c =
