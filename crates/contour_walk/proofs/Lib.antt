@@ -5,6 +5,7 @@ pub mod Facts
 pub mod Walks
 pub mod Straight
 pub mod Binding
+pub mod RoundNodes
 mod Binder
 mod Linear
 mod LaidFlat

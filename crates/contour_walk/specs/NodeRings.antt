@@ -1,5 +1,5 @@
 -- The links round a node in their order, with ways over those that are passed.
-use Rattle.std.specs.Prelude.{◌≡◌, ◌⊎◌, ℕ, ◌<◌, ◌≤◌, ℤ, pos, ◌<ℤ◌, Bool, true, false, List, ◌++◌, map, length, slice_index_or, All, AllPairs, IsPermutation}
+use Rattle.std.specs.Prelude.{◌≡◌, ◌⊎◌, ℕ, ◌+◌, ◌-◌, ◌<◌, ◌≤◌, ◌==◌, ℤ, pos, ◌<ℤ◌, Bool, true, false, cond, List, ◌++◌, map, length, slice_index_or, All, AllPairs, IsPermutation}
 use Rattle.plane_base.specs.Plane.{Point, Edge, turn}
 use Rattle.plane_base.specs.Views.{point_of}
 use Rattle.segment_arrangement.specs.declared.graph.VisitState.{VisitState}
@@ -59,20 +59,28 @@ numbered_spokes value spokes = map (λ s. numbered value s.far s.place) spokes
 abbrev pub AreToLeft : Point → List Numbered → Type 0
 AreToLeft v ns = AllPairs (λ n m. pos 0 <ℤ turn v n.point m.point) ns
 
--- The ring of a node: the links that were left there when it was made, in the order in which they are met on turning
--- counterclockwise from straight down, first those that start there, then those that end there. The ways lead over passed ones.
+-- These are the links of the node at v that are left, in the order in which they are met on turning counterclockwise from straight down: so many
+-- that start there, then those that end there.
+pub record AreRound {I : Type 0} (value : I → ℤ) (edges : List Edge) (states : List VisitState) (v : Point) (spokes : List (Spoke I)) (first : ℕ) : Type 0 where
+  pub starts : List Numbered
+  pub ends : List Numbered
+  pub parts : numbered_spokes value spokes ≡ starts ++ ends
+  pub as_many : length starts ≡ first
+  pub all_starts : IsPermutation (spokes_from 0 true v edges states) starts
+  pub all_ends : IsPermutation (spokes_from 0 false v edges states) ends
+  pub starts_rise : AreToLeft v starts
+  pub ends_rise : AreToLeft v ends
+
+-- the place that follows one of n on turning so
+abbrev pub place_after : Bool → ℕ → ℕ → ℕ
+place_after clockwise n i = cond clockwise (cond (i == 0) (n - 1) (i - 1)) (cond (i + 1 == n) 0 (i + 1))
+
+-- The ring of a node: the links that were left there when it was made, in order. The ways lead over passed ones.
 pub record IsRing {I : Type 0} (value : I → ℤ) (edges : List Edge) (states : List VisitState) (r : Ring I) : Type 0 where
   pub older : List VisitState
   pub beside : length older ≡ length edges
   pub since : StayPassed older states
-  pub starts : List Numbered
-  pub ends : List Numbered
-  pub parts : numbered_spokes value r.spokes.items ≡ starts ++ ends
-  pub as_many : length starts ≡ r.starts
-  pub all_starts : IsPermutation (spokes_from 0 true (point_of value r.center) edges older) starts
-  pub all_ends : IsPermutation (spokes_from 0 false (point_of value r.center) edges older) ends
-  pub starts_rise : AreToLeft (point_of value r.center) starts
-  pub ends_rise : AreToLeft (point_of value r.center) ends
+  pub round : AreRound value edges older (point_of value r.center) r.spokes.items r.starts
   pub inside : All (λ s. s.place < length edges) r.spokes.items
   pub ahead : LeadAhead (length r.spokes.items) (IsPassed states r.spokes.items) r.ahead.items
   pub back : LeadBack (length r.spokes.items) (IsPassed states r.spokes.items) r.back.items

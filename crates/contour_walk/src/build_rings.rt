@@ -1,6 +1,6 @@
 //! The rings of a graph's nodes of many links.
 
-ghost use Rattle.std.specs.Prelude.{◌≡◌, ℕ, ◌+◌, ◌<◌, ◌≤◌, ◌++◌, length, slice_index_or, IfOk, IfSome, OnOk, IsOkUnless};
+ghost use Rattle.std.specs.Prelude.{◌≡◌, ℕ, ◌+◌, ◌<◌, ◌≤◌, length, slice_index_or, IfOk, IfSome, OnOk, IsOkUnless};
 ghost use Rattle.plane_base.specs.Plane.{IsWithin};
 ghost use Rattle.plane_base.specs.Views.{point_of};
 ghost use Rattle.segment_arrangement.specs.Graphs.{ends_of};
@@ -9,11 +9,10 @@ ghost use Rattle.contour_walk.specs.LinearViews.{link_edges, IsWalkable};
 ghost use Rattle.contour_walk.specs.NodeRings.{AreRings, IsRing};
 
 use crate::rings::{Ring, Rings};
-use crate::sorting::{rise, sorted_spokes};
-use crate::spoke::{Spoke, places_at, places_of};
+use crate::spoke::{places_at, places_of};
+use crate::spokes::Spokes;
 use plane_base::fault::Fault;
 use plane_base::int::OverlayInt;
-use plane_base::point::IntPoint;
 use plane_base::segment::IdPoint;
 use segment_arrangement::graph::{OverlayGraph, VisitState};
 use std::alloc::Global;
@@ -129,53 +128,30 @@ fn ring_of<I: OverlayInt, D>(
     ensures memory { IsOkUnless result Fault.Memory }
 {
     let places = places_at(graph, at);
-    let starts = sorted_spokes(alloc, graph.links(), states, places, true, at.point)?;
-    let ends = sorted_spokes(alloc, graph.links(), states, places, false, at.point)?;
-    if !rise(at.point, &starts) || !rise(at.point, &ends) {
+    let Some(spokes) = Spokes::around(alloc, graph.links(), places, states, at.point)? else {
         return Ok(None);
-    }
-    let ring = join_sides(alloc, at.point, starts, ends)?;
+    };
+    let ring = with_ways(alloc, spokes)?;
     Ok(Some(ring))
 }
 
-// The ring of links that start at a node and of those that end there, with ways from each to the next.
-fn join_sides<I: OverlayInt>(
-    alloc: Global,
-    center: IntPoint<I>,
-    starts: Vec<Spoke<I>>,
-    ends: Vec<Spoke<I>>,
-) -> Result<Ring<I>, Fault>
-    ensures center { IfOk result (λ ring. ring.center ≡ center) }
-    ensures spokes { IfOk result (λ ring. ring.spokes.items ≡ starts.items ++ ends.items) }
-    ensures starts { IfOk result (λ ring. ring.starts ≡ length starts.items) }
-    ensures beside { IfOk result (λ ring. (length ring.ahead.items ≡ length ring.spokes.items) × (length ring.back.items ≡ length ring.spokes.items)) }
-    ensures ahead { IfOk result (λ ring. (i : ℕ) → i < length ring.spokes.items → slice_index_or ring.ahead.items i 0 ≡ 1 + i) }
-    ensures back { IfOk result (λ ring. (i : ℕ) → i < length ring.spokes.items → slice_index_or ring.back.items i 0 ≡ 0 + i) }
+// The ring of links, with ways from each to the next.
+fn with_ways<I: OverlayInt>(alloc: Global, spokes: Spokes<I>) -> Result<Ring<I>, Fault>
+    ensures links { IfOk result (λ ring. (ring.center ≡ spokes.center) × (ring.spokes.items ≡ spokes.spokes.items) × (ring.starts ≡ spokes.starts)) }
+    ensures beside { IfOk result (λ ring. (length ring.ahead.items ≡ length spokes.spokes.items) × (length ring.back.items ≡ length spokes.spokes.items)) }
+    ensures ahead { IfOk result (λ ring. (i : ℕ) → i < length spokes.spokes.items → slice_index_or ring.ahead.items i 0 ≡ 1 + i) }
+    ensures back { IfOk result (λ ring. (i : ℕ) → i < length spokes.spokes.items → slice_index_or ring.back.items i 0 ≡ 0 + i) }
     ensures memory { IsOkUnless result Fault.Memory }
 {
-    let first = starts.len();
-    let spokes = with_ends(starts, &ends)?;
-    let ahead = places_after(alloc, 1, spokes.len())?;
-    let back = places_after(alloc, 0, spokes.len())?;
+    let ahead = places_after(alloc, 1, spokes.spokes.len())?;
+    let back = places_after(alloc, 0, spokes.spokes.len())?;
     Ok(Ring {
-        center,
-        spokes,
-        starts: first,
+        center: spokes.center,
+        spokes: spokes.spokes,
+        starts: spokes.starts,
         ahead,
         back,
     })
-}
-
-// Links with others behind them.
-fn with_ends<I: Copy>(starts: Vec<Spoke<I>>, ends: &[Spoke<I>]) -> Result<Vec<Spoke<I>>, Fault>
-    ensures is { IfOk result (λ spokes. spokes.items ≡ starts.items ++ ends.now) }
-    ensures memory { IsOkUnless result Fault.Memory }
-{
-    let mut spokes = starts;
-    for spoke in ends {
-        spokes.push(*spoke)?;
-    }
-    Ok(spokes)
 }
 
 // So many numbers, one after another.

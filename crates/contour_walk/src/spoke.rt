@@ -18,11 +18,13 @@ use segment_arrangement::graph::{OverlayGraph, VisitState};
 use segment_arrangement::link::OverlayLink;
 use segment_arrangement::node::OverlayNode;
 
-// A link at a node: its other end, and its place.
+/// A link at a node.
 #[derive(Clone, Copy, Debug)]
-pub(crate) struct Spoke<I> {
-    pub(crate) far: IntPoint<I>,
-    pub(crate) place: usize,
+pub struct Spoke<I> {
+    /// Its other end.
+    pub far: IntPoint<I>,
+    /// Its place among the links.
+    pub place: usize,
 }
 
 // Whether no walk has passed a link of the boundary.

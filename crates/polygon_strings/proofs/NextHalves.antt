@@ -210,6 +210,17 @@ module _ (c : Bool) (v a : Point) where
         ap (λ n. nat_lt n (half_turns c v a w) || ((n == half_turns c v a w) && int_lt (pos 0) (turned c v a w))) half_all ∙ r.1,
       )
 
+  never_first : (b g d : Bool) → nat_lt 4 (cond b 1 (cond g 3 (cond d 2 4))) || ((4 == cond b 1 (cond g 3 (cond d 2 4))) && b) ≡ false
+  never_first true g d = refl
+  never_first false true d = refl
+  never_first false false true = refl
+  never_first false false false = refl
+
+  pub itself_not_first : (w : Point) → is_met_before c v a a w ≡ false
+  itself_not_first w =
+      ap (λ n. nat_lt n (half_turns c v a w) || ((n == half_turns c v a w) && int_lt (pos 0) (turned c v a w))) half_all
+      ∙ never_first (int_lt (pos 0) (turned c v a w)) (int_lt (turned c v a w) (pos 0)) (int_lt (reach v a w) (pos 0))
+
 -- ---- fills
 
 bits_tell : (upper lower forward back : Bool) → let fill : ℕ = (bit upper 1 + bit lower 2) + 4 * (cond forward 1 0 + cond back 2 0) in

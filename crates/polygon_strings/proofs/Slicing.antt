@@ -3,6 +3,7 @@ pub mod Rounds
 pub mod Following
 pub mod Flags
 pub mod Nodes
+pub mod Told
 pub mod Apart
 pub mod Binding
 pub mod Within

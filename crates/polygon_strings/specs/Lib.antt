@@ -9,4 +9,5 @@ pub mod KeptSteps
 pub mod ClipCalls
 pub mod ClipWalks
 pub mod SliceWalks
+pub mod NodeTurns
 pub mod SliceCalls

@@ -10,3 +10,4 @@ mod query;
 pub mod rule;
 pub mod slice;
 mod slice_walk;
+mod turns;

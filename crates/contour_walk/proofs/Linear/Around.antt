@@ -139,6 +139,11 @@ at_has n t v (e ∷ es) (s ∷ ss) (suc i) far beside h =
     (subst (λ k. Has (spokes_from (n + 1) t v es ss) (seen_at far k)) same
     (at_has (n + 1) t v es ss i far (omega (arith, beside)) (record { inside = omega (arith, inside); left = h.left; near = h.near; other = h.other })))
 
+pub has_id : (t : Bool) (v : Point) (es : List Edge) (ss : List VisitState) (m : Numbered) → length ss ≡ length es → IsAt t v es ss m.id m.point → Has (spokes_from 0 t v es ss) m
+has_id t v es ss m beside h =
+    let same : 0 + m.id ≡ m.id = omega arith in
+    subst (λ k. Has (spokes_from 0 t v es ss) (seen_at m.point k)) same (at_has 0 t v es ss m.id m.point beside h)
+
 module _ (v : Point) (es : List Edge) (old new : List VisitState) (old_beside : length old ≡ length es) (new_beside : length new ≡ length es) (stay : StayPassed old new) where
   was_left : (i : ℕ) → is_left (get_or new i Skipped) ≡ true → is_left (get_or old i Skipped) ≡ true
   was_left i h = by (is_left (get_or old i Skipped)) refl
@@ -147,19 +152,14 @@ module _ (v : Point) (es : List Edge) (old new : List VisitState) (old_beside : 
       by true e = refl
       by false e = absurd (false≢true (sym (stay i e) ∙ h))
 
-  has_id : (t : Bool) (ss : List VisitState) (m : Numbered) → length ss ≡ length es → IsAt t v es ss m.id m.point → Has (spokes_from 0 t v es ss) m
-  has_id t ss m beside h =
-      let same : 0 + m.id ≡ m.id = omega arith in
-      subst (λ k. Has (spokes_from 0 t v es ss) (seen_at m.point k)) same (at_has 0 t v es ss m.id m.point beside h)
-
   -- what is left was left
   pub was_there : (t : Bool) (m : Numbered) → Has (spokes_from 0 t v es new) m → Has (spokes_from 0 t v es old) m × (is_left (get_or new m.id Skipped) ≡ true)
   was_there t m h =
       let at = at_place t v es new m h in
-      (has_id t old m old_beside (record { inside = at.inside; left = was_left m.id at.left; near = at.near; other = at.other }), at.left)
+      (has_id t v es old m old_beside (record { inside = at.inside; left = was_left m.id at.left; near = at.near; other = at.other }), at.left)
 
   -- what was left and is not passed is left
   pub still_there : (t : Bool) (m : Numbered) → Has (spokes_from 0 t v es old) m → is_left (get_or new m.id Skipped) ≡ true → Has (spokes_from 0 t v es new) m
   still_there t m h left =
       let at = at_place t v es old m h in
-      has_id t new m new_beside (record { inside = at.inside; left = left; near = at.near; other = at.other })
+      has_id t v es new m new_beside (record { inside = at.inside; left = left; near = at.near; other = at.other })

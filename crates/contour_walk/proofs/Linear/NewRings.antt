@@ -3,7 +3,6 @@ use Rattle.std.proofs.Common.{◌≡◌, ◌⊎◌, inl, inr, ℕ, zero, suc, �
 use Rattle.std.proofs.lemmas.Bool.{cases_lt}
 use Rattle.std.proofs.lemmas.Int.{ints}
 use Rattle.std.proofs.lemmas.List.{get_or-map, length-map, get_or_default, map-append, take_more}
-use Rattle.std.proofs.lemmas.List.Elements.{All-append}
 use Rattle.std.proofs.lemmas.List.Sorted.{IsPermutation-sym, Contains-permutation}
 use Rattle.plane_base.specs.Plane.{Point, Edge, turn, is_before, point_order}
 use Rattle.plane_base.specs.Views.{point_of}
@@ -18,11 +17,12 @@ use Rattle.contour_walk.specs.declared.spoke.Spoke.{Spoke}
 use Rattle.contour_walk.specs.Nearest.{Numbered}
 use Rattle.contour_walk.specs.NearestViews.{numbered}
 use Rattle.contour_walk.specs.LinearWalks.{spokes_from}
-use Rattle.contour_walk.specs.NodeRings.{numbered_spokes, AreToLeft, IsRing}
+use Rattle.contour_walk.specs.NodeRings.{IsPassed, LeadAhead, LeadBack, numbered_spokes, AreToLeft, AreRound, IsRing}
 use Rattle.contour_walk.proofs.Walks.Members.{has_from_contains}
 use Rattle.contour_walk.proofs.Linear.Left.{each_at}
 use Rattle.contour_walk.proofs.Facts.Walks.Rings.{Each}
 use Rattle.contour_walk.proofs.Linear.Steps.{IsAt, at_place}
+use Rattle.contour_walk.proofs.RoundNodes.{stands}
 
 -- ---- from each to the next
 
@@ -145,45 +145,49 @@ module _ {I : Type 0} (value : I → ℤ) (v : Point) (edges : List Edge) (state
       rise_far (λ n m. pos 0 <ℤ turn v n.point m.point) (numbered_spokes value ss) (λ n. is_before n.point v ≡ true)
       (λ n m k a b c. left_through_before v n.point m.point k.point a b c) (end_lies (numbered_spokes value ss) p) (seen_next ss h)
 
-  place_within : (t : Bool) (ss : List (Spoke I)) → IsPermutation (spokes_from 0 t v edges states) (numbered_spokes value ss) → All (λ s. s.place < length edges) ss
-  place_within t ss p i d l =
-      let long = length-map ss (λ (s : Spoke I). numbered value s.far s.place) in
-      let n = numbered value d.far d.place in
-      let at = is_there t (numbered_spokes value ss) i n p (omega (arith, l, long)) in
-      subst (λ (k : Numbered). k.id < length edges) (get_or-map (λ (s : Spoke I). numbered value s.far s.place) ss i d n l) at.inside
-
-module _ {I : Type 0} (value : I → ℤ) (edges : List Edge) (states : List VisitState) (beside : length states ≡ length edges) (directed : Each (λ s. is_before s.a s.b ≡ true) edges) where
-  pub new_ring :
-      (r : Ring I) (v : Point) (starts ends : List (Spoke I)) → point_of value r.center ≡ v → r.spokes.items ≡ starts ++ ends → r.starts ≡ length starts
+  pub round_from :
+      (ss starts ends : List (Spoke I)) (n : ℕ) → ss ≡ starts ++ ends → n ≡ length starts
       → IsPermutation (spokes_from 0 true v edges states) (numbered_spokes value starts) → IsPermutation (spokes_from 0 false v edges states) (numbered_spokes value ends)
-      → ((i : ℕ) (d : Spoke I) → i + 1 < length starts → pos 0 <ℤ turn v (point_of value (get_or starts i d).far) (point_of value (get_or starts (i + 1) d).far))
-      → ((i : ℕ) (d : Spoke I) → i + 1 < length ends → pos 0 <ℤ turn v (point_of value (get_or ends i d).far) (point_of value (get_or ends (i + 1) d).far))
-      → length r.ahead.items ≡ length r.spokes.items → length r.back.items ≡ length r.spokes.items
-      → ((i : ℕ) → i < length r.spokes.items → get_or r.ahead.items i 0 ≡ 1 + i) → ((i : ℕ) → i < length r.spokes.items → get_or r.back.items i 0 ≡ 0 + i) → IsRing value edges states r
-  new_ring r v starts ends center parts count all_starts all_ends next_starts next_ends ahead_beside back_beside ahead back = record {
-    older = states;
-    beside = beside;
-    since = λ i h. h;
+      → NextToLeft starts → NextToLeft ends → AreRound value edges states v ss n
+  round_from ss starts ends n parts count all_starts all_ends next_starts next_ends = record {
     starts = numbered_spokes value starts;
     ends = numbered_spokes value ends;
     parts = ap (numbered_spokes value) parts ∙ map-append (λ (s : Spoke I). numbered value s.far s.place) starts ends;
     as_many = length-map starts (λ (s : Spoke I). numbered value s.far s.place) ∙ sym count;
-    all_starts = subst (λ p. IsPermutation (spokes_from 0 true p edges states) (numbered_spokes value starts)) (sym center) all_starts;
-    all_ends = subst (λ p. IsPermutation (spokes_from 0 false p edges states) (numbered_spokes value ends)) (sym center) all_ends;
-    starts_rise = subst (λ p. AreToLeft p (numbered_spokes value starts)) (sym center) (starts_to_left value v edges states directed starts all_starts next_starts);
-    ends_rise = subst (λ p. AreToLeft p (numbered_spokes value ends)) (sym center) (ends_to_left value v edges states directed ends all_ends next_ends);
-    inside =
-        subst (All (λ (s : Spoke I). s.place < length edges)) (sym parts)
-        (All-append (λ (s : Spoke I). s.place < length edges) starts ends (place_within value v edges states directed true starts all_starts) (place_within value v edges states directed false ends all_ends));
-    ahead = record {
-      beside = ahead_beside;
-      later = λ i l. let e = ahead i l in omega (arith, e);
-      within = λ i l. let e = ahead i l in omega (arith, e, l);
-      between = λ i j l m k. let e = ahead i l in absurd (omega (arith, e, m, k));
-    };
-    back = record {
-      beside = back_beside;
-      earlier = λ i l. let e = back i l in omega (arith, e);
-      between = λ i j l m k. let e = back i l in absurd (omega (arith, e, m, k));
-    };
+    all_starts = all_starts;
+    all_ends = all_ends;
+    starts_rise = starts_to_left starts all_starts next_starts;
+    ends_rise = ends_to_left ends all_ends next_ends;
   }
+
+module _ {I : Type 0} (value : I → ℤ) (edges : List Edge) (states : List VisitState) (beside : length states ≡ length edges) where
+  pub new_ring :
+      (r : Ring I) (v : Point) (ss : List (Spoke I)) (first : ℕ) → point_of value r.center ≡ v → r.spokes.items ≡ ss → r.starts ≡ first → AreRound value edges states v ss first
+      → length r.ahead.items ≡ length ss → length r.back.items ≡ length ss → ((i : ℕ) → i < length ss → get_or r.ahead.items i 0 ≡ 1 + i)
+      → ((i : ℕ) → i < length ss → get_or r.back.items i 0 ≡ 0 + i) → IsRing value edges states r
+  new_ring r v ss first center same starts round ahead_beside back_beside ahead back = record {
+    older = states;
+    beside = beside;
+    since = λ i h. h;
+    round =
+        subst (λ p. AreRound value edges states p r.spokes.items r.starts) (sym center)
+        (subst (λ l. AreRound value edges states v l r.starts) (sym same) (subst (AreRound value edges states v ss) (sym starts) round));
+    inside = subst (All (λ (s : Spoke I). s.place < length edges)) (sym same) (λ i d l. let at = stands value edges states v ss first round i d l in (at.1).inside);
+    ahead = subst (λ l. LeadAhead (length l) (IsPassed states l) r.ahead.items) (sym same) lead_ahead;
+    back = subst (λ l. LeadBack (length l) (IsPassed states l) r.back.items) (sym same) lead_back;
+  }
+    where
+      lead_ahead : LeadAhead (length ss) (IsPassed states ss) r.ahead.items
+      lead_ahead = record {
+        beside = ahead_beside;
+        later = λ i l. let e = ahead i l in omega (arith, e);
+        within = λ i l. let e = ahead i l in omega (arith, e, l);
+        between = λ i j l m k. let e = ahead i l in absurd (omega (arith, e, m, k));
+      }
+
+      lead_back : LeadBack (length ss) (IsPassed states ss) r.back.items
+      lead_back = record {
+        beside = back_beside;
+        earlier = λ i l. let e = back i l in omega (arith, e);
+        between = λ i j l m k. let e = back i l in absurd (omega (arith, e, m, k));
+      }

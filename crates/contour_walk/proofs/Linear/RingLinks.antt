@@ -1,13 +1,11 @@
 -- The ring of a node holds the links that are left there: which of them comes next, and which is the topmost.
-use Rattle.std.proofs.Common.{◌≡◌, ◌⊎◌, inl, inr, ℕ, ◌<◌, ◌≤◌, Bool, true, false, List, [], ◌∷◌, ◌++◌, length, get_or, length-append, All, IsPermutation, Option, Some, None, ℤ, pos, ◌<ℤ◌, refl, sym, ap, ◌∙◌, subst, arith}
+use Rattle.std.proofs.Common.{◌≡◌, ◌⊎◌, inl, inr, ℕ, ◌<◌, ◌≤◌, Bool, true, false, List, [], ◌∷◌, ◌++◌, length, get_or, length-append, All, Option, Some, None, ℤ, pos, ◌<ℤ◌, refl, sym, ap, ◌∙◌, subst, arith}
 use Rattle.std.specs.Prelude.{IfSome}
 use Rattle.std.proofs.lemmas.Bool.{cases_order}
-use Rattle.std.proofs.lemmas.Int.{ints}
-use Rattle.std.proofs.lemmas.List.{get_or-map, length-map, get_or_default, get_or_append_left}
+use Rattle.std.proofs.lemmas.List.{get_or_default, get_or_append_left}
 use Rattle.std.proofs.lemmas.List.Sorted.{IsPermutation-sym}
 use Rattle.plane_base.specs.Plane.{Point, Edge, turn, is_before}
 use Rattle.plane_base.specs.Views.{point_of}
-use Rattle.plane_base.proofs.Facts.Points.Orders.{point_less, before_is_less}
 use Rattle.segment_arrangement.specs.declared.graph.VisitState.{VisitState}
 use Rattle.segment_arrangement.specs.declared.graph.VisitState.TheVariants.{Skipped}
 use Rattle.contour_walk.specs.declared.rings.Ring.{Ring}
@@ -16,50 +14,18 @@ use Rattle.contour_walk.specs.Nearest.{Numbered, nearest}
 use Rattle.contour_walk.specs.NearestViews.{numbered}
 use Rattle.contour_walk.specs.LinearViews.{id_if_any}
 use Rattle.contour_walk.specs.LinearWalks.{is_left, StayPassed, spokes_from, spokes, top_of}
-use Rattle.contour_walk.specs.NodeRings.{IsPassed, IsLeftAt, IsBefore, IsNextPlace, LeadAhead, LeadBack, numbered_spokes, AreToLeft, IsRing, AreRings, IsCameBy}
-use Rattle.contour_walk.proofs.Facts.Walks.Turns.{Turns, turns_on, turns_otherwise, Has}
-use Rattle.contour_walk.proofs.Facts.Walks.Rings.{Each, Triples, each_from_has, has_append_left, has_append_right}
-use Rattle.contour_walk.proofs.Walks.Members.{pairs_from_all, has_permutation, has_append_cases, contains_from_has, has_from_contains}
-use Rattle.contour_walk.proofs.Facts.Walks.Fans.{After, Before, ToLeft, turns_round}
-use Rattle.contour_walk.proofs.Linear.Left.{each_at}
-use Rattle.contour_walk.proofs.Linear.Steps.{at_place}
+use Rattle.contour_walk.specs.NodeRings.{IsPassed, IsLeftAt, IsBefore, IsNextPlace, LeadAhead, LeadBack, AreRound, IsRing, AreRings, IsCameBy}
+use Rattle.contour_walk.proofs.Facts.Walks.Turns.{Turns, Has}
+use Rattle.contour_walk.proofs.Facts.Walks.Rings.{Each, has_append_left, has_append_right}
+use Rattle.contour_walk.proofs.Walks.Members.{has_permutation, has_append_cases, contains_from_has, has_from_contains}
+use Rattle.contour_walk.proofs.RoundNodes.{as_long, seen, seen_at, turns_before}
 use Rattle.contour_walk.proofs.Linear.PassedPlaces.{never_both, some_spoke}
-use Rattle.contour_walk.proofs.Linear.Around.{triples_at, nearest_is, top_is, was_there, still_there}
+use Rattle.contour_walk.proofs.Linear.Around.{nearest_is, top_is, was_there, still_there}
 
 module _ {A : Type 0} where
   none_from : (xs : List A) → ((x : A) → Has xs x → ⊥) → xs ≡ []
   none_from [] h = refl
   none_from (x ∷ xs) h = absurd (h x (inl refl))
-
-after_from : (v p : Point) → is_before v p ≡ true → After v p
-after_from v p e = by (point_less v p (before_is_less v p e))
-  where
-    by : (v.x <ℤ p.x) ⊎ ((v.x ≡ p.x) × (v.y <ℤ p.y)) → After v p
-    by (inl l) = inl (omega (arith, ints))
-    by (inr l) = inr (omega (arith, ints, l.0), omega (arith, ints, l.1))
-
-before_from : (v p : Point) → is_before p v ≡ true → Before v p
-before_from v p e = by (point_less p v (before_is_less p v e))
-  where
-    by : (p.x <ℤ v.x) ⊎ ((p.x ≡ v.x) × (p.y <ℤ v.y)) → Before v p
-    by (inl l) = inl (omega (arith, ints))
-    by (inr l) = inr (omega (arith, ints, l.0), omega (arith, ints, l.1))
-
--- a link that starts at the point leads to the right of it, and one that ends there to the left
-module _ (v : Point) (es : List Edge) (ss : List VisitState) (directed : Each (λ s. is_before s.a s.b ≡ true) es) (m : Numbered) where
-  pub start_after : Has (spokes_from 0 true v es ss) m → After v m.point
-  start_after h =
-      let at = at_place true v es ss m h in
-      let d : Edge = record { a = v; b = v } in
-      let forward = each_at (λ s. is_before s.a s.b ≡ true) es m.id d directed at.inside in
-      after_from v m.point (subst (λ p. is_before v p ≡ true) (at.other d) (subst (λ p. is_before p (get_or es m.id d).b ≡ true) (at.near d) forward))
-
-  pub end_before : Has (spokes_from 0 false v es ss) m → Before v m.point
-  end_before h =
-      let at = at_place false v es ss m h in
-      let d : Edge = record { a = v; b = v } in
-      let forward = each_at (λ s. is_before s.a s.b ≡ true) es m.id d directed at.inside in
-      before_from v m.point (subst (λ p. is_before p v ≡ true) (at.other d) (subst (λ p. is_before (get_or es m.id d).a p ≡ true) (at.near d) forward))
 
 module _ {I : Type 0} (value : I → ℤ) (edges : List Edge) (states : List VisitState) (beside : length states ≡ length edges) (directed : Each (λ s. is_before s.a s.b ≡ true) edges)
     (r : Ring I) (ring : IsRing value edges states r) where
@@ -73,45 +39,16 @@ module _ {I : Type 0} (value : I → ℤ) (edges : List Edge) (states : List Vis
   number s = numbered value s.far s.place
 
   abbrev all : List Numbered
-  all = ring.starts ++ ring.ends
+  all = ring.round.starts ++ ring.round.ends
 
   same_length : length all ≡ length links
-  same_length = sym (ap length ring.parts) ∙ length-map links number
+  same_length = as_long value edges ring.older v links r.starts ring.round
 
   at : (i : ℕ) (d : Spoke I) → i < length links → get_or all i (number d) ≡ number (get_or links i d)
-  at i d l = ap (λ ns. get_or ns i (number d)) (sym ring.parts) ∙ get_or-map number links i d (number d) l
-
-  -- ---- in their order
-
-  all_turn : Triples (λ n m k. Turns false v n.point m.point k.point) all
-  all_turn =
-      turns_round v (λ (n : Numbered). n.point) ring.starts ring.ends
-      (each_from_has (λ n. After v n.point) ring.starts (λ n h. start_after v edges ring.older directed n (has_permutation ring.starts (spokes_from 0 true v edges ring.older) n (IsPermutation-sym (spokes_from 0 true v edges ring.older) ring.starts ring.all_starts) h)))
-      (each_from_has (λ n. Before v n.point) ring.ends (λ n h. end_before v edges ring.older directed n (has_permutation ring.ends (spokes_from 0 false v edges ring.older) n (IsPermutation-sym (spokes_from 0 false v edges ring.older) ring.ends ring.all_ends) h)))
-      (pairs_from_all (λ n m. ToLeft v n.point m.point) ring.starts ring.starts_rise)
-      (pairs_from_all (λ n m. ToLeft v n.point m.point) ring.ends ring.ends_rise)
+  at = seen value edges ring.older v links r.starts ring.round
 
   abbrev far : ℕ → Spoke I → Point
   far i d = point_of value (get_or links i d).far
-
-  turns_at : (i j k : ℕ) (d : Spoke I) → i < j → j < k → k < length links → Turns false v (far i d) (far j d) (far k d)
-  turns_at i j k d l m n =
-      let first : i < length links = omega (arith, l, m, n) in
-      let second : j < length links = omega (arith, m, n) in
-      let third : k < length all = omega (arith, n, same_length) in
-      subst (λ (z : Numbered). Turns false v (far i d) (far j d) z.point) (at k d n)
-      (subst (λ (z : Numbered). Turns false v (far i d) z.point (get_or all k (number d)).point) (at j d second)
-      (subst (λ (z : Numbered). Turns false v z.point (get_or all j (number d)).point (get_or all k (number d)).point) (at i d first)
-      (triples_at (λ n m k. Turns false v n.point m.point k.point) all i j k (number d) all_turn l m third)))
-
-  on_the_way : (i j k : ℕ) (d : Spoke I) → i < length links → j < length links → k < length links → IsBefore false i j k → Turns false v (far i d) (far j d) (far k d)
-  on_the_way i j k d l m n (inl h) = turns_at i j k d h.0 h.1 n
-  on_the_way i j k d l m n (inr (inl h)) = turns_on false v (far k d) (far i d) (far j d) (turns_on false v (far j d) (far k d) (far i d) (turns_at j k i d h.0 h.1 l))
-  on_the_way i j k d l m n (inr (inr h)) = turns_on false v (far k d) (far i d) (far j d) (turns_at k i j d h.0 h.1 m)
-
-  turns_before : (c : Bool) (i j k : ℕ) (d : Spoke I) → i < length links → j < length links → k < length links → IsBefore c i j k → Turns c v (far i d) (far j d) (far k d)
-  turns_before false i j k d l m n h = on_the_way i j k d l m n h
-  turns_before true i j k d l m n h = turns_otherwise false v (far i d) (far k d) (far j d) (on_the_way i k j d l n m h)
 
   -- ---- which are left
 
@@ -121,25 +58,25 @@ module _ {I : Type 0} (value : I → ℤ) (edges : List Edge) (states : List Vis
       by : Has (spokes_from 0 false v edges states) n ⊎ Has (spokes_from 0 true v edges states) n → Has all n × (is_left (get_or states n.id Skipped) ≡ true)
       by (inl k) =
           let w = was_there v edges ring.older states ring.beside beside ring.since false n k in
-          (has_append_right ring.starts ring.ends n (has_permutation (spokes_from 0 false v edges ring.older) ring.ends n ring.all_ends w.0), w.1)
+          (has_append_right ring.round.starts ring.round.ends n (has_permutation (spokes_from 0 false v edges ring.older) ring.round.ends n ring.round.all_ends w.0), w.1)
       by (inr k) =
           let w = was_there v edges ring.older states ring.beside beside ring.since true n k in
-          (has_append_left ring.starts ring.ends n (has_permutation (spokes_from 0 true v edges ring.older) ring.starts n ring.all_starts w.0), w.1)
+          (has_append_left ring.round.starts ring.round.ends n (has_permutation (spokes_from 0 true v edges ring.older) ring.round.starts n ring.round.all_starts w.0), w.1)
 
-  start_stays : (n : Numbered) → Has ring.starts n → is_left (get_or states n.id Skipped) ≡ true → Has (spokes_from 0 true v edges states) n
+  start_stays : (n : Numbered) → Has ring.round.starts n → is_left (get_or states n.id Skipped) ≡ true → Has (spokes_from 0 true v edges states) n
   start_stays n h left =
       still_there v edges ring.older states ring.beside beside ring.since true n
-      (has_permutation ring.starts (spokes_from 0 true v edges ring.older) n (IsPermutation-sym (spokes_from 0 true v edges ring.older) ring.starts ring.all_starts) h) left
+      (has_permutation ring.round.starts (spokes_from 0 true v edges ring.older) n (IsPermutation-sym (spokes_from 0 true v edges ring.older) ring.round.starts ring.round.all_starts) h) left
 
   stays : (n : Numbered) → Has all n → is_left (get_or states n.id Skipped) ≡ true → Has (spokes v edges states) n
-  stays n h left = by (has_append_cases ring.starts ring.ends n h)
+  stays n h left = by (has_append_cases ring.round.starts ring.round.ends n h)
     where
-      by : Has ring.starts n ⊎ Has ring.ends n → Has (spokes v edges states) n
+      by : Has ring.round.starts n ⊎ Has ring.round.ends n → Has (spokes v edges states) n
       by (inl k) = has_append_right (spokes_from 0 false v edges states) (spokes_from 0 true v edges states) n (start_stays n k left)
       by (inr k) =
           has_append_left (spokes_from 0 false v edges states) (spokes_from 0 true v edges states) n
           (still_there v edges ring.older states ring.beside beside ring.since false n
-          (has_permutation ring.ends (spokes_from 0 false v edges ring.older) n (IsPermutation-sym (spokes_from 0 false v edges ring.older) ring.ends ring.all_ends) k) left)
+          (has_permutation ring.round.ends (spokes_from 0 false v edges ring.older) n (IsPermutation-sym (spokes_from 0 false v edges ring.older) ring.round.ends ring.round.all_ends) k) left)
 
   -- the place of a link in the ring
   record HasPlace (n : Numbered) (below : ℕ) : Type 0 where
@@ -154,14 +91,9 @@ module _ {I : Type 0} (value : I → ℤ) (edges : List Edge) (states : List Vis
     place = i;
     inside = l;
     low = m;
-    is = same;
-    left = λ d. ap (λ (k : Numbered). is_left (get_or states k.id Skipped)) (same d) ∙ left;
+    is = seen_at value edges ring.older v links r.starts ring.round n i l e;
+    left = λ d. ap (λ (k : Numbered). is_left (get_or states k.id Skipped)) (seen_at value edges ring.older v links r.starts ring.round n i l e d) ∙ left;
   }
-    where
-      same : (d : Spoke I) → number (get_or links i d) ≡ n
-      same d =
-          let long : i < length all = omega (arith, l, same_length) in
-          sym (at i d l) ∙ (get_or_default all i (number d) n long ∙ e)
 
   found : (n : Numbered) → Has (spokes v edges states) n → HasPlace n (length links)
   found n h =
@@ -173,14 +105,14 @@ module _ {I : Type 0} (value : I → ℤ) (edges : List Edge) (states : List Vis
   found_start : (n : Numbered) → Has (spokes_from 0 true v edges states) n → HasPlace n r.starts
   found_start n h =
       let w = was_there v edges ring.older states ring.beside beside ring.since true n h in
-      let k = contains_from_has ring.starts n (has_permutation (spokes_from 0 true v edges ring.older) ring.starts n ring.all_starts w.0) in
-      let m : k.0 < r.starts = omega (arith, k.1, ring.as_many) in
-      let long = length-append ring.starts ring.ends in
+      let k = contains_from_has ring.round.starts n (has_permutation (spokes_from 0 true v edges ring.older) ring.round.starts n ring.round.all_starts w.0) in
+      let m : k.0 < r.starts = omega (arith, k.1, ring.round.as_many) in
+      let long = length-append ring.round.starts ring.round.ends in
       let l : k.0 < length links = omega (arith, k.1, same_length, long) in
-      placed n r.starts k.0 l m (get_or_append_left ring.starts ring.ends n k.0 k.1 ∙ k.2) w.1
+      placed n r.starts k.0 l m (get_or_append_left ring.round.starts ring.round.ends n k.0 k.1 ∙ k.2) w.1
 
   pub starts_within : r.starts ≤ length links
-  starts_within = let long = length-append ring.starts ring.ends in omega (arith, ring.as_many, same_length, long)
+  starts_within = let long = length-append ring.round.starts ring.round.ends in omega (arith, ring.round.as_many, same_length, long)
 
   -- a link at a place is in the ring
   here : (i : ℕ) (d : Spoke I) → i < length links → Has all (number (get_or links i d))
@@ -188,12 +120,12 @@ module _ {I : Type 0} (value : I → ℤ) (edges : List Edge) (states : List Vis
       let long : i < length all = omega (arith, l, same_length) in
       has_from_contains all (number (get_or links i d)) (i, long, get_or_default all i (number (get_or links i d)) (number d) long ∙ at i d l)
 
-  start_here : (i : ℕ) (d : Spoke I) → i < length links → i < r.starts → Has ring.starts (number (get_or links i d))
+  start_here : (i : ℕ) (d : Spoke I) → i < length links → i < r.starts → Has ring.round.starts (number (get_or links i d))
   start_here i d l m =
       let long : i < length all = omega (arith, l, same_length) in
-      let first : i < length ring.starts = omega (arith, m, ring.as_many) in
-      has_from_contains ring.starts (number (get_or links i d))
-      (i, first, sym (get_or_append_left ring.starts ring.ends (number (get_or links i d)) i first) ∙ (get_or_default all i (number (get_or links i d)) (number d) long ∙ at i d l))
+      let first : i < length ring.round.starts = omega (arith, m, ring.round.as_many) in
+      has_from_contains ring.round.starts (number (get_or links i d))
+      (i, first, sym (get_or_append_left ring.round.starts ring.round.ends (number (get_or links i d)) i first) ∙ (get_or_default all i (number (get_or links i d)) (number d) long ∙ at i d l))
 
   -- ---- the next link
 
@@ -210,7 +142,7 @@ module _ {I : Type 0} (value : I → ℤ) (edges : List Edge) (states : List Vis
           either (inr b) =
               inr
               (subst (λ z. Turns c v z (far place d) n.point) (came.far d)
-              (subst (λ (k : Numbered). Turns c v (far from d) (far place d) k.point) (p.is d) (turns_before c from place p.place d came.inside next.inside p.inside b)))
+              (subst (λ (k : Numbered). Turns c v (far from d) (far place d) k.point) (p.is d) (turns_before value edges ring.older v links r.starts ring.round directed c from place p.place d came.inside next.inside p.inside b)))
 
   pub none_next : (c : Bool) (a : Point) → ((i : ℕ) → i < length links → IsPassed states links i) → nearest c v a (spokes v edges states) ≡ None
   none_next c a passed = ap (nearest c v a) (none_from (spokes v edges states) (λ n h. let p = found n h in never_both states links p.place p.inside (passed p.place p.inside) p.left))
@@ -236,12 +168,12 @@ module _ {I : Type 0} (value : I → ℤ) (edges : List Edge) (states : List Vis
 
       to_left : (i : ℕ) → i < place → pos 0 <ℤ turn v (far i d) (far place d)
       to_left i l =
-          let second : place < length ring.starts = omega (arith, first, ring.as_many) in
-          let low : i < length ring.starts = omega (arith, l, second) in
+          let second : place < length ring.round.starts = omega (arith, first, ring.round.as_many) in
+          let low : i < length ring.round.starts = omega (arith, l, second) in
           let before : i < length links = omega (arith, l, inside) in
-          subst (λ (z : Numbered). pos 0 <ℤ turn v (far i d) z.point) (sym (get_or_append_left ring.starts ring.ends (number d) place second) ∙ at place d inside)
-          (subst (λ (z : Numbered). pos 0 <ℤ turn v z.point (get_or ring.starts place (number d)).point) (sym (get_or_append_left ring.starts ring.ends (number d) i low) ∙ at i d before)
-          (ring.starts_rise i place (number d) l second))
+          subst (λ (z : Numbered). pos 0 <ℤ turn v (far i d) z.point) (sym (get_or_append_left ring.round.starts ring.round.ends (number d) place second) ∙ at place d inside)
+          (subst (λ (z : Numbered). pos 0 <ℤ turn v z.point (get_or ring.round.starts place (number d)).point) (sym (get_or_append_left ring.round.starts ring.round.ends (number d) i low) ∙ at i d before)
+          (ring.round.starts_rise i place (number d) l second))
 
       by : (n : Numbered) → HasPlace n r.starts → (n ≡ number (get_or links place d)) ⊎ (pos 0 <ℤ turn v n.point (far place d))
       by n p = either (cases_order p.place place)
@@ -274,14 +206,9 @@ module _ {I : Type 0} (value : I → ℤ) (edges : List Edge) (states : List Vis
     older = ring.older;
     beside = ring.beside;
     since = ring.since;
-    starts = ring.starts;
-    ends = ring.ends;
-    parts = ap (numbered_spokes value) same ∙ ring.parts;
-    as_many = ring.as_many ∙ sym starts;
-    all_starts = subst (λ p. IsPermutation (spokes_from 0 true (point_of value p) edges ring.older) ring.starts) (sym center) ring.all_starts;
-    all_ends = subst (λ p. IsPermutation (spokes_from 0 false (point_of value p) edges ring.older) ring.ends) (sym center) ring.all_ends;
-    starts_rise = subst (λ p. AreToLeft (point_of value p) ring.starts) (sym center) ring.starts_rise;
-    ends_rise = subst (λ p. AreToLeft (point_of value p) ring.ends) (sym center) ring.ends_rise;
+    round =
+        subst (λ p. AreRound value edges ring.older (point_of value p) k.spokes.items k.starts) (sym center)
+        (subst (λ ss. AreRound value edges ring.older v ss k.starts) (sym same) (subst (AreRound value edges ring.older v links) (sym starts) ring.round));
     inside = subst (All (λ (s : Spoke I). s.place < length edges)) (sym same) ring.inside;
     ahead = subst (λ ss. LeadAhead (length ss) (IsPassed states ss) k.ahead.items) (sym same) ahead;
     back = subst (λ ss. LeadBack (length ss) (IsPassed states ss) k.back.items) (sym same) back;
@@ -293,14 +220,7 @@ module _ {I : Type 0} (value : I → ℤ) (edges : List Edge) (states : List Vis
     older = ring.older;
     beside = ring.beside;
     since = λ i h. stay i (ring.since i h);
-    starts = ring.starts;
-    ends = ring.ends;
-    parts = ring.parts;
-    as_many = ring.as_many;
-    all_starts = ring.all_starts;
-    all_ends = ring.all_ends;
-    starts_rise = ring.starts_rise;
-    ends_rise = ring.ends_rise;
+    round = ring.round;
     inside = ring.inside;
     ahead = record {
       beside = ring.ahead.beside;

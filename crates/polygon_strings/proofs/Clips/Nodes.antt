@@ -55,18 +55,18 @@ places_pass n q (x ∷ xs) d =
 
 -- ---- ends at a point
 
-same_point_itself : (p r : Point) → p ≡ r → same_point p r ≡ true
+pub same_point_itself : (p r : Point) → p ≡ r → same_point p r ≡ true
 same_point_itself p r e = subst (λ z. is_eq (point_order p z) ≡ true) e (ap is_eq (point_itself p))
 
 -- a point that is not the other is apart from it
-apart_point : (p r : Point) → (p ≡ r → ⊥) → same_point p r ≡ false
+pub apart_point : (p r : Point) → (p ≡ r → ⊥) → same_point p r ≡ false
 apart_point p r apart = by (same_point p r) refl
   where
     by : (b : Bool) → same_point p r ≡ b → b ≡ false
     by true h = absurd (apart (same_point_tells p r h))
     by false h = refl
 
-ends_apart : (s : Edge) → is_before s.a s.b ≡ true → s.a ≡ s.b → ⊥
+pub ends_apart : (s : Edge) → is_before s.a s.b ≡ true → s.a ≡ s.b → ⊥
 ends_apart s directed = less_apart point_total s.a s.b (before_is_less s.a s.b directed)
 
 module _ (edges : List Edge) (v : Point) where

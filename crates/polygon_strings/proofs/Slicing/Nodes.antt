@@ -90,7 +90,7 @@ module _ {I : Type 0} (value : I → ℤ) (links : List (OverlayLink I (Unit {0}
       sym (get_or-map (λ (l : Link). l.edge) seen i (record { edge = at_v; fill = 0 }) at_v within) ∙ ap (λ l. get_or l i at_v) (same_edges value links)
 
   -- what is ahead are the other ends of the links at some of the places
-  ahead_from : (is : List ℕ) (p : Point) → Has (points_ahead v seen is) p → (i : ℕ) × Has is i × (has_halves (link_at v seen i).fill ≡ true) × (far_end v (link_at v seen i).edge ≡ p)
+  pub ahead_from : (is : List ℕ) (p : Point) → Has (points_ahead v seen is) p → (i : ℕ) × Has is i × (has_halves (link_at v seen i).fill ≡ true) × (far_end v (link_at v seen i).edge ≡ p)
   ahead_from [] p h = absurd h
   ahead_from (i ∷ is) p h = by (ahead_from is p) (has_halves (link_at v seen i).fill) refl h
     where
@@ -101,7 +101,7 @@ module _ {I : Type 0} (value : I → ℤ) (links : List (OverlayLink I (Unit {0}
       by more true e (inr k) = let r = more k in (r.0, inr r.1, r.2, r.3)
       by more false e k = let r = more k in (r.0, inr r.1, r.2, r.3)
 
-  ahead_has : (is : List ℕ) (i : ℕ) → Has is i → has_halves (link_at v seen i).fill ≡ true → Has (points_ahead v seen is) (far_end v (link_at v seen i).edge)
+  pub ahead_has : (is : List ℕ) (i : ℕ) → Has is i → has_halves (link_at v seen i).fill ≡ true → Has (points_ahead v seen is) (far_end v (link_at v seen i).edge)
   ahead_has [] i h k = absurd h
   ahead_has (j ∷ is) i (inl e) k =
       subst (λ b. Has (cond b (far_end v (link_at v seen j).edge ∷ points_ahead v seen is) (points_ahead v seen is)) (far_end v (link_at v seen i).edge))
@@ -121,7 +121,7 @@ module _ {I : Type 0} (value : I → ℤ) (links : List (OverlayLink I (Unit {0}
       or_second true y e = refl
       or_second false y e = e
 
-  end_here : (i : ℕ) → Has (places edges v) i → (i < length edges) × (((link_at v seen i).edge.a ≡ v) ⊎ ((link_at v seen i).edge.b ≡ v))
+  pub end_here : (i : ℕ) → Has (places edges v) i → (i < length edges) × (((link_at v seen i).edge.a ≡ v) ⊎ ((link_at v seen i).edge.b ≡ v))
   end_here i h =
       let within : i < length edges = All-contains (λ p. p < length edges) (places edges v) i (places_inside edges v) (contains_from_has (places edges v) i h) in (
         within,
@@ -130,7 +130,7 @@ module _ {I : Type 0} (value : I → ℤ) (links : List (OverlayLink I (Unit {0}
       )
 
   -- they are other ends of halves
-  round_from : (p : Point) → Has (points_ahead v seen (places edges v)) p → Contains (points_round v (halves_along seen)) p
+  pub round_from : (p : Point) → Has (points_ahead v seen (places edges v)) p → Contains (points_round v (halves_along seen)) p
   round_from p h = by (ahead_from (places edges v) p h)
     where
       by : (i : ℕ) × Has (places edges v) i × (has_halves (link_at v seen i).fill ≡ true) × (far_end v (link_at v seen i).edge ≡ p) → Contains (points_round v (halves_along seen)) p
@@ -149,7 +149,7 @@ module _ {I : Type 0} (value : I → ℤ) (links : List (OverlayLink I (Unit {0}
               (filter_has (λ (k : Border). touches v k.edge) (halves_along seen) b among (touching l.edge end))))
 
   -- the other end of a step that leaves the point is ahead
-  ahead_to : (w : Point) → Contains (half_steps output seen) (record { a = v; b = w }) → Has (points_ahead v seen (places edges v)) w
+  pub ahead_to : (w : Point) → Contains (half_steps output seen) (record { a = v; b = w }) → Has (points_ahead v seen (places edges v)) w
   ahead_to w h = by (has_map_from (step_along output) (halves_along seen) (record { a = v; b = w }) (has_from_contains (half_steps output seen) (record { a = v; b = w }) h))
     where
       by : (k : Border) × Has (halves_along seen) k × (step_along output k ≡ record { a = v; b = w }) → Has (points_ahead v seen (places edges v)) w
@@ -182,10 +182,10 @@ module _ {I : Type 0} (value : I → ℤ) (links : List (OverlayLink I (Unit {0}
   -- ---- the link by which one goes on
 
   module _ (from : Point) (s : Edge) (goes : GoesOnBy output (halves_along seen) (record { a = from; b = v }) s) where
-    leaving : Contains (half_steps output seen) (record { a = v; b = s.b })
+    pub leaving : Contains (half_steps output seen) (record { a = v; b = s.b })
     leaving = subst (Contains (half_steps output seen)) (λ i. record { a = goes.leaves i; b = s.b }) goes.here
 
-    met : first_by_turn (not output) v from (points_ahead v seen (places edges v)) ≡ Some s.b
+    pub met : first_by_turn (not output) v from (points_ahead v seen (places edges v)) ≡ Some s.b
     met = met_first_is (not output) v from s.b (points_ahead v seen (places edges v)) (ahead_to s.b leaving) (λ p h. goes.first p (round_from p h))
 
     pub none_met : points_ahead v seen (places edges v) ≡ [] → ⊥

@@ -3,7 +3,8 @@
 //! A half is an edge that parts, and a side of it that the subject fills. Its step goes along the edge with that side on the left, or on the
 //! right where outlines run clockwise. Links are gone through in order, and with each step that no walk has passed a walk is begun. At
 //! each node it goes on along the edge that has a half and is met first on turning through the filled side, until the walk has passed that step: it is
-//! its first. It takes time in the steps, and at each node that a walk comes to in the links that meet there.
+//! its first. It takes time in the steps, and at each node that a walk comes to in the links that meet there; but which link follows at a node
+//! of many links is told once (`turns`), so that all walks through a node of n links take time n log n there together.
 
 ghost use Rattle.std.specs.Prelude.{◌≡◌, ◌≢◌, ◌<◌, None, true, false, cond, not, ◌∷◌, ◌++◌, map, flat_map, length, slice_index_or, List, ℕ};
 ghost use Rattle.std.specs.Prelude.{All, Contains, IsPermutation, IfOk, OnOk, IfSome, IfNone, IsOkUnless};
@@ -21,8 +22,10 @@ ghost use Rattle.polygon_strings.specs.ClipWalks.{link_edges, step_along, is_lef
 ghost use Rattle.polygon_strings.specs.Clips.{last_of};
 ghost use Rattle.polygon_strings.specs.SliceWalks.{halves_along, half_steps, half_steps_of, link_at, has_halves, GoesOnBy, IsSliceable, IsNextPlace};
 ghost use Rattle.polygon_strings.specs.SliceWalks.{IsUnderWay, HasWalked, HavePassed};
+ghost use Rattle.polygon_strings.specs.NodeTurns.{AreTurns};
 
 use crate::string::clip_walk::StepsLeft;
+use crate::string::turns::{Turns, turn_at, turns_of};
 use contour_walk::turning::is_met_before;
 use plane_base::fault::Fault;
 use plane_base::int::OverlayInt;
@@ -48,7 +51,8 @@ pub(crate) fn find_walks<I: OverlayInt>(
     ensures memory { IsOkUnless result Fault.Memory }
 {
     let mut left = steps_of_halves(alloc, graph.links(), clockwise)?;
-    walks_of_steps(alloc, graph, clockwise, &mut left)
+    let turns = turns_of(alloc, graph, clockwise)?;
+    walks_of_steps(alloc, graph, &turns, &mut left)
 }
 
 // The steps of the halves along the links: none is passed yet.
@@ -76,7 +80,7 @@ fn half_steps_of(clockwise: bool, fill: SegmentFill) -> StepsLeft
 }
 
 // Whether an edge with this fill has a half.
-fn has_halves(fill: SegmentFill) -> bool
+pub(crate) fn has_halves(fill: SegmentFill) -> bool
     ensures { result ≡ has_halves fill }
 {
     has_half(true, fill) || has_half(false, fill)
@@ -100,21 +104,22 @@ fn is_parting(fill: SegmentFill) -> bool
 fn walks_of_steps<I: OverlayInt>(
     alloc: Global,
     graph: &StringGraph<'_, I>,
-    clockwise: bool,
+    turns: &Turns<I>,
     left: &mut [StepsLeft],
 ) -> Result<Vec<IntPath<I>>, Fault>
-    requires sliceable { IsSliceable I.value I.least I.greatest clockwise (string_links_of graph.now) (lists_lent_by graph.now) }
+    requires sliceable { IsSliceable I.value I.least I.greatest turns.now.clockwise (string_links_of graph.now) (lists_lent_by graph.now) }
+    requires turns { AreTurns I.value (string_links_of graph.now) turns.now.rings.items }
     requires beside { length left.old ≡ length (string_links_of graph.now) }
-    requires all { left.old ≡ map (λ l. half_steps_of clockwise l.fill) (string_links_of graph.now) }
-    ensures walks { IfOk result (λ walks. AreSliceWalks clockwise
+    requires all { left.old ≡ map (λ l. half_steps_of turns.now.clockwise l.fill) (string_links_of graph.now) }
+    ensures walks { IfOk result (λ walks. AreSliceWalks turns.now.clockwise
         (halves_along (map (overlay_link_of I.value) (string_links_of graph.now))) (contours_of I.value walks.items)) }
     ensures in_range { IfOk result (λ walks. All (All (IsWithin I.least I.greatest)) (contours_of I.value walks.items)) }
     ensures memory { IsOkUnless result Fault.Memory }
 {
     let mut walks = Vec::new(alloc);
     for first in 0..graph.links().len() {
-        begin_walk(alloc, graph, clockwise, left, first, true, &mut walks)?;
-        begin_walk(alloc, graph, clockwise, left, first, false, &mut walks)?;
+        begin_walk(alloc, graph, turns, left, first, true, &mut walks)?;
+        begin_walk(alloc, graph, turns, left, first, false, &mut walks)?;
     }
     Ok(walks)
 }
@@ -123,24 +128,25 @@ fn walks_of_steps<I: OverlayInt>(
 fn begin_walk<I: OverlayInt>(
     alloc: Global,
     graph: &StringGraph<'_, I>,
-    clockwise: bool,
+    turns: &Turns<I>,
     left: &mut [StepsLeft],
     first: usize,
     from_a: bool,
     walks: &mut Vec<IntPath<I>>,
 ) -> Result<(), Fault>
-    requires sliceable { IsSliceable I.value I.least I.greatest clockwise (string_links_of graph.now) (lists_lent_by graph.now) }
+    requires sliceable { IsSliceable I.value I.least I.greatest turns.now.clockwise (string_links_of graph.now) (lists_lent_by graph.now) }
+    requires turns { AreTurns I.value (string_links_of graph.now) turns.now.rings.items }
     requires inside { first < length (string_links_of graph.now) }
     requires beside { length left.old ≡ length (string_links_of graph.now) }
-    requires passed { HavePassed (GoesOnBy clockwise (halves_along (map (overlay_link_of I.value) (string_links_of graph.now))))
-        (half_steps clockwise (map (overlay_link_of I.value) (string_links_of graph.now)))
+    requires passed { HavePassed (GoesOnBy turns.now.clockwise (halves_along (map (overlay_link_of I.value) (string_links_of graph.now))))
+        (half_steps turns.now.clockwise (map (overlay_link_of I.value) (string_links_of graph.now)))
         (contours_of I.value walks.old.items) (steps_left (link_edges I.value (string_links_of graph.now)) left.old) }
     requires in_range { All (All (IsWithin I.least I.greatest)) (contours_of I.value walks.old.items) }
     ensures beside { length left.new ≡ length (string_links_of graph.now) }
     ensures stay { StayPassed left.old left.new }
     ensures used { OnOk result (is_left from_a (slice_index_or left.new first none_left) ≡ false) }
-    ensures passed { OnOk result (HavePassed (GoesOnBy clockwise (halves_along (map (overlay_link_of I.value) (string_links_of graph.now))))
-        (half_steps clockwise (map (overlay_link_of I.value) (string_links_of graph.now)))
+    ensures passed { OnOk result (HavePassed (GoesOnBy turns.now.clockwise (halves_along (map (overlay_link_of I.value) (string_links_of graph.now))))
+        (half_steps turns.now.clockwise (map (overlay_link_of I.value) (string_links_of graph.now)))
         (contours_of I.value walks.new.items) (steps_left (link_edges I.value (string_links_of graph.now)) left.new)) }
     ensures in_range { OnOk result (All (All (IsWithin I.least I.greatest)) (contours_of I.value walks.new.items)) }
     ensures memory { IsOkUnless result Fault.Memory }
@@ -148,7 +154,7 @@ fn begin_walk<I: OverlayInt>(
     if !left[first].is_left(from_a) {
         return Ok(());
     }
-    let points = walk_from(alloc, graph, clockwise, left, first, from_a)?;
+    let points = walk_from(alloc, graph, turns, left, first, from_a)?;
     walks.push(IntPath { points })?;
     Ok(())
 }
@@ -157,21 +163,22 @@ fn begin_walk<I: OverlayInt>(
 fn walk_from<I: OverlayInt>(
     alloc: Global,
     graph: &StringGraph<'_, I>,
-    clockwise: bool,
+    turns: &Turns<I>,
     left: &mut [StepsLeft],
     first: usize,
     from_a: bool,
 ) -> Result<Vec<IntPoint<I>>, Fault>
-    requires sliceable { IsSliceable I.value I.least I.greatest clockwise (string_links_of graph.now) (lists_lent_by graph.now) }
+    requires sliceable { IsSliceable I.value I.least I.greatest turns.now.clockwise (string_links_of graph.now) (lists_lent_by graph.now) }
+    requires turns { AreTurns I.value (string_links_of graph.now) turns.now.rings.items }
     requires inside { first < length (string_links_of graph.now) }
     requires beside { length left.old ≡ length (string_links_of graph.now) }
     requires left { is_left from_a (slice_index_or left.old first none_left) ≡ true }
-    requires among { All (Contains (half_steps clockwise (map (overlay_link_of I.value) (string_links_of graph.now))))
+    requires among { All (Contains (half_steps turns.now.clockwise (map (overlay_link_of I.value) (string_links_of graph.now))))
         (steps_left (link_edges I.value (string_links_of graph.now)) left.old) }
     ensures beside { length left.new ≡ length (string_links_of graph.now) }
     ensures stay { StayPassed left.old left.new }
     ensures used { is_left from_a (slice_index_or left.new first none_left) ≡ false }
-    ensures come { IfOk result (λ points. HasWalked (GoesOnBy clockwise (halves_along (map (overlay_link_of I.value) (string_links_of graph.now))))
+    ensures come { IfOk result (λ points. HasWalked (GoesOnBy turns.now.clockwise (halves_along (map (overlay_link_of I.value) (string_links_of graph.now))))
         (steps_left (link_edges I.value (string_links_of graph.now)) left.old)
         (points_of I.value points.items) (steps_left (link_edges I.value (string_links_of graph.now)) left.new)) }
     ensures in_range { IfOk result (λ points. All (IsWithin I.least I.greatest) (points_of I.value points.items)) }
@@ -183,47 +190,50 @@ fn walk_from<I: OverlayInt>(
     left[first].pass(from_a);
     let mut points = Vec::new(alloc);
     points.push(start.point)?;
-    go_on(graph, clockwise, left, start.point, node, &mut points)?;
+    go_on(graph, turns, left, start.point, node, first, &mut points)?;
     Ok(points)
 }
 
 // The lesser end of a link, or the other.
-fn end_of<I: OverlayInt>(link: &OverlayLink<I, ()>, is_a: bool) -> IdPoint<I>
+pub(crate) fn end_of<I: OverlayInt>(link: &OverlayLink<I, ()>, is_a: bool) -> IdPoint<I>
     ensures { result ≡ cond is_a link.now.a link.now.b }
 {
     if is_a { link.a } else { link.b }
 }
 
-// Goes on from a node, to which the walk came from a point, by steps that are left, until the next is passed already. The points from which
-// steps go are added.
+// Goes on from a node, to which the walk came from a point by a link, by steps that are left, until the next is passed already. The points
+// from which steps go are added.
 fn go_on<I: OverlayInt>(
     graph: &StringGraph<'_, I>,
-    clockwise: bool,
+    turns: &Turns<I>,
     left: &mut [StepsLeft],
     start: IntPoint<I>,
     node: IdPoint<I>,
+    link: usize,
     points: &mut Vec<IntPoint<I>>,
 ) -> Result<(), Fault>
-    requires sliceable { IsSliceable I.value I.least I.greatest clockwise (string_links_of graph.now) (lists_lent_by graph.now) }
+    requires sliceable { IsSliceable I.value I.least I.greatest turns.now.clockwise (string_links_of graph.now) (lists_lent_by graph.now) }
+    requires turns { AreTurns I.value (string_links_of graph.now) turns.now.rings.items }
     requires beside { length left.old ≡ length (string_links_of graph.now) }
     requires numbered { IsNumbered I.value (ends_of (link_edges I.value (string_links_of graph.now))) node }
     requires came { last_of (points_of I.value points.old.items) ≡ Some (point_of I.value start) }
-    requires along { Contains (half_steps clockwise (map (overlay_link_of I.value) (string_links_of graph.now)))
+    requires along { Contains (half_steps turns.now.clockwise (map (overlay_link_of I.value) (string_links_of graph.now)))
         (record { a = point_of I.value start; b = point_of I.value node.point }) }
     requires in_range { All (IsWithin I.least I.greatest) (points_of I.value points.old.items) }
     ensures beside { length left.new ≡ length (string_links_of graph.now) }
     ensures stay { StayPassed left.old left.new }
     ensures come { (before : List Edge) →
-        IsUnderWay (GoesOnBy clockwise (halves_along (map (overlay_link_of I.value) (string_links_of graph.now)))) before
+        IsUnderWay (GoesOnBy turns.now.clockwise (halves_along (map (overlay_link_of I.value) (string_links_of graph.now)))) before
         (points_of I.value points.old.items) (point_of I.value node.point) (steps_left (link_edges I.value (string_links_of graph.now)) left.old) →
-        OnOk result (HasWalked (GoesOnBy clockwise (halves_along (map (overlay_link_of I.value) (string_links_of graph.now)))) before
+        OnOk result (HasWalked (GoesOnBy turns.now.clockwise (halves_along (map (overlay_link_of I.value) (string_links_of graph.now)))) before
         (points_of I.value points.new.items) (steps_left (link_edges I.value (string_links_of graph.now)) left.new)) }
     ensures in_range { OnOk result (All (IsWithin I.least I.greatest) (points_of I.value points.new.items)) }
     ensures memory { IsOkUnless result Fault.Memory }
 {
     let mut from = start;
     let mut at = node;
-    while let Some(next) = take_next(graph, clockwise, left, from, at) {
+    let mut by = link;
+    while let Some(next) = take_next(graph, turns, left, from, at, &mut by) {
         points.push(at.point)?;
         from = at.point;
         at = next;
@@ -231,32 +241,36 @@ fn go_on<I: OverlayInt>(
     Ok(())
 }
 
-// Passes the step by which a walk goes on that came to a node from a point, if that is left: where it leads to.
+// Passes the step by which a walk goes on that came to a node from a point, if that is left: where it leads to. The place of the link is
+// written down.
 fn take_next<I: OverlayInt>(
     graph: &StringGraph<'_, I>,
-    clockwise: bool,
+    turns: &Turns<I>,
     left: &mut [StepsLeft],
     from: IntPoint<I>,
     at: IdPoint<I>,
+    by: &mut usize,
 ) -> Option<IdPoint<I>>
-    requires sliceable { IsSliceable I.value I.least I.greatest clockwise (string_links_of graph.now) (lists_lent_by graph.now) }
+    requires sliceable { IsSliceable I.value I.least I.greatest turns.now.clockwise (string_links_of graph.now) (lists_lent_by graph.now) }
+    requires turns { AreTurns I.value (string_links_of graph.now) turns.now.rings.items }
     requires beside { length left.old ≡ length (string_links_of graph.now) }
     requires numbered { IsNumbered I.value (ends_of (link_edges I.value (string_links_of graph.now))) at }
-    requires along { Contains (half_steps clockwise (map (overlay_link_of I.value) (string_links_of graph.now)))
+    requires along { Contains (half_steps turns.now.clockwise (map (overlay_link_of I.value) (string_links_of graph.now)))
         (record { a = point_of I.value from; b = point_of I.value at.point }) }
     ensures beside { length left.new ≡ length (string_links_of graph.now) }
     ensures stay { StayPassed left.old left.new }
     ensures numbered { IfSome result (IsNumbered I.value (ends_of (link_edges I.value (string_links_of graph.now)))) }
-    ensures goes_on { IfSome result (λ next. GoesOnBy clockwise (halves_along (map (overlay_link_of I.value) (string_links_of graph.now)))
+    ensures goes_on { IfSome result (λ next. GoesOnBy turns.now.clockwise (halves_along (map (overlay_link_of I.value) (string_links_of graph.now)))
         (record { a = point_of I.value from; b = point_of I.value at.point }) (record { a = point_of I.value at.point; b = point_of I.value next.point })) }
     ensures passes { IfSome result (λ next. IsPermutation (steps_left (link_edges I.value (string_links_of graph.now)) left.old)
         (record { a = point_of I.value at.point; b = point_of I.value next.point } ∷ steps_left (link_edges I.value (string_links_of graph.now)) left.new)) }
     ensures unchanged { IfNone result (left.new ≡ left.old) }
-    ensures none { IfNone result ((s : Edge) → GoesOnBy clockwise (halves_along (map (overlay_link_of I.value) (string_links_of graph.now)))
+    ensures none { IfNone result ((s : Edge) → GoesOnBy turns.now.clockwise (halves_along (map (overlay_link_of I.value) (string_links_of graph.now)))
         (record { a = point_of I.value from; b = point_of I.value at.point }) s →
         Contains (steps_left (link_edges I.value (string_links_of graph.now)) left.new) s → ⊥) }
 {
-    let place = next_link(graph, clockwise, from, at)?;
+    let place = next_link(graph, turns, from, at, *by)?;
+    *by = place;
     let link = &graph.links()[place];
     let starts = is_at(link.a.point, at.point);
     if !left[place].is_left(starts) {
@@ -266,8 +280,34 @@ fn take_next<I: OverlayInt>(
     Some(end_of(link, !starts))
 }
 
-// The place of the link by which a walk goes on that came to a node from a point. There is one.
+// The place of the link by which a walk goes on that came to a node from a point, by the link at a place. There is one.
 fn next_link<I: OverlayInt>(
+    graph: &StringGraph<'_, I>,
+    turns: &Turns<I>,
+    from: IntPoint<I>,
+    at: IdPoint<I>,
+    by: usize,
+) -> Option<usize>
+    requires sliceable { IsSliceable I.value I.least I.greatest turns.now.clockwise (string_links_of graph.now) (lists_lent_by graph.now) }
+    requires turns { AreTurns I.value (string_links_of graph.now) turns.now.rings.items }
+    requires numbered { IsNumbered I.value (ends_of (link_edges I.value (string_links_of graph.now))) at }
+    requires along { Contains (half_steps turns.now.clockwise (map (overlay_link_of I.value) (string_links_of graph.now)))
+        (record { a = point_of I.value from; b = point_of I.value at.point }) }
+    ensures inside { IfSome result (λ place. place < length (string_links_of graph.now)) }
+    ensures goes_on { IfSome result (λ place. (d : Edge) → GoesOnBy turns.now.clockwise (halves_along (map (overlay_link_of I.value) (string_links_of graph.now)))
+        (record { a = point_of I.value from; b = point_of I.value at.point })
+        (step_along (same_point (slice_index_or (link_edges I.value (string_links_of graph.now)) place d).a (point_of I.value at.point))
+        (slice_index_or (link_edges I.value (string_links_of graph.now)) place d))) }
+    ensures some { result ≢ None }
+{
+    match turn_at(turns, from, at, by) {
+        Some(place) => Some(place),
+        None => next_by_search(graph, turns.clockwise, from, at),
+    }
+}
+
+// The same by a look at all links of the node.
+fn next_by_search<I: OverlayInt>(
     graph: &StringGraph<'_, I>,
     clockwise: bool,
     from: IntPoint<I>,

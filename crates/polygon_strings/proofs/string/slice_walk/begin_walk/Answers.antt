@@ -20,7 +20,7 @@ walk_from-requires-clause-among g c =
     let value = g.I.OverlayInt.value in
     let links = string_links_of c.args.graph.now in
     let seen = map (overlay_link_of value) links in
-    left_among (GoesOnBy c.args.clockwise (halves_along seen)) (half_steps c.args.clockwise seen) (contours_of value c.args.walks.now.items)
+    left_among (GoesOnBy c.args.turns.now.clockwise (halves_along seen)) (half_steps c.args.turns.now.clockwise seen) (contours_of value c.args.walks.now.items)
     (steps_left (link_edges value links) c.args.left.now) c.requires.passed
 
 pub returns-clause-passed : goal.returns-clause-passed
@@ -28,7 +28,7 @@ returns-clause-passed g c =
     let value = g.I.OverlayInt.value in
     let links = string_links_of c.args.graph.now in
     let seen = map (overlay_link_of value) links in
-    let output = c.args.clockwise in
+    let output = c.args.turns.now.clockwise in
     let halves = halves_along seen in
     let all = half_steps output seen in
     let goes_on = GoesOnBy output halves in

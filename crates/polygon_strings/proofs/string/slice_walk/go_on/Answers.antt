@@ -49,11 +49,11 @@ loop-next-preserved g c =
     let from = point_of value c.loop-next.from in
     let at = point_of value c.loop-next.at.point in
     let next = point_of value c.in-Some.next.point in
-    let goes_on = GoesOnBy c.args.clockwise (halves_along (map (overlay_link_of value) links)) in
+    let goes_on = GoesOnBy c.args.turns.now.clockwise (halves_along (map (overlay_link_of value) links)) in
     let before = c.loop-next.invariant in
     let is : points_of value c.push.new.self.items ≡ old ++ at ∷ [] =
     ap (points_of value) c.in_ok-push.ensures.items ∙ map_push (point_of value) c.loop-next.points.items c.loop-next.at.point in
-    let within = step_within value g.I.OverlayInt.least g.I.OverlayInt.greatest c.args.clockwise links (record { a = from; b = at }) c.requires.sliceable.in_range before.along in
+    let within = step_within value g.I.OverlayInt.least g.I.OverlayInt.greatest c.args.turns.now.clockwise links (record { a = from; b = at }) c.requires.sliceable.in_range before.along in
     record {
       beside = c.take_next.ensures.beside;
       numbered = c.in-Some.ensures.numbered;
@@ -75,7 +75,7 @@ returns-clause-come g c = λ all h.
     let value = g.I.OverlayInt.value in
     let links = string_links_of c.args.graph.now in
     let edges = link_edges value links in
-    let goes_on = GoesOnBy c.args.clockwise (halves_along (map (overlay_link_of value) links)) in
+    let goes_on = GoesOnBy c.args.turns.now.clockwise (halves_along (map (overlay_link_of value) links)) in
     let end = c.loop-next.invariant in
     come_to_end goes_on all (points_of value c.loop-next.points.items) (point_of value c.loop-next.from) (point_of value c.loop-next.at.point)
     (steps_left edges c.take_next.new.left) end.came

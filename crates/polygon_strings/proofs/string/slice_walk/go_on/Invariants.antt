@@ -21,12 +21,12 @@ invariant-loop-next g l =
       beside : length l.left ≡ length links;
       numbered : IsNumbered value (ends_of edges) l.at;
       came : last_of (points_of value l.points.items) ≡ Some (point_of value l.from);
-      along : Contains (half_steps l.clockwise seen) (record { a = point_of value l.from; b = point_of value l.at.point });
+      along : Contains (half_steps l.turns.clockwise seen) (record { a = point_of value l.from; b = point_of value l.at.point });
       in_range : All (IsWithin g.I.OverlayInt.least g.I.OverlayInt.greatest) (points_of value l.points.items);
       stay : StayPassed l.initial.left l.left;
       under :
-          (before : List Edge) → IsUnderWay (GoesOnBy l.clockwise (halves_along seen)) before (points_of value l.initial.points.items) (point_of value l.fn.node.point) (steps_left edges l.initial.left) →
-          IsUnderWay (GoesOnBy l.clockwise (halves_along seen)) before (points_of value l.points.items) (point_of value l.at.point) (steps_left edges l.left);
+          (before : List Edge) → IsUnderWay (GoesOnBy l.turns.clockwise (halves_along seen)) before (points_of value l.initial.points.items) (point_of value l.fn.node.point) (steps_left edges l.initial.left) →
+          IsUnderWay (GoesOnBy l.turns.clockwise (halves_along seen)) before (points_of value l.points.items) (point_of value l.at.point) (steps_left edges l.left);
     }
 
 -- Each step that is passed leaves one less.

@@ -34,7 +34,7 @@ returns-then-not-is_left-clause-none g c =
     ap (λ b. is_left b (get_or c.args.left.now place none_left)) (sym way) ∙ (sym c.is_left.ensures ∙ c.if-not-is_left.true) in
     λ s goes among.
     let same : s ≡ step_along (same_point (get_or edges place d).a v) (get_or edges place d) =
-    goes_one c.args.clockwise (halves_along (map (overlay_link_of value) links)) _ s _ goes (c.in_ok-place.ensures.goes_on d) in
+    goes_one c.args.turns.now.clockwise (halves_along (map (overlay_link_of value) links)) _ s _ goes (c.in_ok-place.ensures.goes_on d) in
     not_left edges c.requires.sliceable.walkable.directed c.requires.sliceable.walkable.rising c.args.left.now (same_point (get_or edges place d).a v) place d inside passed
     (subst (Contains (steps_left edges c.args.left.now)) same among)
 
@@ -68,7 +68,7 @@ returns-clause-goes_on g c =
     let edge = edge_at value links place link d c.in_ok-place.ensures.inside here in
     let way : c.is_at-starts.result ≡ same_point (get_or edges place d).a v = c.is_at-starts.ensures ∙ ap (λ s. same_point s.a v) (sym edge) in
     let goes = c.in_ok-place.ensures.goes_on d in
-    subst (GoesOnBy c.args.clockwise (halves_along (map (overlay_link_of value) links)) _)
+    subst (GoesOnBy c.args.turns.now.clockwise (halves_along (map (overlay_link_of value) links)) _)
     (step_to value c.is_at-starts.result link c.end_of.result v (get_or edges place d) (same_point (get_or edges place d).a v) edge way c.end_of.ensures goes.leaves) goes
 
 pub returns-clause-passes : goal.returns-clause-passes

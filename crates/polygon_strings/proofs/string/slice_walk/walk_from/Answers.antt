@@ -47,7 +47,7 @@ go_on-requires-clause-along g c =
     let long : length left ≡ length edges = c.requires.beside ∙ sym (length-map links (link_edge_of value)) in
     let inside : c.args.first < length edges = omega (arith, c.requires.inside, length-map links (link_edge_of value)) in
     let step = ap (step_along from_a) (edge_at value links c.args.first link edge c.requires.inside here) ∙ link_step value from_a link c.end_of-start.result c.end_of-node.result c.end_of-start.ensures c.end_of-node.ensures in
-    let seen = half_steps c.args.clockwise (map (overlay_link_of value) links) in
+    let seen = half_steps c.args.turns.now.clockwise (map (overlay_link_of value) links) in
     subst (Contains seen) step
     (All-contains (Contains seen) (steps_left edges left) (step_along from_a (get_or edges c.args.first edge)) c.requires.among (one_left from_a edges left c.args.first edge long inside c.requires.left))
 
@@ -66,7 +66,7 @@ returns-clause-come g c =
     let start = c.end_of-start.result in
     let node = c.end_of-node.result in
     let step = ap (step_along from_a) (edge_at value links c.args.first link edge c.requires.inside here) ∙ link_step value from_a link start node c.end_of-start.ensures c.end_of-node.ensures in
-    let goes_on = GoesOnBy c.args.clockwise (halves_along (map (overlay_link_of value) links)) in
+    let goes_on = GoesOnBy c.args.turns.now.clockwise (halves_along (map (overlay_link_of value) links)) in
     let mid = steps_left edges (set left c.args.first c.pass.new.self) in
     let first : IsPermutation (steps_left edges left) (record { a = point_of value start.point; b = point_of value node.point } ∷ mid) =
     subst (λ s. IsPermutation (steps_left edges left) (s ∷ mid)) step

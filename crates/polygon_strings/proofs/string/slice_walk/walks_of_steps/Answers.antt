@@ -20,8 +20,8 @@ loop-first-init g c =
     let links = string_links_of c.args.graph.now in
     let seen = map (overlay_link_of value) links in
     let within = All (IsWithin g.I.OverlayInt.least g.I.OverlayInt.greatest) in
-    let all = half_steps c.args.clockwise seen in
-    let goes_on = GoesOnBy c.args.clockwise (halves_along seen) in
+    let all = half_steps c.args.turns.now.clockwise seen in
+    let goes_on = GoesOnBy c.args.turns.now.clockwise (halves_along seen) in
     let none : contours_of value c.new-walks.result.items ≡ [] = ap (contours_of value) c.new-walks.ensures.items in
     record {
       beside = c.requires.beside;
@@ -29,7 +29,7 @@ loop-first-init g c =
       walked =
           subst (λ w. HavePassed goes_on all w (steps_left (link_edges value links) c.args.left.now)) (sym none)
           (none_walked goes_on all (steps_left (link_edges value links) c.args.left.now)
-          (subst (λ l. IsPermutation all (steps_left (link_edges value links) l)) (sym c.requires.all) (steps_at_first value c.args.clockwise links)));
+          (subst (λ l. IsPermutation all (steps_left (link_edges value links) l)) (sym c.requires.all) (steps_at_first value c.args.turns.now.clockwise links)));
       in_range = subst (All within) (sym none) (All-nil within);
     }
 
@@ -59,8 +59,8 @@ returns-clause-walks g c =
     let none =
     none_are_left edges left
     (λ from_a i within. c.loop-first.invariant.passed from_a i (omega (arith, within, same, long, c.loop-first-test.false))) in
-    are_slice_walks c.args.clockwise (halves_along seen) walks
-    (subst (HavePassed (GoesOnBy c.args.clockwise (halves_along seen)) (half_steps c.args.clockwise seen) walks) none c.loop-first.invariant.walked)
+    are_slice_walks c.args.turns.now.clockwise (halves_along seen) walks
+    (subst (HavePassed (GoesOnBy c.args.turns.now.clockwise (halves_along seen)) (half_steps c.args.turns.now.clockwise seen) walks) none c.loop-first.invariant.walked)
 
 pub returns-clause-in_range : goal.returns-clause-in_range
 returns-clause-in_range g c = c.loop-first.invariant.in_range

@@ -16,6 +16,6 @@ invariant-loop-first g l =
     record {
       beside : length l.left ≡ length links;
       passed : ArePassedBefore l.first l.left;
-      walked : HavePassed (GoesOnBy l.clockwise (halves_along seen)) (half_steps l.clockwise seen) (contours_of value l.walks.items) (steps_left (link_edges value links) l.left);
+      walked : HavePassed (GoesOnBy l.turns.clockwise (halves_along seen)) (half_steps l.turns.clockwise seen) (contours_of value l.walks.items) (steps_left (link_edges value links) l.left);
       in_range : All (All (IsWithin g.I.OverlayInt.least g.I.OverlayInt.greatest)) (contours_of value l.walks.items);
     }

@@ -1,5 +1,5 @@
 use Rattle.std.proofs.Common.{◌≡◌, ◌++◌, take}
-use Rattle.contour_walk.proofs.build_rings.with_ends.Given as goal
+use Rattle.contour_walk.proofs.spokes.with_ends.Given as goal
 
 -- The others before this one are added.
 abbrev pub invariant-loop-spoke : goal.invariant-loop-spoke

@@ -3,7 +3,7 @@ use Rattle.contour_walk.proofs.Lives.{spoke_lives, within_push, within_spoke, wi
 use Rattle.std.proofs.lemmas.Result.{err_from_is_err_and}
 use Rattle.std.proofs.Common.{◌≡◌, ◌+◌, [], ◌∷◌, ◌++◌, take, sym, ap, ◌∙◌, append_assoc}
 use Rattle.std.proofs.lemmas.List.{take_more, take_all}
-use Rattle.contour_walk.proofs.build_rings.with_ends.Goals as goal
+use Rattle.contour_walk.proofs.spokes.with_ends.Goals as goal
 
 pub returns-in_err-push-clause-is : goal.returns-in_err-push-clause-is
 returns-in_err-push-clause-is g c = rw ((err_from_is_err_and c.from_residual.result c.from_residual.ensures.1).1) tt
