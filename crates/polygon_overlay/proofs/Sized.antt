@@ -9,3 +9,7 @@ pub mod Up
 pub mod Once
 pub mod Answers
 pub mod Laws
+pub mod Walking
+pub mod Room
+pub mod Kept
+pub mod Calls

@@ -28,6 +28,8 @@ pub mod TileGrids
 pub mod TileLaws
 pub mod Sizing
 pub mod SizingLaws
+pub mod SizingCalls
+pub mod SizingViews
 pub mod Hierarchies
 pub mod Location
 pub mod LocationViews

@@ -18,6 +18,7 @@ mod query;
 pub mod relate;
 pub mod simplify;
 pub mod single;
+pub mod sizing;
 pub mod sizing_laws;
 pub mod tile;
 pub mod tile_laws;

@@ -35,6 +35,7 @@ mod refused;
 mod relations;
 mod rows;
 mod simplify;
+mod sizing;
 mod stretches;
 mod tiles;
 mod words;

@@ -10,6 +10,7 @@ pub mod floods;
 pub mod intersection;
 pub mod islands;
 pub mod locations;
+pub mod masks;
 pub mod owners;
 pub mod parcels;
 pub mod queries;

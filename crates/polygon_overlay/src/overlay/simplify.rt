@@ -250,7 +250,7 @@ impl<I: OverlayInt> Overlay<I> {
     }
 
     // The overlay of the contours of a source alone.
-    fn overlay_of_source<R: IntShapeResource<I>>(
+    pub(crate) fn overlay_of_source<R: IntShapeResource<I>>(
         &mut self,
         resource: &R,
         fill_rule: FillRule,

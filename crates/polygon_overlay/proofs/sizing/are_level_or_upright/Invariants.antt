@@ -1,0 +1,15 @@
+use Rattle.std.proofs.Common.{◌+◌, take, map}
+use Rattle.plane_base.specs.Views.{points_of}
+use Rattle.plane_base.proofs.Facts.Lists.Placed.{before}
+use Rattle.polygon_overlay.specs.Tiles.{AreLevelOrUpright}
+use Rattle.polygon_overlay.proofs.sizing.are_level_or_upright.Given as goal
+
+-- The paths of the shapes before this one run along level and upright steps.
+abbrev pub invariant-loop-shape : goal.invariant-loop-shape
+invariant-loop-shape g l =
+    AreLevelOrUpright (map (points_of g.I.OverlayInt.value) (take (before (g.R.IntShapeResource.shapes l.source) l.shape) (g.R.IntShapeResource.paths l.source)))
+
+-- And those before this place in it.
+abbrev pub invariant-loop-index : goal.invariant-loop-index
+invariant-loop-index g l =
+    AreLevelOrUpright (map (points_of g.I.OverlayInt.value) (take (before (g.R.IntShapeResource.shapes l.source) l.shape + l.index) (g.R.IntShapeResource.paths l.source)))

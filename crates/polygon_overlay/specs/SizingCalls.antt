@@ -1,0 +1,78 @@
+-- What the calls ask and answer that size regions.
+use Rattle.std.specs.Prelude.{◌≡◌, ℤ, ◌+ℤ◌, ◌-ℤ◌, Bool, false, cond, List, map, All}
+use Rattle.plane_base.specs.Plane.{Point, Edge, IsCoordinate}
+use Rattle.plane_base.specs.Counts.{Count, Entry}
+use Rattle.plane_base.specs.Regions.{FillRule, Positive, Subject}
+use Rattle.plane_base.specs.declared.fault.Fault.{Fault}
+use Rattle.segment_split.specs.declared.solver.Precision.{Precision}
+use Rattle.contour_walk.specs.BindingLaws.{all_contours}
+use Rattle.contour_walk.specs.ShapeViews.{is_clockwise}
+use Rattle.contour_walk.specs.declared.options.IntOverlayOptions.{IntOverlayOptions}
+use Rattle.polygon_overlay.specs.Asking.{IsAnswered}
+use Rattle.polygon_overlay.specs.Overlays.{once}
+use Rattle.polygon_overlay.specs.Simplified.{IsNotSimplified}
+use Rattle.polygon_overlay.specs.Sizing.{Amounts, IsSized, IsFilledBy, WindWhere, moved_across, moved_up, moved}
+use Rattle.polygon_overlay.specs.SizingLaws.{HoldsAlone, HoldsMoved, region_of}
+use Rattle.polygon_overlay.specs.Tiles.{AreLevelOrUpright}
+
+-- ---- room for moves
+
+-- The number stays in the range, moved back by one amount and on by the other.
+pub record HasRoom (least greatest back on n : ℤ) : Type 0 where
+  pub below : IsCoordinate least greatest (n -ℤ back)
+  pub above : IsCoordinate least greatest (n +ℤ on)
+
+-- The point stays in the range with each amount: a left side or a right one may stand there, a bottom or a top.
+pub record StaysInRange (least greatest : ℤ) (by : Amounts) (p : Point) : Type 0 where
+  pub across : HasRoom least greatest by.left by.right p.x
+  pub up : HasRoom least greatest by.bottom by.top p.y
+
+-- All points of the contours do: so the box of them all, moved by the amounts, stays in the range.
+abbrev pub Fits : ℤ → ℤ → Amounts → List (List Point) → Type 0
+Fits least greatest by contours = All (All (StaysInRange least greatest by)) contours
+
+-- ---- moves in x, or in y
+
+abbrev pub moved_along : Bool → Amounts → Edge → List Point
+moved_along across by s = cond across (moved_across by.left by.right s) (moved_up by.bottom by.top s)
+
+abbrev pub HasRoomAlong : ℤ → ℤ → Bool → Amounts → Point → Type 0
+HasRoomAlong least greatest across by p =
+    HasRoom least greatest (cond across by.left by.bottom) (cond across by.right by.top) (cond across p.x p.y)
+
+-- ---- answers
+
+-- The shapes are the overlay of the contours alone, by the fill rule.
+pub record IsRegionOf (least greatest : ℤ) (options : IntOverlayOptions) (fill : FillRule) (precision : Precision) (contours : List (List Point))
+    (shapes : List (List (List Point))) : Type 0 where
+  pub held : List (Entry Count)
+  pub alone : HoldsAlone least greatest options.preserve_input_collinear contours held
+  pub is : IsAnswered least greatest options fill Subject precision held shapes
+
+-- The shapes are answered for the contours' region, moved in x and then in y. Without a least area they wind round each rational point of the sized
+-- region once, in the output direction, and round no other, along level and upright edges.
+pub record AreSized (least greatest : ℤ) (by : Amounts) (options : IntOverlayOptions) (fill : FillRule) (precision : Precision)
+    (contours : List (List Point)) (shapes : List (List (List Point))) : Type 0 where
+  pub held : List (Entry Count)
+  pub moves : HoldsMoved least greatest options.preserve_input_collinear by fill precision contours held
+  pub is : IsAnswered least greatest options Positive Subject precision held shapes
+  pub winds :
+      options.min_output_area ≡ 0
+      → WindWhere (once (is_clockwise options.output_direction)) (IsSized by (IsFilledBy fill contours)) (all_contours shapes)
+  pub straight : options.min_output_area ≡ 0 → AreLevelOrUpright (all_contours shapes)
+
+-- ---- refusals
+
+-- Memory was refused, or one of the three overlays: that of the contours, that of their region moved in x, or that of what this gave, moved in y.
+pub data IsNotSized (least greatest : ℤ) (by : Amounts) (options : IntOverlayOptions) (fill : FillRule) (precision : Precision)
+    (contours : List (List Point)) (fault : Fault) : Type 0 where
+  of_contours : IsNotSimplified false precision contours fault → IsNotSized least greatest by options fill precision contours fault
+  of_sides :
+      (held : List (Entry Count)) → HoldsAlone least greatest false contours held →
+      IsNotSimplified false precision (map (moved (moved_across by.left by.right)) (region_of fill precision held)) fault
+      → IsNotSized least greatest by options fill precision contours fault
+  of_levels :
+      (held wide : List (Entry Count)) → HoldsAlone least greatest false contours held →
+      HoldsAlone least greatest false (map (moved (moved_across by.left by.right)) (region_of fill precision held)) wide →
+      IsNotSimplified options.preserve_input_collinear precision (map (moved (moved_up by.bottom by.top)) (region_of Positive precision wide)) fault
+      → IsNotSized least greatest by options fill precision contours fault

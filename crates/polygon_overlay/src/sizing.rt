@@ -1,0 +1,350 @@
+//! Sizing: regions of level and upright edges, grown or shrunk by whole distances.
+//!
+//! The sides of a region move outward, each kind by an amount of its own, and inward where the amount is below 0: first in x, and then in y. What is
+//! answered for the contours is the region. Of it each upright step is moved, those that run up to the right and those that run down to the
+//! left, and the way from one to the next is level. These contours wind more often than 0 round just the region that is sized in x: `Positive`, for
+//! where it shrinks they also wind the other way. What is answered for them is sized in y alike.
+//!
+//! What is shrunk by as much as it is wide is gone, and gaps and holes that are grown over are filled. No contours, and contours that fill nothing,
+//! are answered by no shapes. Both at once would leave a hole that turned round twice, so there are three overlays: each of as many edges as the
+//! answer before it has.
+
+ghost use Rattle.std.specs.Prelude.{◌≡◌, ◌↔◌, ◌<◌, ◌+◌, ◌≤ℤ◌, ◌+ℤ◌, neg_ℤ, cond, IsTrue, IfOk, IfErr, OnOk, IsOkUnless};
+ghost use Rattle.std.specs.Prelude.{◌∷◌, ◌++◌, List, length, map, drop, slice_index_or, All};
+ghost use Rattle.std.specs.Ordering.{int_eq};
+ghost use Rattle.plane_base.specs.GivenViews as given;
+ghost use Rattle.plane_base.specs.Plane.{Point, IsCoordinate};
+ghost use Rattle.plane_base.specs.Views.{point_of, points_of};
+ghost use Rattle.segment_split.specs.LineLaws.{is_level_or_upright, AllLevelOrUpright};
+ghost use Rattle.segment_arrangement.specs.RuleViews.{fill_rule_of};
+ghost use Rattle.contour_walk.specs.BindingLaws.{all_contours};
+ghost use Rattle.contour_walk.specs.ShapeViews.{shapes_of, next_of};
+ghost use Rattle.contour_walk.specs.WalkLaws.{contour_steps};
+ghost use Rattle.polygon_overlay.specs.Calls.{contours_of, AreInRange};
+ghost use Rattle.polygon_overlay.specs.Simplified.{IsNotSimplified};
+ghost use Rattle.polygon_overlay.specs.Sizing.{moved, moved_across, moved_up};
+ghost use Rattle.polygon_overlay.specs.SizingCalls.{HasRoom, HasRoomAlong, StaysInRange, Fits, moved_along, IsRegionOf, AreSized, IsNotSized};
+ghost use Rattle.polygon_overlay.specs.SizingViews.{amounts_of};
+ghost use Rattle.polygon_overlay.specs.Tiles.{AreLevelOrUpright};
+
+use crate::laws::{answers_stay_in_the_box, holding_goes_on, sources_are_held};
+use crate::overlay::Overlay;
+use crate::point_box::is_less;
+use crate::sizing_laws::sized_is_the_neighbourhood;
+use contour_walk::options::IntOverlayOptions;
+use plane_base::fault::Fault;
+use plane_base::int::OverlayInt;
+use plane_base::path::{IntContour, IntPath, IntShape, IntShapes};
+use plane_base::point::IntPoint;
+use plane_base::resource::IntShapeResource;
+use segment_arrangement::fill_rule::FillRule;
+use segment_split::solver::Solver;
+use std::alloc::Global;
+
+/// By how much the sides of a region move outward: left sides to the left, right sides to the right, bottoms down, tops up. Below 0 they move
+/// inward.
+#[derive(Clone, Copy, Debug, PartialEq, Eq)]
+pub struct Sizing<I> {
+    pub left: I,
+    pub right: I,
+    pub bottom: I,
+    pub top: I,
+}
+
+/// The region that the fill rule makes of a source, sized: its shapes, by the options. Without a least area they wind once round each point of the
+/// region and round no other, on edges too.
+///
+/// Each step of the source is level or upright, and its points stay in range with each amount: `are_level_or_upright` and `fits` test that. Refused
+/// as the queries of three overlays are, or with `Memory`.
+pub fn sized<I: OverlayInt, R: IntShapeResource<I>>(
+    alloc: Global,
+    source: &R,
+    fill_rule: FillRule,
+    by: Sizing<I>,
+    options: IntOverlayOptions,
+    solver: Solver,
+) -> Result<IntShapes<I>, Fault>
+    requires ready { R.is_ready source.now }
+    requires in_range { AreInRange I.least I.greatest (contours_of I.value (R.paths source.now)) }
+    requires straight { AreLevelOrUpright (contours_of I.value (R.paths source.now)) }
+    requires fits { Fits I.least I.greatest (amounts_of I.value by) (contours_of I.value (R.paths source.now)) }
+    ensures sized { IfOk result (λ shapes. AreSized I.least I.greatest (amounts_of I.value by) options (fill_rule_of fill_rule) solver.precision
+        (contours_of I.value (R.paths source.now)) (shapes_of I.value shapes.shapes.items)) }
+    ensures refused { IfErr result (IsNotSized I.least I.greatest (amounts_of I.value by) options (fill_rule_of fill_rule) solver.precision
+        (contours_of I.value (R.paths source.now))) }
+{
+    sized_is_the_neighbourhood();
+    answers_stay_in_the_box();
+    let corners = IntOverlayOptions::default();
+    let region = region_of(alloc, source, fill_rule, corners, solver)?;
+    let sides = moved(alloc, &region.shapes, by, true)?;
+    let wide = region_of(alloc, &sides, FillRule::Positive, corners, solver)?;
+    let levels = moved(alloc, &wide.shapes, by, false)?;
+    region_of(alloc, &levels, FillRule::Positive, options, solver)
+}
+
+/// Whether each step of each contour of a source is level or upright. It takes no memory.
+pub fn are_level_or_upright<I: OverlayInt, R: IntShapeResource<I>>(source: &R) -> bool
+    requires { R.is_ready source.now }
+    ensures { IsTrue result ↔ AreLevelOrUpright (contours_of I.value (R.paths source.now)) }
+{
+    for shape in 0..source.shape_count() {
+        for index in 0..source.shape_len(shape) {
+            if !runs_level_or_upright(source.shape_path(shape, index)) {
+                return false;
+            }
+        }
+    }
+    true
+}
+
+/// Whether all points of a source stay in range when they are moved by each of the amounts: by those of x to both sides, by those of y up and down. It
+/// takes no memory.
+pub fn fits<I: OverlayInt, R: IntShapeResource<I>>(source: &R, by: Sizing<I>) -> bool
+    requires { R.is_ready source.now }
+    ensures { IsTrue result ↔ Fits I.least I.greatest (amounts_of I.value by) (contours_of I.value (R.paths source.now)) }
+{
+    for shape in 0..source.shape_count() {
+        for index in 0..source.shape_len(shape) {
+            if !all_fit(source.shape_path(shape, index), by) {
+                return false;
+            }
+        }
+    }
+    true
+}
+
+// Whether each step of a contour is level or upright.
+fn runs_level_or_upright<I: OverlayInt>(points: &[IntPoint<I>]) -> bool
+    ensures { IsTrue result ↔ AllLevelOrUpright (contour_steps (points_of I.value points.now)) }
+{
+    for place in 0..points.len() {
+        if !is_level_or_upright(points[place], point_after(points, place)) {
+            return false;
+        }
+    }
+    true
+}
+
+fn is_level_or_upright<I: OverlayInt>(from: IntPoint<I>, to: IntPoint<I>) -> bool
+    ensures { result ≡ is_level_or_upright (record { a = point_of I.value from; b = point_of I.value to }) }
+{
+    is_same(from.y, to.y) || is_same(from.x, to.x)
+}
+
+fn is_same<I: OverlayInt>(a: I, b: I) -> bool
+    ensures { result ≡ int_eq (I.value a) (I.value b) }
+{
+    a.to_i64() == b.to_i64()
+}
+
+// Whether all points stay in range.
+fn all_fit<I: OverlayInt>(points: &[IntPoint<I>], by: Sizing<I>) -> bool
+    ensures { IsTrue result ↔ All (StaysInRange I.least I.greatest (amounts_of I.value by)) (points_of I.value points.now) }
+{
+    for point in points {
+        if !stays_in_range(*point, by) {
+            return false;
+        }
+    }
+    true
+}
+
+fn stays_in_range<I: OverlayInt>(point: IntPoint<I>, by: Sizing<I>) -> bool
+    ensures { IsTrue result ↔ StaysInRange I.least I.greatest (amounts_of I.value by) (point_of I.value point) }
+{
+    has_room(by.left, by.right, point.x) && has_room(by.bottom, by.top, point.y)
+}
+
+// Whether a number stays in range, moved back by one amount and on by another.
+fn has_room<I: OverlayInt>(back: I, on: I, number: I) -> bool
+    ensures { IsTrue result ↔ HasRoom I.least I.greatest (I.value back) (I.value on) (I.value number) }
+{
+    let wide = i128::from(number.to_i64());
+    is_coordinate::<I>(wide - i128::from(back.to_i64()))
+        && is_coordinate::<I>(wide + i128::from(on.to_i64()))
+}
+
+fn is_coordinate<I: OverlayInt>(number: i128) -> bool
+    ensures { IsTrue result ↔ IsCoordinate I.least I.greatest number }
+{
+    is_at_most(i128::from(I::MIN_COORDINATE.to_i64()), number)
+        && is_at_most(number, i128::from(I::MAX_COORDINATE.to_i64()))
+}
+
+fn is_at_most(a: i128, b: i128) -> bool
+    ensures { IsTrue result ↔ (a ≤ℤ b) }
+{
+    a <= b
+}
+
+// The shapes of the region that the fill rule makes of a source, held alone.
+fn region_of<I: OverlayInt, R: IntShapeResource<I>>(
+    alloc: Global,
+    source: &R,
+    fill_rule: FillRule,
+    options: IntOverlayOptions,
+    solver: Solver,
+) -> Result<IntShapes<I>, Fault>
+    requires ready { R.is_ready source.now }
+    requires in_range { AreInRange I.least I.greatest (contours_of I.value (R.paths source.now)) }
+    ensures answered { IfOk result (λ shapes. IsRegionOf I.least I.greatest options (fill_rule_of fill_rule) solver.precision
+        (contours_of I.value (R.paths source.now)) (shapes_of I.value shapes.shapes.items)) }
+    ensures refused { IfErr result (IsNotSimplified options.preserve_input_collinear solver.precision (contours_of I.value (R.paths source.now))) }
+{
+    holding_goes_on();
+    sources_are_held();
+    let mut overlay = Overlay::new_custom(alloc, 0, options, solver)?;
+    overlay.overlay_of_source(source, fill_rule)
+}
+
+// The contours of shapes, their upright steps moved, or else their level ones.
+fn moved<I: OverlayInt>(
+    alloc: Global,
+    shapes: &[IntShape<I>],
+    by: Sizing<I>,
+    is_across: bool,
+) -> Result<IntShape<I>, Fault>
+    requires { All (All (HasRoomAlong I.least I.greatest is_across (amounts_of I.value by))) (all_contours (shapes_of I.value shapes.now)) }
+    ensures is { IfOk result (λ shape. given.contours_of I.value shape.contours.items
+        ≡ map (moved (moved_along is_across (amounts_of I.value by))) (all_contours (shapes_of I.value shapes.now))) }
+    ensures memory { IsOkUnless result Fault.Memory }
+{
+    let mut contours = Vec::new(alloc);
+    for shape in shapes {
+        add_moved(alloc, &mut contours, &shape.contours, by, is_across)?;
+    }
+    Ok(IntShape { contours })
+}
+
+// Adds the contours of a shape, moved.
+fn add_moved<I: OverlayInt>(
+    alloc: Global,
+    kept: &mut Vec<IntContour<I>>,
+    contours: &[IntContour<I>],
+    by: Sizing<I>,
+    is_across: bool,
+) -> Result<(), Fault>
+    requires { All (All (HasRoomAlong I.least I.greatest is_across (amounts_of I.value by))) (given.contours_of I.value contours.now) }
+    ensures is { OnOk result (given.contours_of I.value kept.new.items ≡ given.contours_of I.value kept.old.items
+        ++ map (moved (moved_along is_across (amounts_of I.value by))) (given.contours_of I.value contours.now)) }
+    ensures memory { IsOkUnless result Fault.Memory }
+{
+    for contour in contours {
+        kept.push(moved_contour(alloc, &contour.points, by, is_across)?)?;
+    }
+    Ok(())
+}
+
+// A contour by its moved steps.
+fn moved_contour<I: OverlayInt>(
+    alloc: Global,
+    points: &[IntPoint<I>],
+    by: Sizing<I>,
+    is_across: bool,
+) -> Result<IntContour<I>, Fault>
+    requires { All (HasRoomAlong I.least I.greatest is_across (amounts_of I.value by)) (points_of I.value points.now) }
+    ensures is { IfOk result (λ contour. points_of I.value contour.points.items
+        ≡ moved (moved_along is_across (amounts_of I.value by)) (points_of I.value points.now)) }
+    ensures memory { IsOkUnless result Fault.Memory }
+{
+    let mut kept = Vec::with_capacity(alloc, points.len())?;
+    for place in 0..points.len() {
+        push_moved(
+            &mut kept,
+            by,
+            is_across,
+            points[place],
+            point_after(points, place),
+        )?;
+    }
+    Ok(IntPath { points: kept })
+}
+
+// Adds the ends of a step, moved, unless it runs along the way of the move.
+fn push_moved<I: OverlayInt>(
+    kept: &mut Vec<IntPoint<I>>,
+    by: Sizing<I>,
+    is_across: bool,
+    from: IntPoint<I>,
+    to: IntPoint<I>,
+) -> Result<(), Fault>
+    requires from_has_room { HasRoomAlong I.least I.greatest is_across (amounts_of I.value by) (point_of I.value from) }
+    requires to_has_room { HasRoomAlong I.least I.greatest is_across (amounts_of I.value by) (point_of I.value to) }
+    ensures is { OnOk result (points_of I.value kept.new.items ≡ points_of I.value kept.old.items
+        ++ moved_along is_across (amounts_of I.value by) (record { a = point_of I.value from; b = point_of I.value to })) }
+    ensures memory { IsOkUnless result Fault.Memory }
+{
+    if is_across {
+        push_across(kept, by, from, to)
+    } else {
+        push_up(kept, by, from, to)
+    }
+}
+
+fn push_across<I: OverlayInt>(
+    kept: &mut Vec<IntPoint<I>>,
+    by: Sizing<I>,
+    from: IntPoint<I>,
+    to: IntPoint<I>,
+) -> Result<(), Fault>
+    requires from_has_room { HasRoom I.least I.greatest (I.value by.left) (I.value by.right) (I.value from.x) }
+    requires to_has_room { HasRoom I.least I.greatest (I.value by.left) (I.value by.right) (I.value to.x) }
+    ensures is { OnOk result (points_of I.value kept.new.items ≡ points_of I.value kept.old.items
+        ++ moved_across (I.value by.left) (I.value by.right) (record { a = point_of I.value from; b = point_of I.value to })) }
+    ensures memory { IsOkUnless result Fault.Memory }
+{
+    if is_same(from.y, to.y) {
+        return Ok(());
+    }
+    let is_right_side = is_less(from.y, to.y);
+    kept.push(IntPoint::new(outward(by.left, by.right, is_right_side, from.x), from.y))?;
+    kept.push(IntPoint::new(outward(by.left, by.right, is_right_side, to.x), to.y))?;
+    Ok(())
+}
+
+fn push_up<I: OverlayInt>(
+    kept: &mut Vec<IntPoint<I>>,
+    by: Sizing<I>,
+    from: IntPoint<I>,
+    to: IntPoint<I>,
+) -> Result<(), Fault>
+    requires from_has_room { HasRoom I.least I.greatest (I.value by.bottom) (I.value by.top) (I.value from.y) }
+    requires to_has_room { HasRoom I.least I.greatest (I.value by.bottom) (I.value by.top) (I.value to.y) }
+    ensures is { OnOk result (points_of I.value kept.new.items ≡ points_of I.value kept.old.items
+        ++ moved_up (I.value by.bottom) (I.value by.top) (record { a = point_of I.value from; b = point_of I.value to })) }
+    ensures memory { IsOkUnless result Fault.Memory }
+{
+    if is_same(from.x, to.x) {
+        return Ok(());
+    }
+    let is_top = is_less(to.x, from.x);
+    kept.push(IntPoint::new(from.x, outward(by.bottom, by.top, is_top, from.y)))?;
+    kept.push(IntPoint::new(to.x, outward(by.bottom, by.top, is_top, to.y)))?;
+    Ok(())
+}
+
+// A number moved on by one amount, or back by the other.
+fn outward<I: OverlayInt>(back: I, on: I, is_on: bool, number: I) -> I
+    requires { HasRoom I.least I.greatest (I.value back) (I.value on) (I.value number) }
+    ensures { I.value result ≡ I.value number +ℤ cond is_on (I.value on) (neg_ℤ (I.value back)) }
+{
+    if is_on {
+        I::from_i64(number.to_i64() + on.to_i64())
+    } else {
+        I::from_i64(number.to_i64() - back.to_i64())
+    }
+}
+
+// The point after this one, that after the last is the first.
+fn point_after<I: OverlayInt>(points: &[IntPoint<I>], place: usize) -> IntPoint<I>
+    requires { place < length points.now }
+    ensures is { (first : Point) (rest : List Point) → points_of I.value points.now ≡ first ∷ rest →
+        point_of I.value result ≡ next_of first (points_of I.value (drop (place + 1) points.now)) }
+    ensures listed { (at : _) × (at < length points.now) × (result ≡ slice_index_or points.now at result) }
+{
+    if place + 1 < points.len() {
+        return points[place + 1];
+    }
+    points[0]
+}
