@@ -47,7 +47,8 @@ enum {
     POLYGON_C_ROOM = 10,     /* an array is too small for the answer */
     POLYGON_C_SIZE = 11,     /* a query has more words than the library knows: that is older than the header */
     POLYGON_C_RANGE64 = 12,  /* a coordinate is not from -68719476736 to 68719476735: see polygon_c64.h */
-    POLYGON_C_JOIN = 13      /* no join has this number, or numbers that are to be kept differ: see polygon_overlay_edges */
+    POLYGON_C_JOIN = 13,     /* no join has this number, or numbers that are to be kept differ: see polygon_overlay_edges */
+    POLYGON_C_SLANT = 14     /* an edge is neither level nor upright: see polygon_sized */
 };
 
 /* The version that this header is of: a million times its first number, a thousand times its second, and its third. */
@@ -161,6 +162,11 @@ typedef struct polygon_c_wide {
     int64_t high;
 } polygon_c_wide;
 
+/* By how much the sides of a region move outward: left ones to the left, right ones to the right, bottoms down, tops up. Below 0 they move inward. */
+typedef struct polygon_c_sizing {
+    int32_t left, right, bottom, top;
+} polygon_c_sizing;
+
 /* What the number of an edge becomes where several come to lie on one. */
 enum {
     POLYGON_C_JOIN_OR = 0,    /* each bit that one of them has */
@@ -215,6 +221,12 @@ uint32_t polygon_c_clip(const polygon_c_point *shape, size_t shape_points, const
                         const polygon_c_point *lines, size_t lines_points, const size_t *line_lengths, size_t lines_len,
                         const uint32_t *query, size_t query_words, polygon_c_point *points, size_t points_room, size_t *lengths, size_t lengths_room,
                         polygon_c_sizes *sizes);
+
+/* See polygon_sized. */
+uint32_t polygon_c_sized(const polygon_c_point *subject, size_t subject_points, const size_t *subject_lengths, size_t subject_contours,
+                         int32_t left, int32_t right, int32_t bottom, int32_t top, const uint32_t *query, size_t query_words,
+                         polygon_c_point *points, size_t points_room, size_t *contours, size_t contours_room, size_t *shapes, size_t shapes_room,
+                         polygon_c_sizes *sizes);
 
 /* See polygon_relate. */
 uint32_t polygon_c_relate(const polygon_c_point *subject, size_t subject_points, const size_t *subject_lengths, size_t subject_contours,
@@ -415,6 +427,29 @@ static inline uint32_t polygon_clip(const polygon_c_contours *shape, const polyg
                           (const size_t *)polygon_c_somewhere(lines->lengths), lines->lengths_len, words.all, POLYGON_C_QUERY_WORDS,
                           (polygon_c_point *)polygon_c_somewhere(answer->points), answer->points_room,
                           (size_t *)polygon_c_somewhere(answer->lengths), answer->lengths_room, &answer->sizes);
+}
+
+/*
+ * Grows or shrinks what contours fill, of which each edge is level or upright: `by` says how far left sides move to the left, right sides to the
+ * right, bottoms down and tops up, first in x and then in y, and inward where it is below 0. What is shrunk by as much as it is wide is gone, and gaps
+ * and holes that are grown over are filled. The shapes are answered as polygon_overlay answers them, with level and upright edges. Of the query it reads
+ * all but the rule and what is of lines; all its numbers are tested.
+ *
+ * After POLYGON_C_RANGE it tells POLYGON_C_SLANT, where an edge is neither level nor upright, and then POLYGON_C_RANGE again, where a point that is moved
+ * back by one amount, or on by the other, would be out of range, in x or in y.
+ */
+static inline uint32_t polygon_sized(const polygon_c_contours *contours, const polygon_c_sizing *by, const polygon_c_query *query,
+                                     polygon_c_shapes *answer) {
+    const polygon_c_words words = polygon_c_words_of(query);
+    if (!polygon_c_are_there(contours) || !polygon_c_is_there(answer->points, answer->points_room) ||
+        !polygon_c_is_there(answer->contours, answer->contours_room) || !polygon_c_is_there(answer->shapes, answer->shapes_room)) {
+        return POLYGON_C_LENGTHS;
+    }
+    return polygon_c_sized((const polygon_c_point *)polygon_c_somewhere(contours->points), contours->points_len,
+                           (const size_t *)polygon_c_somewhere(contours->lengths), contours->lengths_len, by->left, by->right, by->bottom, by->top,
+                           words.all, POLYGON_C_QUERY_WORDS, (polygon_c_point *)polygon_c_somewhere(answer->points), answer->points_room,
+                           (size_t *)polygon_c_somewhere(answer->contours), answer->contours_room, (size_t *)polygon_c_somewhere(answer->shapes),
+                           answer->shapes_room, &answer->sizes);
 }
 
 /*

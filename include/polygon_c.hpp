@@ -22,6 +22,7 @@ typedef std::vector<Contours> Shapes;
 typedef std::vector<std::vector<std::uint64_t>> Numbers; // those of the edges of contours, from each point to the next, and from the last to the first
 typedef polygon_c_relations Relations;
 typedef polygon_c_link Link;
+typedef polygon_c_sizing Sizing;
 
 // What is asked: by default the union, filled where contours wind round a point. Its fields are those of polygon_c_query.
 struct Query : polygon_c_query {
@@ -38,7 +39,7 @@ struct Refused : std::runtime_error {
 };
 struct TooMany : Refused { using Refused::Refused; };    // POLYGON_C_COUNT and POLYGON_C_EDGES
 struct Unknown : Refused { using Refused::Refused; };    // POLYGON_C_RULE to POLYGON_C_PRECISION, and POLYGON_C_SIZE
-struct Unfit : Refused { using Refused::Refused; };      // POLYGON_C_LENGTHS and POLYGON_C_JOIN
+struct Unfit : Refused { using Refused::Refused; };      // POLYGON_C_LENGTHS, POLYGON_C_JOIN and POLYGON_C_SLANT
 struct OutOfRange : Refused { using Refused::Refused; }; // POLYGON_C_RANGE
 
 // ---- how vectors and arrays become each other
@@ -51,7 +52,7 @@ inline void check(std::uint32_t status) {
     polygon_text(status, text, sizeof text);
     if (status == POLYGON_C_COUNT || status == POLYGON_C_EDGES) throw TooMany(status, text);
     if ((status >= POLYGON_C_RULE && status <= POLYGON_C_PRECISION) || status == POLYGON_C_SIZE) throw Unknown(status, text);
-    if (status == POLYGON_C_LENGTHS || status == POLYGON_C_JOIN) throw Unfit(status, text);
+    if (status == POLYGON_C_LENGTHS || status == POLYGON_C_JOIN || status == POLYGON_C_SLANT) throw Unfit(status, text);
     if (status == POLYGON_C_RANGE) throw OutOfRange(status, text);
     throw Refused(status, text);
 }
@@ -204,6 +205,14 @@ inline Contours clip(const Contours &shape, const Contours &lines, const Query &
         return status;
     });
     return flat::cut(room.all, room.of_contours);
+}
+
+// What contours of level and upright edges fill, grown or shrunk.
+inline Shapes sized(const Contours &contours, const Sizing &by, const Query &query = Query()) {
+    const flat::Given one(contours);
+    flat::Room room(one.points_len);
+    room.fill([&](polygon_c_shapes &answer) { return polygon_sized(&one, &by, &query, &answer); });
+    return room.answer();
 }
 
 inline Relations relate(const Contours &subject, const Contours &clip, const Query &query = Query()) {

@@ -17,6 +17,10 @@ typedef struct polygon_c_point64 {
     int64_t x, y;
 } polygon_c_point64;
 
+typedef struct polygon_c_sizing64 {
+    int64_t left, right, bottom, top;
+} polygon_c_sizing64;
+
 /* ---- what the library exports */
 
 /* See polygon_overlay. */
@@ -58,6 +62,12 @@ uint32_t polygon_c_clip64(const polygon_c_point64 *shape, size_t shape_points, c
                           const polygon_c_point64 *lines, size_t lines_points, const size_t *line_lengths, size_t lines_len,
                           const uint32_t *query, size_t query_words, polygon_c_point64 *points, size_t points_room, size_t *lengths, size_t lengths_room,
                           polygon_c_sizes *sizes);
+
+/* See polygon_sized. */
+uint32_t polygon_c_sized64(const polygon_c_point64 *subject, size_t subject_points, const size_t *subject_lengths, size_t subject_contours,
+                           int64_t left, int64_t right, int64_t bottom, int64_t top, const uint32_t *query, size_t query_words,
+                           polygon_c_point64 *points, size_t points_room, size_t *contours, size_t contours_room, size_t *shapes, size_t shapes_room,
+                           polygon_c_sizes *sizes);
 
 /* See polygon_relate. */
 uint32_t polygon_c_relate64(const polygon_c_point64 *subject, size_t subject_points, const size_t *subject_lengths, size_t subject_contours,
@@ -208,6 +218,21 @@ static inline uint32_t polygon_clip64(const polygon_c_contours64 *shape, const p
                             (const size_t *)polygon_c_somewhere(lines->lengths), lines->lengths_len, words.all, POLYGON_C_QUERY_WORDS,
                             (polygon_c_point64 *)polygon_c_somewhere(answer->points), answer->points_room,
                             (size_t *)polygon_c_somewhere(answer->lengths), answer->lengths_room, &answer->sizes);
+}
+
+/* See polygon_sized. */
+static inline uint32_t polygon_sized64(const polygon_c_contours64 *contours, const polygon_c_sizing64 *by, const polygon_c_query *query,
+                                       polygon_c_shapes64 *answer) {
+    const polygon_c_words words = polygon_c_words_of(query);
+    if (!polygon_c_are_there64(contours) || !polygon_c_is_there(answer->points, answer->points_room) ||
+        !polygon_c_is_there(answer->contours, answer->contours_room) || !polygon_c_is_there(answer->shapes, answer->shapes_room)) {
+        return POLYGON_C_LENGTHS;
+    }
+    return polygon_c_sized64((const polygon_c_point64 *)polygon_c_somewhere(contours->points), contours->points_len,
+                             (const size_t *)polygon_c_somewhere(contours->lengths), contours->lengths_len, by->left, by->right, by->bottom, by->top,
+                             words.all, POLYGON_C_QUERY_WORDS, (polygon_c_point64 *)polygon_c_somewhere(answer->points), answer->points_room,
+                             (size_t *)polygon_c_somewhere(answer->contours), answer->contours_room, (size_t *)polygon_c_somewhere(answer->shapes),
+                             answer->shapes_room, &answer->sizes);
 }
 
 /* See polygon_hierarchy. */

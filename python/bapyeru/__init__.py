@@ -21,10 +21,10 @@ What is no number, no flag or no list where one is wanted is a TypeError. No num
 The library is looked for under the name in BAPYERU_LIBRARY, or beside this module, or where the repository builds it.
 """
 from ._arrays import GREATEST, LEAST, NARROW_GREATEST, NARROW_LEAST, Flat, FlatOverlays, FlatShapes
-from ._library import JOIN, KINDS, LENGTHS, OK, RANGE, RANGE64, ROOM, MemoryRefused, OutOfRange, Refused, TooMany, Unfit, Unknown, keep_memory
+from ._library import JOIN, KINDS, LENGTHS, OK, RANGE, RANGE64, ROOM, SLANT, MemoryRefused, OutOfRange, Refused, TooMany, Unfit, Unknown, keep_memory
 from .calls import (
     FILLS, JOINS, PLACES, PRECISIONS, RULES, STRATEGIES, Link, Relations, clip_lines, contains_points, doubled_area, hierarchy, library_version, locate,
-    overlay, overlay_edges, overlays, relate, slice_shape, text,
+    overlay, overlay_edges, overlays, relate, sized, slice_shape, text,
 )
 from .grid import Grid
 from .layers import overlay_geometries, overlay_layers
@@ -36,7 +36,7 @@ for _public in (Flat, FlatOverlays, FlatShapes, Grid, Link, MemoryRefused, OutOf
 del _public
 __all__ = [
     "FILLS", "GREATEST", "JOIN", "JOINS", "KINDS", "LEAST", "LENGTHS", "NARROW_GREATEST", "NARROW_LEAST", "OK", "PLACES", "PRECISIONS", "RANGE", "RANGE64",
-    "ROOM", "RULES", "STRATEGIES", "Flat", "FlatOverlays", "FlatShapes", "Grid", "Link", "MemoryRefused", "OutOfRange", "Refused", "Relations", "TooMany",
-    "Unfit", "Unknown", "clip_lines", "contains_points", "doubled_area", "hierarchy", "keep_memory", "library_version", "locate", "overlay",
-    "overlay_edges", "overlay_geometries", "overlay_layers", "overlays", "relate", "slice_shape", "text",
+    "ROOM", "RULES", "SLANT", "STRATEGIES", "Flat", "FlatOverlays", "FlatShapes", "Grid", "Link", "MemoryRefused", "OutOfRange", "Refused", "Relations",
+    "TooMany", "Unfit", "Unknown", "clip_lines", "contains_points", "doubled_area", "hierarchy", "keep_memory", "library_version", "locate", "overlay",
+    "overlay_edges", "overlay_geometries", "overlay_layers", "overlays", "relate", "sized", "slice_shape", "text",
 ]

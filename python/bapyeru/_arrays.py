@@ -12,7 +12,7 @@ import sys
 from typing import Any, Callable, NamedTuple
 
 from . import _library
-from ._library import LENGTHS, RANGE64, Flag, Length, Number, Point, Point64, refusal
+from ._library import LENGTHS, RANGE64, SLANT, Flag, Length, Number, Point, Point64, refusal
 
 LEAST, GREATEST = -(2**36), 2**36 - 1
 # What the exports reckon with whose points have 32 bits: faster, and in less memory.
@@ -248,6 +248,31 @@ class Contours:
         return f"those of the {self.name} sum to {asked}, and it has {points} points" if status == LENGTHS and asked != points else ""
 
 
+class Sizable(Contours):
+    """Contours that are to be sized by four amounts: with coordinates of 64 bits where points would leave the range of 32 when they are moved."""
+
+    def __init__(self, given, amounts, name):
+        super().__init__(given, name)
+        reach = max(map(abs, amounts))
+        if len(self.points) and self.points._type_ is Point and not are_narrow((min(self.points) - reach, max(self.points) + reach)):
+            self.points = (Point64 * len(self.points))(*self.points)
+
+    def fault(self, status):
+        if status == SLANT:
+            return next(self.slanted(), "")
+        return f"a point of the {self.name}, moved" if status == RANGE64 else super().fault(status)
+
+    def slanted(self):
+        """Where edges are that are neither level nor upright."""
+        points, first = list(pairs(self.points, len(self.points) // 2)), 0
+        for contour, length in enumerate(self.lengths):
+            own = points[first : first + length]
+            for at, (one, other) in enumerate(zip(own, [*own[1:], *own[:1]])):
+                if one[0] != other[0] and one[1] != other[1]:
+                    yield f"that from {one} to {other}, at {self.named(contour, at)}"
+            first += length
+
+
 class Numbered(Contours):
     """Contours whose edges have numbers: those of the edges from each point to the next, from the last to the first."""
 
@@ -297,7 +322,7 @@ def export_for(given, export):
 
 
 def check(status, *given):
-    """Raises what a status says, and which of the contours that were given it is about. (None is out of range.)"""
+    """Raises what a status says, and which of the contours that were given it is about. (None is out of range, but where it is moved.)"""
     if status != _library.OK:
         raise refusal(status, next(filter(None, (it.fault(status) for it in given)), ""))
 

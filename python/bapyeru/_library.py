@@ -72,6 +72,7 @@ _CALLS = {
     "polygon_c_hierarchy": (_STATUS, [*_CONTOURS * 2, *_QUERY, *_ARRAY * 4, _TO]),
     "polygon_c_slice": (_STATUS, [*_CONTOURS * 2, *_QUERY, *_ARRAY * 3, _TO]),
     "polygon_c_clip": (_STATUS, [*_CONTOURS * 2, *_QUERY, *_ARRAY * 2, _TO]),
+    "polygon_c_sized": (_STATUS, [*_CONTOURS, *[ctypes.c_int32] * 4, *_QUERY, *_ARRAY * 3, _TO]),
     "polygon_c_relate": (_STATUS, [*_CONTOURS * 2, *_QUERY, _TO]),
     "polygon_c_contains_points": (_STATUS, [*_CONTOURS, *_ARRAY, *_ARRAY, *_ARRAY]),
     "polygon_c_locate": (_STATUS, [*_CONTOURS, *_ARRAY, *_ARRAY, *_ARRAY]),
@@ -81,6 +82,7 @@ EXPORTS = {
     **_CALLS,
     # (with coordinates of 64 bits)
     **{f"{export}64": it for export, it in _CALLS.items()},
+    "polygon_c_sized64": (_STATUS, [*_CONTOURS, *[ctypes.c_int64] * 4, *_QUERY, *_ARRAY * 3, _TO]),
     "polygon_c_version": (ctypes.c_uint32, []),
     "polygon_c_text": (ctypes.c_size_t, [_STATUS, *_ARRAY]),
 }
@@ -125,7 +127,7 @@ def keep_memory() -> bool:
 
 # ---- refusals
 
-OK, RULE, FILL, STRATEGY, PRECISION, LENGTHS, RANGE, ROOM, RANGE64, JOIN = 0, 4, 5, 6, 7, 8, 9, 10, 12, 13
+OK, RULE, FILL, STRATEGY, PRECISION, LENGTHS, RANGE, ROOM, RANGE64, JOIN, SLANT = 0, 4, 5, 6, 7, 8, 9, 10, 12, 13, 14
 
 
 class Refused(Exception):
@@ -155,7 +157,7 @@ class Unknown(Refused, ValueError):
 
 
 class Unfit(Refused, ValueError):
-    """Lengths don't sum to what they cut, or numbers of edges that are to be kept differ."""
+    """Lengths don't sum to what they cut, numbers of edges that are to be kept differ, or an edge is neither level nor upright."""
 
 
 class OutOfRange(Refused, ValueError):
@@ -163,7 +165,7 @@ class OutOfRange(Refused, ValueError):
 
 
 KINDS = {1: MemoryRefused, 2: TooMany, 3: TooMany, 4: Unknown, 5: Unknown, 6: Unknown, 7: Unknown, 8: Unfit, 9: OutOfRange, 10: Refused,
-         11: Refused, 12: OutOfRange, 13: Unfit}
+         11: Refused, 12: OutOfRange, 13: Unfit, 14: Unfit}
 
 
 def text(status: int) -> str:

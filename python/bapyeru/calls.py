@@ -250,6 +250,31 @@ def clip_lines(shape, lines, fill="nonzero", depth=1, outside=False, border=True
     return _shaped(Flat, flat, found)
 
 
+@overload
+def sized(contours: Contours, by: Union[int, Sequence[int]], fill: str = "nonzero", *, flat: Literal[False] = False, **options: Any) -> List[Shape]: ...
+@overload
+def sized(contours: Contours, by: Union[int, Sequence[int]], fill: str = "nonzero", *, flat: Literal[True], **options: Any) -> FlatShapes: ...
+def sized(contours, by, fill="nonzero", *, flat=False, **options):
+    """The shapes of what contours fill, grown or shrunk by whole distances: first in x, then in y. Each edge that is given is level or upright, and so is each
+    that is answered. What is shrunk by as much as it is wide is gone, and gaps and holes that are grown over are filled.
+
+    Arguments:
+        contours: a group.
+        by: how far left sides move to the left, right sides to the right, bottoms down and tops up, inward where it is below 0; or one number for all four.
+        fill, flat, options: as of `overlay`.
+
+    A contour with an edge that is neither level nor upright is `Unfit`. Where a point that is moved by one of the amounts would be out of range, in x or in y,
+    that is `OutOfRange`.
+    """
+    amounts = [_arrays.integer(it, "an amount") for it in (_arrays.listed(by, "by") if hasattr(by, "__len__") else [by] * 4)]
+    if len(amounts) != 4:
+        raise TypeError(f"by: one amount is wanted, or four, and not {len(amounts)}")
+    # (by more than the range is wide all points leave it)
+    amounts = [max(-(2**40), min(it, 2**40)) for it in amounts]
+    given, query = [_arrays.Sizable(contours, amounts, "contours")], _query("subject", fill, options)
+    return _shaped(FlatShapes, flat, _asked("polygon_c_sized", given, query, _library.Sizes(), _LENGTHS, *amounts))
+
+
 def relate(subject: Contours, clip: Contours, fill: str = "nonzero", depth: int = 1, strategy: str = "auto", precision: str = "high") -> Relations:
     """How what a subject and a clip fill is related: all `Relations` at once, with the arguments of `overlay`."""
     given, query = [_arrays.Contours(subject, "subject"), _arrays.Contours(clip, "clip")], _query_of("subject", fill, depth, strategy, precision)

@@ -656,6 +656,74 @@ static void far_places(void) {
     test(polygon_c_area64(FAR, 1, &area) == POLYGON_C_RANGE64, "the area of a point too far");
 }
 
+/* ---- sized regions */
+
+/* Whether contours are sized so: to one contour, or to none. */
+static int is_sized(const polygon_c_contours *contours, polygon_c_sizing by, const polygon_c_point *wanted, size_t points) {
+    polygon_c_query query = query_of(POLYGON_C_CLIP, POLYGON_C_NONZERO);
+    const size_t one = points != 0;
+    Room room;
+    polygon_c_shapes answer = with_room(&room, LENGTH(room.points), LENGTH(room.contours), LENGTH(room.shapes));
+    return polygon_sized(contours, &by, &query, &answer) == POLYGON_C_OK && are_sizes(answer.sizes, points, one, one) &&
+           !memcmp(room.points, wanted, points * sizeof *wanted) && is_left(&room, points, one, one, 0);
+}
+
+/* Whether sizing is refused so, and everything left as it was. */
+static int is_unsized(uint32_t status, polygon_c_contours contours, polygon_c_sizing by, polygon_c_query query) {
+    Room room;
+    polygon_c_shapes answer = with_room(&room, LENGTH(room.points), LENGTH(room.contours), LENGTH(room.shapes));
+    return polygon_sized(&contours, &by, &query, &answer) == status && are_sizes(answer.sizes, 12345, 12345, 12345) && is_left(&room, 0, 0, 0, 0);
+}
+
+static void sized(void) {
+    static const polygon_c_point BAR[] = {{0, 0}, {4, 0}, {4, 20}, {0, 20}}, THIN[] = {{1, 20}, {1, 0}, {3, 0}, {3, 20}};
+    static const polygon_c_point HOLED[] = {{0, 0}, {10, 0}, {10, 10}, {0, 10}, {4, 4}, {4, 5}, {5, 5}, {5, 4}};
+    static const polygon_c_point NEAR[] = {{0, 0}, {10, 0}, {10, 10}, {0, 10}, {14, 0}, {24, 0}, {24, 10}, {14, 10}};
+    static const polygon_c_point GROWN[] = {{-1, 11}, {-1, -1}, {11, -1}, {11, 11}}, JOINED[] = {{-2, 12}, {-2, -2}, {26, -2}, {26, 12}};
+    static const polygon_c_point APART[] = {{-1, 14}, {-1, -3}, {12, -3}, {12, 14}}, FAR[] = {{0, 10}, {0, 0}, {524287, 0}, {524287, 10}};
+    static const polygon_c_point KITE[] = {{0, 0}, {10, 0}, {11, 10}, {0, 10}};
+    const polygon_c_contours bar = {BAR, 4, FOURS, 1}, holed = {HOLED, 8, FOURS, 2}, near = {NEAR, 8, FOURS, 2}, kite = {KITE, 4, FOURS, 1};
+    const polygon_c_sizing ones = {1, 1, 1, 1}, twos = {2, 2, 2, 2}, four = {1, 2, 3, 4}, thin = {-1, -1, 0, 0}, gone = {-2, -2, 0, 0};
+    const polygon_c_sizing most = {0, 524277, 0, 0}, more = {0, 524278, 0, 0}, least = {INT32_MIN, 0, 0, 0}, greatest = {0, 0, 0, INT32_MAX};
+    polygon_c_query query = query_of(POLYGON_C_SUBJECT, POLYGON_C_NONZERO), other = query;
+    polygon_c_contours wrong = kite;
+    polygon_c_shapes answer;
+    Room room;
+
+    test(is_sized(&bar, thin, THIN, 4) && is_sized(&bar, gone, THIN, 0), "a bar shrunk, and as much as it is wide");
+    test(is_sized(&holed, ones, GROWN, 4), "a square grown over its hole");
+    test(is_sized(&near, twos, JOINED, 4), "two squares that are joined");
+    test(is_sized(&ONE, four, APART, 4), "four amounts");
+    test(is_sized(&NONE, greatest, THIN, 0), "nothing sized");
+    test(is_sized(&ONE, most, FAR, 4) && is_unsized(POLYGON_C_RANGE, ONE, more, query), "a square up to the end of the range, and farther");
+    test(is_unsized(POLYGON_C_RANGE, ONE, least, query) && is_unsized(POLYGON_C_RANGE, ONE, greatest, query), "amounts at the ends of 32 bits");
+    test(is_unsized(POLYGON_C_SLANT, kite, ones, query) && is_unsized(POLYGON_C_SLANT, kite, greatest, query), "an edge that slants, before a far move");
+    wrong.points_len = 3;
+    test(is_unsized(POLYGON_C_LENGTHS, wrong, ones, query), "lengths before an edge that slants");
+    wrong.points = NULL, other.precision = 9;
+    test(is_unsized(POLYGON_C_LENGTHS, wrong, ones, query) && is_unsized(POLYGON_C_PRECISION, kite, ones, other), "points at NULL, and a precision");
+    answer = with_room(&room, 3, 6, 5);
+    test(polygon_sized(&bar, &ones, &query, &answer) == POLYGON_C_ROOM && are_sizes(answer.sizes, 4, 1, 1) && is_left(&room, 0, 0, 0, 0), "no room for a bar");
+}
+
+static void far_sized(void) {
+    static const polygon_c_point64 KITE[] = {{0, 0}, {GREATEST, 0}, {GREATEST, 10}, {1, 10}};
+    const polygon_c_contours64 kite = {KITE, 4, FOURS, 1};
+    const polygon_c_sizing64 grown = {1, 2, 3, 4}, shrunk = {-1, -2, -3, -4}, most = {INT64_MIN, 0, 0, INT64_MAX};
+    polygon_c_query query = query_of(POLYGON_C_SUBJECT, POLYGON_C_NONZERO);
+    Room64 room;
+    polygon_c_shapes64 answer = in_room(&room);
+    test(polygon_sized64(&ALL, &shrunk, &query, &answer) == POLYGON_C_RANGE64 && is_untouched(&room), "the earth shrunk, which amounts would move out of the range");
+    answer = in_room(&room);
+    test(polygon_sized64(&SMALL, &grown, &query, &answer) == POLYGON_C_OK && are_sizes(answer.sizes, 4, 1, 1) && is_at(room.points[0], 2, 11) &&
+             is_at(room.points[1], 2, 0) && is_at(room.points[2], 9, 0),
+         "a well grown");
+    answer = in_room(&room);
+    test(polygon_sized64(&ALL, &grown, &query, &answer) == POLYGON_C_RANGE64 && polygon_sized64(&SMALL, &most, &query, &answer) == POLYGON_C_RANGE64,
+         "the earth grown, and a well by too much");
+    test(polygon_sized64(&kite, &grown, &query, &answer) == POLYGON_C_SLANT && is_untouched(&room), "a far edge that slants");
+}
+
 static void simplified(void) {
     static const polygon_c_point BOW[] = {{0, 0}, {10, 10}, {10, 0}, {0, 10}};
     const polygon_c_contours bow = {BOW, 4, FOURS, 1};
@@ -681,6 +749,7 @@ static void texts(void) {
         "the query has more words than are known",
         "a coordinate is not from -68719476736 to 68719476735",
         "no join has this number, or numbers that are to be kept differ",
+        "an edge is neither level nor upright",
         "no status has this number",
     };
     char text[128];
@@ -747,6 +816,13 @@ static uint32_t by_clip(Room *room) {
     with_room(room, 0, 0, 0);
     answer = for_paths(room, 24, 6);
     return polygon_clip(&TWO, &LINE, &query, &answer);
+}
+
+static uint32_t by_sized(Room *room) {
+    const polygon_c_sizing ones = {1, 1, 1, 1};
+    polygon_c_query query = query_of(POLYGON_C_SUBJECT, POLYGON_C_NONZERO);
+    polygon_c_shapes answer = with_room(room, 24, 6, 5);
+    return polygon_sized(&TWO, &ones, &query, &answer);
 }
 
 static uint32_t by_relate(Room *room) {
@@ -858,6 +934,8 @@ int main(int count, char **words) {
     far_overlays();
     far_lines();
     far_places();
+    sized();
+    far_sized();
     simplified();
     texts();
     refusals(by_overlay, "an overlay without memory");
@@ -866,6 +944,7 @@ int main(int count, char **words) {
     refusals(by_overlays, "many overlays without memory");
     refusals(by_slice, "a slice without memory");
     refusals(by_clip, "a clip without memory");
+    refusals(by_sized, "sizing without memory");
     refusals(by_relate, "relations without memory");
     refusals(by_places, "points without memory");
     refusals(by_located, "places without memory");

@@ -90,6 +90,8 @@ void others() {
     Query outside;
     outside.clip_outside = 1;
     test(same(clip(PARCEL, road), Contours{{{5, 0}, {5, 10}}}) && clip(PARCEL, road, outside).size() == 2, "a road, inside and outside");
+    test(same(sized(PARCEL, {1, 2, 3, 4}), Shapes{Contours{{{-1, 14}, {-1, -3}, {12, -3}, {12, 14}}}}), "a parcel grown");
+    test(same(sized(HOLED, {2, 2, 2, 2}), Shapes{Contours{{{-2, 12}, {-2, -2}, {12, -2}, {12, 12}}}}) && sized(PARCEL, {-5, -5, 0, 0}).empty(), "none left");
     test(relate(POND, PARCEL).within == 1 && relate(PARCEL, POND).within == 0, "relations");
     test(contains_points({HOLED}, {{1, 1}, {5, 5}, {20, 0}}) == std::vector<bool>({true, false, false}), "points");
     test(contains_points(Shapes(), std::vector<Point>()).empty(), "no points");
@@ -104,6 +106,8 @@ void refusals() {
     odd.strategy = 9;
     test(thrown<Unknown>([&] { relate(PARCEL, POND, odd); }) == POLYGON_C_STRATEGY, "a strategy");
     test(thrown<OutOfRange>([&] { slice({box(0, 0, 1 << 19, 1)}, POND); }) == POLYGON_C_RANGE, "a far point");
+    test(thrown<Unfit>([&] { sized({{{0, 0}, {10, 0}, {0, 10}}}, {1, 1, 1, 1}); }) == POLYGON_C_SLANT, "an edge that slants");
+    test(thrown<OutOfRange>([&] { sized(PARCEL, {0, 1 << 19, 0, 0}); }) == POLYGON_C_RANGE, "a parcel grown too far");
     test(thrown<OutOfRange>([&] { contains_points({HOLED}, {{0, -524289}}); }) == POLYGON_C_RANGE, "a far point that is asked for");
     test(thrown<Unknown>([] { flat::check(POLYGON_C_SIZE); }) == POLYGON_C_SIZE, "a size");
     test(thrown<OutOfRange>([&] { doubled_area({{{0, 1 << 19}}}); }) == POLYGON_C_RANGE, "a far corner");

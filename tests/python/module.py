@@ -96,6 +96,7 @@ def module():
     tell("a road outside", bapyeru.clip_lines(PARCEL, [[(-5, 5), (15, 5)]], outside=True) == [[(-5, 5), (0, 5)], [(10, 5), (15, 5)]])
     tell("a road along the border", bapyeru.clip_lines(PARCEL, [[(0, 0), (0, 10)]]) == [[(0, 0), (0, 10)]])
     tell("no road along the border", bapyeru.clip_lines(PARCEL, [[(0, 0), (0, 10)]], border=False) == [])
+    sizes()
     tell("tiles", bapyeru.overlays(PARCEL, [POND, [], PARCEL], "difference") == [HOLED, bapyeru.overlay(PARCEL), []])
     tell("no tiles", bapyeru.overlays(PARCEL, []) == [])
     island = [[(0, 0), (10, 0), (10, 10), (0, 10)], [(2, 2), (2, 8), (8, 8), (8, 2)], [(4, 4), (6, 4), (6, 6), (4, 6)]]
@@ -110,6 +111,33 @@ def module():
     for page in ("README.md", "docs/PYTHON.md", "python/README.md"):
         blocks = re.findall(r"((?:^    (?:>>> |\.\.\. ).*\n(?:^    (?!>>> |\.\.\. ).+\n)*)+)", (ROOT / page).read_text(), re.M)
         tell(f"lines of {page}", is_as_shown("\n".join(blocks)))
+
+
+def sizes():
+    """Regions of level and upright edges, grown and shrunk."""
+    box = lambda left, bottom, right, top: [(left, bottom), (right, bottom), (right, top), (left, top)]
+    bar, holed, near = [box(0, 0, 4, 20)], [*PARCEL, [(4, 4), (4, 5), (5, 5), (5, 4)]], [*PARCEL, box(14, 0, 24, 10)]
+    whole = lambda left, bottom, right, top: [[[(left, top), (left, bottom), (right, bottom), (right, top)]]]
+    sized, far = bapyeru.sized, 2**36 - 1
+    tell("a bar shrunk", sized(bar, (-1, -1, 0, 0)) == whole(1, 0, 3, 20) and sized(bar, (-2, -2, 0, 0)) == sized(bar, -2) == [])
+    tell("a square grown over its hole", sized(holed, 1) == whole(-1, -1, 11, 11))
+    tell("a square grown over its hole in y, and shrunk", len(sized(holed, (0, 0, 9, 9))[0]) == 1 and len(sized(holed, -1)[0]) == 2)
+    tell("two squares that are joined", sized(near, 2) == whole(-2, -2, 26, 12) and len(sized(near, (1, 2, 9, 9))) == 2)
+    tell("four amounts", sized(PARCEL, [1, 2, 3, 4]) == whole(-1, -3, 12, 14) and sized(PARCEL, range(1, 5)) == sized(PARCEL, (1, 2, 3, 4)))
+    tell("sized by no amount", sized(PARCEL, 0) == bapyeru.overlay(PARCEL) and sized([], 2**70) == sized([[]], 5) == [])
+    tell("what a fill fills", sized([*PARCEL, *PARCEL], 1, "evenodd") == [] and sized([it[::-1] for it in PARCEL], 1, "positive") == [])
+    tell("options", sized(PARCEL, 1, least_area=145) == [] and sized(PARCEL, 1, clockwise=True)[0][0][1] == (-1, 11))
+    flat = sized(bapyeru.Flat(array.array("i", CORNERS), [4]), 1, flat=True)
+    tell("flat and sized", unlaid(flat) == whole(-1, -1, 11, 11) and unlaid(sized(flat, -1, flat=True)) == bapyeru.overlay(PARCEL))
+    tell("beyond what is narrow", sized(PARCEL, (0, 2**19, 0, 0)) == whole(0, 0, 2**19 + 10, 10))
+    tell("to the end of the range", sized(PARCEL, far - 10) == whole(10 - far, 10 - far, far, far))
+    tell("out of range", is_refused(bapyeru.OutOfRange, 12, sized, PARCEL, far - 9) and is_refused(bapyeru.OutOfRange, 12, sized, PARCEL, -(2**80)))
+    tell("an edge that slants", is_refused(bapyeru.Unfit, 14, sized, [*PARCEL, [(0, 0), (9, 0), (0, 9)]], 1))
+    tell("where it slants", is_told(lambda: sized([*PARCEL, [(0, 0), (9, 0), (0, 9)]], 1), "from (9, 0) to (0, 9)", "contour 1", "point 1"))
+    tell("lengths of what is sized", is_refused(bapyeru.Unfit, 8, sized, bapyeru.Flat(CORNERS, [3]), 1))
+    for value in (*NO_INTEGERS, (1, 2, 3), (1, 2, 3, 4, 5), (1, 2, 3, 4.0), (), {1, 2, 3, 4}):
+        tell(f"{value!r} as amounts", is_type_error(sized, PARCEL, value))
+    tell("no rule of sizing", is_type_error(sized, PARCEL, 1, rule="union") and is_refused(bapyeru.Unknown, 5, sized, PARCEL, 1, "odd"))
 
 
 def wide():

@@ -5,3 +5,4 @@ mod CallLaws
 mod ManyLaws
 mod PlaceLaws
 mod CarryLaws
+mod SizingLaws

@@ -83,6 +83,7 @@ IsUnasked plane least greatest q g refusal.Count = ⊥
 IsUnasked plane least greatest q g refusal.Edges = ⊥
 IsUnasked plane least greatest q g refusal.Room = ⊥
 IsUnasked plane least greatest q g refusal.Join = ⊥
+IsUnasked plane least greatest q g refusal.Slant = ⊥
 
 -- All tests are passed, and the engine refuses for a fault that is told so.
 pub record IsRefusedByEngine {P : Type 0} (plane : P → Point) (least greatest : ℤ) (IsNotTold : Request → List (List Point) → List (List Point) → Fault → Type 0) (q : List ℕ) (g : Given P)

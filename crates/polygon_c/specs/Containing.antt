@@ -53,6 +53,7 @@ IsContainRefused plane least greatest a places room refusal.Strategy = ⊥
 IsContainRefused plane least greatest a places room refusal.Precision = ⊥
 IsContainRefused plane least greatest a places room refusal.Size = ⊥
 IsContainRefused plane least greatest a places room refusal.Join = ⊥
+IsContainRefused plane least greatest a places room refusal.Slant = ⊥
 
 -- The flags are written over the beginning of the array, with status 0; or it stays as it was, for the reason that the status tells.
 abbrev pub IsContainCallIn : {P : Type 0} → (Refusal → ℕ) → (P → Point) → ℤ → ℤ → Arrays P → List P → List ℕ → List ℕ → ℕ → Type 0

@@ -90,3 +90,4 @@ IsUnfit plane least greatest g refusal.Precision = ⊥
 IsUnfit plane least greatest g refusal.Room = ⊥
 IsUnfit plane least greatest g refusal.Size = ⊥
 IsUnfit plane least greatest g refusal.Join = ⊥
+IsUnfit plane least greatest g refusal.Slant = ⊥

@@ -14,3 +14,4 @@ pub mod Nesting
 pub mod Many
 pub mod Joins
 pub mod EdgeQueries
+pub mod Sizings

@@ -66,6 +66,7 @@ IsManyUnfit plane least greatest g groups refusal.Precision = ⊥
 IsManyUnfit plane least greatest g groups refusal.Room = ⊥
 IsManyUnfit plane least greatest g groups refusal.Size = ⊥
 IsManyUnfit plane least greatest g groups refusal.Join = ⊥
+IsManyUnfit plane least greatest g groups refusal.Slant = ⊥
 
 -- Why the engine isn't asked: the first test that fails, in the order of one overlay; or, where none does, memory, which may always be
 -- refused.
@@ -82,6 +83,7 @@ IsManyUnasked plane least greatest q g groups refusal.Count = ⊥
 IsManyUnasked plane least greatest q g groups refusal.Edges = ⊥
 IsManyUnasked plane least greatest q g groups refusal.Room = ⊥
 IsManyUnasked plane least greatest q g groups refusal.Join = ⊥
+IsManyUnasked plane least greatest q g groups refusal.Slant = ⊥
 
 -- All tests are passed, and the engine refuses the overlay with one of the groups for a fault that is told so.
 pub record IsOneRefused {P : Type 0} (plane : P → Point) (least greatest : ℤ) (q : List ℕ) (g : Given P) (groups : List ℕ) (why : Refusal) : Type 0 where

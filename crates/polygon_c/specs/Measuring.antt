@@ -30,6 +30,7 @@ IsUnmeasured plane least greatest points refusal.Lengths = ⊥
 IsUnmeasured plane least greatest points refusal.Room = ⊥
 IsUnmeasured plane least greatest points refusal.Size = ⊥
 IsUnmeasured plane least greatest points refusal.Join = ⊥
+IsUnmeasured plane least greatest points refusal.Slant = ⊥
 
 -- The area is told, with status 0; or it stays as it was, for the reason that the status tells.
 abbrev pub IsAreaCallIn : {P : Type 0} → (Refusal → ℕ) → (P → Point) → ℤ → ℤ → List P → Wide → Wide → ℕ → Type 0

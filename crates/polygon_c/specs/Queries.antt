@@ -142,3 +142,4 @@ IsUnread ws refusal.Lengths = ⊥
 IsUnread ws refusal.Range = ⊥
 IsUnread ws refusal.Room = ⊥
 IsUnread ws refusal.Join = ⊥
+IsUnread ws refusal.Slant = ⊥

@@ -1,7 +1,7 @@
 -- The numbers and the texts of refusals.
 use Rattle.std.specs.Prelude.{ℕ, List, codes, if◌then◌else◌, ◌==◌}
 use Rattle.polygon_c.specs.declared.refusal.Refusal.{Refusal}
-use Rattle.polygon_c.specs.declared.refusal.Refusal.TheVariants.{Memory, Count, Edges, Rule, Fill, Strategy, Precision, Lengths, Range, Room, Size, Join}
+use Rattle.polygon_c.specs.declared.refusal.Refusal.TheVariants.{Memory, Count, Edges, Rule, Fill, Strategy, Precision, Lengths, Range, Room, Size, Join, Slant}
 
 -- the status of a call that is refused so
 abbrev pub status_of : Refusal → ℕ
@@ -17,6 +17,7 @@ status_of Range = 9
 status_of Room = 10
 status_of Size = 11
 status_of Join = 13
+status_of Slant = 14
 
 -- the status of a call with coordinates of 64 bits that is refused so
 abbrev pub wide_status_of : Refusal → ℕ
@@ -32,6 +33,7 @@ wide_status_of Range = 12
 wide_status_of Room = 10
 wide_status_of Size = 11
 wide_status_of Join = 13
+wide_status_of Slant = 14
 
 -- what a status says
 abbrev pub text_of : ℕ → List ℕ
@@ -50,4 +52,5 @@ text_of status =
     if status == 11 then codes "the query has more words than are known" else
     if status == 12 then codes "a coordinate is not from -68719476736 to 68719476735" else
     if status == 13 then codes "no join has this number, or numbers that are to be kept differ" else
+    if status == 14 then codes "an edge is neither level nor upright" else
     codes "no status has this number"

@@ -9,11 +9,15 @@ ghost use Rattle.contour_walk.specs.ShapeViews.{shapes_of, IsFlat};
 ghost use Rattle.polygon_overlay.specs.ClipCalls.{IsClipOf};
 ghost use Rattle.polygon_overlay.specs.SliceCalls.{IsSliceOf};
 ghost use Rattle.polygon_overlay.specs.Location.{in_shapes, AreLocated};
+ghost use Rattle.polygon_overlay.specs.SizingCalls.{Fits};
+ghost use Rattle.polygon_overlay.specs.SizingViews.{amounts_of};
+ghost use Rattle.polygon_overlay.specs.Tiles.{AreLevelOrUpright};
 ghost use Rattle.plane_base.specs.Plane.{IsWithin};
 ghost use Rattle.polygon_c.specs.Given.{flat_contours, AreFlatInRange};
 ghost use Rattle.polygon_c.specs.Calls.{IsNotSliced, IsNotClipped};
 ghost use Rattle.polygon_c.specs.Nesting.{IsHierarchyOf};
 ghost use Rattle.polygon_c.specs.Answers.{IsOverlayOf, IsNotOverlaid, AreRelationsOf, IsNotRelated};
+ghost use Rattle.polygon_c.specs.Sizings.{IsSizingOf, IsSizingRefused};
 
 use crate::query::Request;
 use polygon_overlay::overlay::Overlay;
@@ -24,6 +28,7 @@ use polygon_overlay::plane::path::{IntPath, IntShape, IntShapes};
 use polygon_overlay::plane::point::IntPoint;
 use polygon_overlay::point_location::IntPointContainment;
 use polygon_overlay::relate::{PredicateOverlay, Relations, lie_apart};
+use polygon_overlay::sizing::{Sizing, sized as sized_region};
 use polygon_overlay::string::clip::IntClip;
 use polygon_overlay::string::slice::IntSlice;
 use polygon_overlay::walk::hierarchy::{ChildLink, FlatShapeHierarchy};
@@ -160,6 +165,31 @@ pub(crate) fn clip<I: OverlayInt>(
     ensures refused { IfErr result (IsNotClipped request (flat_contours I.value shape.now) (flat_contours I.value lines.now)) }
 {
     shape.clip_source(alloc, lines, request.fill_rule, request.clip_rule)
+}
+
+// What contours fill, grown or shrunk.
+pub(crate) fn sized<I: OverlayInt>(
+    alloc: Global,
+    request: Request,
+    contours: &FlatContoursBuffer<I>,
+    by: Sizing<I>,
+) -> Result<IntShapes<I>, Fault>
+    requires ready { IsFlat contours.now }
+    requires in_range { AreFlatInRange I.value I.least I.greatest contours.now }
+    requires straight { AreLevelOrUpright (flat_contours I.value contours.now) }
+    requires fits { Fits I.least I.greatest (amounts_of I.value by) (flat_contours I.value contours.now) }
+    ensures answered { IfOk result (λ shapes. IsSizingOf I.least I.greatest (amounts_of I.value by) request (flat_contours I.value contours.now)
+        (shapes_of I.value shapes.shapes.items)) }
+    ensures refused { IfErr result (IsSizingRefused I.least I.greatest (amounts_of I.value by) request (flat_contours I.value contours.now)) }
+{
+    sized_region(
+        alloc,
+        contours,
+        request.fill_rule,
+        by,
+        request.options,
+        request.solver,
+    )
 }
 
 // How what a subject and a clip fill is related. Where their boxes share no point nothing is redrawn.

@@ -22,6 +22,7 @@ mod overlay;
 mod query;
 mod refusal;
 mod relate;
+mod sized;
 mod slice;
 mod text;
 mod version;

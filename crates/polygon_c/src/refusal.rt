@@ -35,6 +35,8 @@ pub enum Refusal {
     Size,
     /// No join has this number, or numbers of edges that lie on each other are to be kept, and differ.
     Join,
+    /// An edge of a region that is to be sized is neither level nor upright.
+    Slant,
 }
 
 impl Refusal {
@@ -55,6 +57,7 @@ impl Refusal {
             Refusal::Room => 10,
             Refusal::Size => 11,
             Refusal::Join => 13,
+            Refusal::Slant => 14,
         }
     }
 
