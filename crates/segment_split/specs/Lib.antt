@@ -9,6 +9,7 @@ pub mod AlongLaws
 pub mod SpreadLaws
 pub mod WholeLaws
 pub mod LineLaws
+pub mod TurnLaws
 pub mod Stops
 pub mod Sweeps
 pub mod SecondEnds

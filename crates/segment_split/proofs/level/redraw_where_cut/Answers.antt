@@ -1,8 +1,8 @@
-use Rattle.std.proofs.Common.{◌≡◌, ◌∙◌, ◌<◌, ◌^◌, Bool, true, false, cond, List, length, refl, sym, ap, subst, arith}
+use Rattle.std.proofs.Common.{◌≡◌, ◌∙◌, Bool, true, false, cond, List, refl, sym, ap, subst, arith}
 use Rattle.std.proofs.lemmas.Bool.{false≢true}
 use Rattle.std.proofs.lemmas.List.{length-map}
 use Rattle.std.proofs.lemmas.Result.{err_from_is_err_and}
-use Rattle.plane_base.specs.Counts.{Count, Entry, boolean}
+use Rattle.plane_base.specs.Counts.{boolean}
 use Rattle.segment_split.specs.Refusals.{IsRefusal}
 use Rattle.segment_split.specs.SecondEnds.{ended}
 use Rattle.segment_split.specs.SegmentViews.{entry_of, entries_of}
@@ -12,6 +12,7 @@ use Rattle.segment_split.proofs.Redrawing.Refusals.{handed_on}
 use Rattle.segment_split.proofs.Stops.Begins.{mapped_reverse}
 use Rattle.segment_split.proofs.Stops.Ends.{begins, ends_redrawn, ends_marked, ends_many}
 use Rattle.segment_split.proofs.Stops.Looks.{ticks_few}
+use Rattle.segment_split.proofs.Stops.Sweeping.{normal_in_order}
 use Rattle.segment_split.proofs.level.redraw_where_cut.Goals as goal
 
 -- the one list or the other
@@ -21,7 +22,7 @@ either_list false xs ys zs f g = g refl
 
 pub is_cut-requires-clause-sound : goal.is_cut-requires-clause-sound
 is_cut-requires-clause-sound g c = record {
-  normal = c.requires.normal;
+  order = normal_in_order (entries_of g.I.OverlayInt.value c.args.keys.now) c.requires.normal;
   level = c.requires.level;
   few = omega (arith, length-map c.args.keys.now (entry_of g.I.OverlayInt.value), c.requires.few);
   seconds = rw c.deref.ensures.value c.in_ok-ends.ensures.ends;
@@ -29,7 +30,7 @@ is_cut-requires-clause-sound g c = record {
 
 pub sweep-requires-clause-sound : goal.sweep-requires-clause-sound
 sweep-requires-clause-sound g c = record {
-  normal = c.requires.normal;
+  order = normal_in_order (entries_of g.I.OverlayInt.value c.args.keys.now) c.requires.normal;
   level = c.requires.level;
   few = omega (arith, length-map c.args.keys.now (entry_of g.I.OverlayInt.value), c.requires.few);
   seconds = rw c.deref-2.ensures.value c.in_ok-ends.ensures.ends;
@@ -121,7 +122,7 @@ returns-in_err-is_marked-clause-steps g c =
     let begun = begins es (ended es ends) (lines_of value lines) (entries_of value c.reserve.new.self.items) first (ap (entries_of value) (c.reserve.ensures.items ∙ c.clear.ensures.items)) seconds.all seconds.sorted
     c.in_ok-lines.ensures.bare c.in_ok-lines.ensures.column c.in_ok-lines.ensures.rising c.in_ok-lines.ensures.has in
     let some = c.in_err-is_marked.ensures.some first begun in
-    let ticks = ticks_few es c.requires.normal some.0 first c.sweep.new.steps.pairs some.1 in
+    let ticks = ticks_few es (normal_in_order es c.requires.normal) some.0 first c.sweep.new.steps.pairs some.1 in
     record { comparisons = c.sweep.ensures.compared; pairs = ticks.0; bound = ticks.1 }
 
 pub returns-clause-steps : goal.returns-clause-steps
@@ -136,7 +137,7 @@ returns-clause-steps g c =
     let begun = begins es (ended es ends) (lines_of value lines) (entries_of value c.reserve.new.self.items) first (ap (entries_of value) (c.reserve.ensures.items ∙ c.clear.ensures.items)) seconds.all seconds.sorted
     c.in_ok-lines.ensures.bare c.in_ok-lines.ensures.column c.in_ok-lines.ensures.rising c.in_ok-lines.ensures.has in
     let at = c.in_ok-is_marked.ensures.swept first begun in
-    let ticks = ticks_few es c.requires.normal at.1.stops first c.sweep.new.steps.pairs at.1.ticked in
+    let ticks = ticks_few es (normal_in_order es c.requires.normal) at.1.stops first c.sweep.new.steps.pairs at.1.ticked in
     record { comparisons = c.sweep.ensures.compared; pairs = ticks.0; bound = ticks.1 }
 
 pub returns-then-len-ge-TOO_MANY-clause-steps : goal.returns-then-len-ge-TOO_MANY-clause-steps
@@ -151,7 +152,7 @@ returns-then-len-ge-TOO_MANY-clause-steps g c =
     let begun = begins es (ended es ends) (lines_of value lines) (entries_of value c.reserve.new.self.items) first (ap (entries_of value) (c.reserve.ensures.items ∙ c.clear.ensures.items)) seconds.all seconds.sorted
     c.in_ok-lines.ensures.bare c.in_ok-lines.ensures.column c.in_ok-lines.ensures.rising c.in_ok-lines.ensures.has in
     let at = c.in_ok-is_marked.ensures.swept first begun in
-    let ticks = ticks_few es c.requires.normal at.1.stops first c.sweep.new.steps.pairs at.1.ticked in
+    let ticks = ticks_few es (normal_in_order es c.requires.normal) at.1.stops first c.sweep.new.steps.pairs at.1.ticked in
     record { comparisons = c.sweep.ensures.compared; pairs = ticks.0; bound = ticks.1 }
 
 pub returns-then-len-ge-TOO_MANY-clause-refused : goal.returns-then-len-ge-TOO_MANY-clause-refused
