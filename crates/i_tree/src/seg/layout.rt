@@ -1,4 +1,5 @@
-//! How values fall into 32 buckets.
+//! How values fall into 32 buckets of one width, a power of two, so that a shift tells the bucket; more than half of
+//! them have values. Degenerate cases: a range that spans fewer than 31 has no buckets. Each call takes constant time.
 ghost use Rattle.std.specs.Prelude.{◌≡◌, ℕ, ℤ, pos, ◌+ℤ◌, ◌≤ℤ◌, ◌<ℤ◌, ◌+◌, ◌*◌, ◌/◌, ◌^◌, ◌<◌, ◌≤◌, IfNone, IfSome, IsTrue, ◌↔◌};
 ghost use Rattle.i_tree.specs.Layout.{Buckets, bucket_of, offset_of, AreBuckets, IsWidth, BucketsRise, IsAccepted};
 

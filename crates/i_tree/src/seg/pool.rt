@@ -1,4 +1,8 @@
 //! The pool of a bucket tree: each insertion once, at a place that its nodes name.
+//!
+//! In the words of textbooks the list of spare places is a free list: a place goes there once no node names it, and
+//! the next insertion takes one from there. To drop what has expired takes a step for each node, and for each name at
+//! those of the mask.
 ghost use Rattle.std.specs.Prelude.{◌≡◌, ◌≢◌, ◌≤◌, ◌<◌, ◌^◌, ◌+◌, ℕ, [], map, filter, length, not, ◌&&◌, ◌==◌, IfOk, OnErr, slice_index_or, true};
 ghost use Rattle.std.specs.Prelude.{vec_capacity, bit_and, if◌then◌else◌};
 ghost use Rattle.std.specs.Int.{bit_at};

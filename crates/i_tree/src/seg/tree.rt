@@ -1,8 +1,12 @@
-//! Buckets in a tree: a pool keeps each insertion once, and each node names the places of those that are placed there.
+//! A segment tree over 32 buckets: a pool keeps each insertion once, and each node names the places of those that are
+//! placed there.
 //!
 //! An insertion is placed at each node whose buckets are all its own while the parent's are not. A walk goes over the
-//! nodes that hold a bucket of its query and takes each insertion at the first node where both meet. A place that no
-//! node names any more is used again.
+//! nodes that hold a bucket of its query and takes each insertion at the first node where both meet. What has expired
+//! goes when a query comes to it, and a place that no node names any more is used again.
+//!
+//! Degenerate cases: a range that spans fewer than 31 has no tree. An insertion takes a step for each of the 63 nodes,
+//! a query that and a step for each name at the nodes that it goes over.
 ghost use Rattle.std.specs.Prelude.{◌≡◌, ℤ, pos, ◌+ℤ◌, ◌≤ℤ◌, ◌<ℤ◌, ◌≤◌, ◌<◌, ◌+◌, ◌-◌, map, length, ◌↔◌, ◌&&◌, IsTrue, OnOk, OnErr, IfOk, IfSome};
 ghost use Rattle.std.specs.Prelude.{IfNone, IsPermutation, ◌==◌};
 ghost use Rattle.i_tree.specs.Layout.{bucket_of, AreBuckets, BucketsRise, IsAccepted};

@@ -1,7 +1,8 @@
-//! Mending a red-black tree after an insertion.
+//! Mending a red-black tree after an insertion: at most a step for each level, and two rotations.
 //!
-//! In the words of textbooks `mend_insertion` is the rebalancing, or fix-up, after an insertion; `redden` is the colour
-//! flip below a red uncle's parent; `straighten` is the first rotation of a double rotation, and the `lift` after it the second.
+//! In the words of textbooks `mend_insertion` is the rebalancing, or fix-up, after an insertion; `redden` is the
+//! colour flip below a red uncle's parent; `straighten` is the first rotation of a double rotation, and the `lift`
+//! after it the second.
 ghost use Rattle.std.specs.Prelude.{◌≡◌, ℕ, ◌<◌, List, Bool};
 ghost use Rattle.i_tree.specs.Tree.Shape.{Context};
 ghost use Rattle.i_tree.specs.Tree.Pool.{Nodes, Stands};

@@ -1,8 +1,8 @@
-//! Mending a red-black tree where a black node was taken out.
+//! Mending a red-black tree where a black node was taken out: at most a step for each level, and three rotations.
 //!
 //! In the words of textbooks `remove` is the deletion, by way of the in-order successor where a node has two children;
-//! `take_out` splices out a node with one child at most; `mend_removal` is the rebalancing, or fix-up, after a deletion, and a
-//! lack is the extra black of the place that the fix-up is at.
+//! `take_out` splices out a node with one child at most; `mend_removal` is the rebalancing, or fix-up, after a
+//! deletion, and a lack is the extra black of the place that the fix-up is at.
 ghost use Rattle.std.specs.Prelude.{◌≡◌, ◌≢◌, ℕ, ◌<◌, List, ◌∷◌, Bool, false};
 ghost use Rattle.i_tree.specs.Tree.Shape.{Context, Tree, under, join, names};
 ghost use Rattle.i_tree.specs.Tree.Pool.{Nodes, Stands, Focus, root_of, parent_of, IsOnSide};
