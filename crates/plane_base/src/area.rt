@@ -1,7 +1,8 @@
-//! The area of a contour, and which way round it runs.
+//! The area of a contour, by the shoelace formula, and which way round it runs. Degenerate cases: without points, or with all
+//! on one line, the area is 0, and the contour doesn't run clockwise. It takes linear time.
 //!
-//! A step counts twice the area between it and the origin, at most 2^73, or 2^41 where coordinates have 20 bits. So 128 bits hold
-//! the sum of 2^53 steps, or of any number of these. Where there may be more, areas are compared by a sum in two parts.
+//! A step counts twice the area between it and the origin, at most 2^73, or 2^41 where coordinates have 20 bits. So 128 bits
+//! hold the sum of 2^53 steps, or of any number of these. Where there may be more, areas are compared by a sum in two parts.
 
 ghost use Rattle.std.specs.Prelude.{◌≡◌, ◌≤◌, ◌/◌, ◌^◌, pos, ◌≤ℤ◌, ◌<ℤ◌, ◌+ℤ◌, ◌*ℤ◌, ◌↔◌, IsTrue, false, All, length, nat_le, unsigned_abs};
 ghost use Rattle.plane_base.specs.Plane.{IsWithin, HasSize};

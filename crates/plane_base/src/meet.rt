@@ -3,11 +3,12 @@
 //! A proper crossing at a whole point marks both segments there. One off the grid becomes a whole point as its `Rounding` says.
 //! Where segments don't cross properly, an end that lies strictly inside the other segment marks that segment.
 //!
-//! Most pairs that are held against each other lay nothing. `sides_unless_apart` tells them by the coordinates of their ends, by one
-//! turn where they begin or end in one point, or by two where the other lies beside the target. `meet_closely` goes on with these two
-//! where that tells nothing. A vertical segment that crosses a horizontal one takes no turn more. The rest take two, and a proper
-//! crossing one quotient for each coordinate, but for the one that a horizontal or vertical target has throughout: that is taken as
-//! it is.
+//! Most pairs lay nothing. `sides_unless_apart` tells them by the coordinates of their ends, by one turn where they begin or
+//! end in one point, or by two where the other lies beside the target. Where the other begins at the x where the target ends,
+//! that tells them only if neither is vertical: (0,1)-(1,0) marks (0,0)-(0,2), and (0,0)-(1,1) marks (1,0)-(1,2).
+//! `meet_closely` goes on with the two turns. A vertical segment that crosses a horizontal one takes no turn more, the rest
+//! two, and a proper crossing one quotient for each coordinate, but for the one that a horizontal or vertical target has
+//! throughout.
 
 ghost use Rattle.std.specs.Prelude.{◌≡◌, ◌≢◌, IfNone, IfSome, IsTrue, IsFalse, true};
 ghost use Rattle.std.specs.declared.cmp.Ordering.TheVariants.{Greater};

@@ -1,4 +1,4 @@
-//! The turn of three points.
+//! The turn of three points: the sign of a cross product, which is exact. Where two of them are equal, all lie on one line.
 
 ghost use Rattle.std.specs.Prelude.{◌≡◌, pos, ◌-ℤ◌, ◌≤ℤ◌};
 ghost use Rattle.std.specs.Ordering.{int_cmp};

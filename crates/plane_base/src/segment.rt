@@ -1,4 +1,7 @@
 //! Segments with their orders: of a list, and of those that a vertical line meets.
+//!
+//! The second order takes one turn, as the status of a plane sweep needs it. Degenerate cases: segments that begin in one point
+//! go by angle; a vertical one has no place among them, since it expires where it begins. Each call takes constant time.
 
 ghost use Rattle.std.specs.Prelude.{◌≡◌, pos, ◌≤ℤ◌, ⊤, cond, int_lt};
 ghost use Rattle.std.specs.Int.{int_min, int_max};

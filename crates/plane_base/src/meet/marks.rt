@@ -1,4 +1,5 @@
-//! What a pair of segments lays on each of the two.
+//! What a pair of segments lays on each of the two: one mark at most, and where both run on one line up to two, in order along
+//! the segment.
 
 ghost use Rattle.std.specs.Prelude.{◌≡◌, [], ◌∷◌, IfSome, All, true, false};
 ghost use Rattle.plane_base.specs.Plane.{Point, IsWithin};

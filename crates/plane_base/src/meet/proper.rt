@@ -1,4 +1,9 @@
-//! Proper crossings: where two segments cross, as a whole point.
+//! Proper crossings: where two segments cross, as a whole point. That is the mean of the target's ends, weighed by the sizes of
+//! their turns against the other: one quotient for each coordinate, to the nearest whole number, halves up. With a radius it
+//! goes down along a horizontal or vertical target, and then to the nearest of the four ends, if that is within the radius.
+//!
+//! The crossing is whole just where the rounded point is the mean, and then goes to no end. Degenerate cases: a rounded point
+//! that is an end of one of the two marks the other alone. It takes constant time.
 
 ghost use Rattle.std.specs.Prelude.{◌≡◌, ◌≤ℤ◌, ◌*ℤ◌, IfSome, pos, true, cond, int_le, int_lt};
 ghost use Rattle.std.specs.Ordering.{int_eq};

@@ -1,4 +1,8 @@
-//! Segments that don't cross properly: which ends lie strictly inside the other.
+//! Segments that don't cross properly: which ends lie strictly inside the other. Four turns tell which ends lie on the other's
+//! line, and the order of points which of these lie inside.
+//!
+//! Degenerate cases: a common end lies inside of neither. Of two on one line the least end inside is found, and `marks` lays
+//! all of them, up to two on a segment. It takes constant time.
 
 ghost use Rattle.std.specs.Prelude.{◌≡◌, ◌++◌, pos, IfSome};
 ghost use Rattle.std.specs.Option.{option_map};
