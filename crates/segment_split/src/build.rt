@@ -1,4 +1,5 @@
-//! Edges, paths and contours added to a list of segments.
+//! Edges, paths and contours added to a list of segments. A contour is added whole or not at all; of a path the edges before a refused
+//! one stay. Degenerate cases: edges of no length are left out. It takes linear time.
 
 ghost use Rattle.std.specs.Prelude.{◌≡◌, ◌<◌, ◌≤◌, ◌+◌, ◌^◌, ◌++◌, true, All, IfErr, OnOk, OnErr, length, map, vec_capacity};
 ghost use Rattle.plane_base.specs.Plane.{IsWithin};

@@ -1,4 +1,5 @@
-//! Segments cut at their marks, which stand in one sorted list.
+//! Segments cut at their marks, which stand in one sorted list: one merge of the two. Runs of segments without marks are copied
+//! together. Degenerate cases: a mark that stands twice lays no step the second time. It takes linear time.
 
 ghost use Rattle.std.specs.Prelude.{◌≡◌, ◌≢◌, ◌≤◌, ◌<◌, ◌++◌, ◌∷◌, ◌+◌, [], List, All, length, take, drop, map, IfOk, OnOk, IsOkUnless};
 ghost use Rattle.plane_base.specs.Counts.{IsNormal, lay};

@@ -1,5 +1,6 @@
-//! Guesses of where a height stands in a list: for each height one place, by a hash of it, so that a new guess may take an older one's
-//! place. Whoever asks has to look whether the guess is right. It takes a few steps to ask or to tell.
+//! Guesses of where a height stands in a list, a direct-mapped cache: for each height one place, by a multiplicative hash of it, so
+//! that a new guess may take an older one's place. Whoever asks has to look whether the guess is right. It takes a few steps to ask or
+//! to tell.
 
 ghost use Rattle.std.specs.Prelude.{IsOkUnless};
 

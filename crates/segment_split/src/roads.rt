@@ -1,5 +1,10 @@
-//! Which pairs of segments a pass looks at: a road for each strategy. Every road finds the marks that all pairs lay, and tells
-//! whether any cross off the grid. It need not look at pairs of old segments.
+//! The broad phase: which pairs of segments a pass tests, by a road for each strategy. `List` sweeps and prunes by x, `Tree` asks
+//! trees of 32 buckets of y, and `Frag` pairs what shares a row of y; `Auto` goes as `Frag` from 64 segments on, else as `List`. Every
+//! road finds the marks that all pairs lay, and tells whether any cross off the grid. Pairs of old segments are left out.
+//!
+//! Degenerate cases: all at one x, all in one row, common ends, a span below 31. A pass tests no more pairs than `specs/StepBounds`
+//! says. Two segments are tested against each other in `look` alone, and in `list` where a scan ends, and both count it; that nothing
+//! else tests two uncounted no clause says: it is seen by reading alone.
 
 ghost use Rattle.std.specs.Prelude.{◌≡◌, false, IfOk, OnOk, IsOkUnless};
 ghost use Rattle.plane_base.specs.Crossing.{marks_by};

@@ -1,4 +1,12 @@
-//! Redrawing: passes until one marks nothing, or a sweep over lines that comes to the same.
+//! Redrawing: noding on the grid, in passes until one marks nothing, or by a sweep over lines that comes to the same (`level`). A pass
+//! marks (`roads`), cuts (`cutting`) and joins (`merge`).
+//!
+//! Unlike Hobby's snap rounding it bends a segment only where it cuts it, not to every point near it; what then crosses anew the next
+//! pass cuts. In the first 256 passes a crossing off the grid may go to a near end; each later one that marks anything lowers the sum
+//! of squared taxicab lengths, so passes end.
+//!
+//! Degenerate cases: equal segments, one line, ends inside of segments, counts that cancel, crossings rounded to an end. A pass takes
+//! the time of its pairs, n log n for what it cut, and a copy of the rest.
 
 ghost use Rattle.std.specs.Prelude.{◌≡◌, ◌<◌, ◌^◌, true, ◌↔◌, [], length, IfOk, IfErr, OnOk, OnErr, IsTrue};
 ghost use Rattle.plane_base.specs.Counts.{normal};

@@ -3,6 +3,9 @@
 //! What was passed stands in two trees, new segments in one and old ones in the other. A segment asks the tree of new ones, and a new
 //! one asks that of old ones too. So it meets the earlier segments that reach the x where it begins and share a bucket of y with it,
 //! and then it stands in a tree itself.
+//!
+//! Degenerate cases: where all y span less than 31 the list's road is taken. A segment takes an insertion and one or two queries, over
+//! 63 nodes each, and a test for each pair that shares an x and a bucket.
 
 ghost use Rattle.std.specs.Prelude.{◌≡◌, ◌<◌, ◌+◌, length, false, All, IfOk, OnOk, IsOkUnless};
 ghost use Rattle.std.specs.Ordering.{int_cmp};

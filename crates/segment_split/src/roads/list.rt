@@ -1,5 +1,8 @@
-//! The list's road: a segment is held against those that follow it, an old one against the new ones among them, until one begins
-//! past its end.
+//! The list's road, sweep and prune: a segment is held against those that follow it, an old one against the new ones among them, until
+//! one begins past its end.
+//!
+//! Degenerate cases: where all begin at one x, all pairs are tested. It takes a test at most for each pair whose x ranges meet, and
+//! one more for each segment.
 
 ghost use Rattle.std.specs.Prelude.{◌≡◌, ◌+◌, ◌-◌, ◌<◌, ◌<ℤ◌, ◌≤ℤ◌, ◌≤◌, ◌||◌, cond};
 ghost use Rattle.std.specs.Prelude.{length, slice_index_or, ℕ, false, IfOk, OnOk, IsOkUnless, IsTrue, IsFalse};

@@ -1,8 +1,11 @@
 //! The road by rows: y is cut into rows, and only segments that share a row and an x are held against each other.
 //!
-//! A segment begins in its lowest row and passes the others that it reaches. Where two segments share rows, the lowest of those is
-//! one in which one of them begins. So a row's beginners are held against each other and against those that pass it, and no two
-//! that only pass it; each pair is met once.
+//! A segment begins in its lowest row and passes the others that it reaches. Where two segments share rows, the lowest of those is one
+//! in which one of them begins. So a row's beginners are held against each other and against those that pass it, and no two that only
+//! pass it; each pair is met once.
+//!
+//! Degenerate cases: a high segment stands in each row that it reaches; where none is new nothing is laid out. It takes a sort of
+//! places, and a test at most for each pair that shares an x and a row.
 
 ghost use Rattle.std.specs.Prelude.{◌≡◌, false, IfOk, OnOk, IsOkUnless};
 ghost use Rattle.plane_base.specs.Crossing.{marks_by};

@@ -1,4 +1,9 @@
-//! Segments of one row held against each other.
+//! Pairs within rows: two sorted lists of places are merged, and each segment is held against those that follow it in its row, up to
+//! its reach. Nine merges: of new segments with new ones, new with old and old with new, each time what begins in a row with what
+//! begins there and with what passes it, and what passes it with what begins there.
+//!
+//! Degenerate cases: where none follows in the row, a look at the list tells. It takes time linear in places and tests; where reaches
+//! aren't told beforehand, each is sought in log n steps.
 
 ghost use Rattle.std.specs.Prelude.{◌+◌, ◌<◌, ◌≤◌, ◌^◌, ℕ, length, slice_index_or, IfOk, IsOkUnless, IsFalse};
 ghost use Rattle.std.specs.List.Sorted.{IsNonDecreasing};

@@ -1,4 +1,9 @@
-//! How wide rows are.
+//! How wide rows are: a power of two, so that a shift tells the row. By a sample of up to 1,024 segments, rows are about as high as a
+//! few segments, and at most about a 64th of what all y span. Below 4,096 segments they may be a 16th: in small maps a row costs more
+//! than it spares.
+//!
+//! Degenerate cases: segments all at one height are one row. There are fewer than 2^31 rows. It takes linear time, and what it tells
+//! is of speed alone.
 
 ghost use Rattle.std.specs.Prelude.{◌≡◌, ◌⊎◌, ◌/◌, ◌<◌, ◌≤◌, ◌<ℤ◌, ◌≤ℤ◌, ◌^◌, ℕ, pos, negsuc, neg_ℤ, map, fold, All};
 ghost use Rattle.std.specs.Int.{int_min, int_max};
