@@ -1,4 +1,6 @@
-//! Builders of graphs.
+//! Builders of graphs: links of the segments that a filter keeps, by one sweep, and the nodes at which they meet, by one sort of
+//! their ends. Degenerate cases: where no link is kept, and after a refusal, the graph is empty. It takes the time of the sweep,
+//! and n log n for nodes.
 
 ghost use Rattle.std.specs.Prelude.{◌≡◌, ◌%◌, ◌<◌, ◌^◌, [], length, map, All, OnOk, OnErr, IfOk, IfErr, IsOkUnless};
 ghost use Rattle.std.proofs.Props.{props};

@@ -1,4 +1,6 @@
-//! How many segments of a sweep live at one time, as far as columns tell.
+//! How many segments of a sweep live at one time, as far as columns tell: a histogram of starts and of ends over 512 columns,
+//! summed from column to column. Degenerate cases: up to 2,048 segments it answers at once. It takes linear time and no memory;
+//! nothing rests on it but speed.
 
 ghost use Rattle.std.specs.Prelude.{◌<◌};
 

@@ -1,4 +1,4 @@
-//! How often a point is wound round at least.
+//! Depths: how often a point is wound round at least where `AtLeast` fills it.
 
 ghost use Rattle.std.specs.Prelude.{◌≡◌, ◌≤ℤ◌, ◌<ℤ◌, pos, MatchOption};
 

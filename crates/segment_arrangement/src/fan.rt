@@ -1,4 +1,5 @@
-//! The segments that start at one point, by angle.
+//! The segments that start at one point, by angle from the lowest: std's sort by cross products of their ways. In an arrangement
+//! no two of them run in one direction. Degenerate cases: an upright one comes last. It takes n log n time and no memory.
 
 ghost use Rattle.std.specs.Prelude.{◌≡◌, ◌-ℤ◌, ◌*ℤ◌, pos, true, IsPermutation};
 ghost use Rattle.std.specs.List.Sorted.{IsSortedBy};

@@ -1,4 +1,10 @@
-//! The sweep over the segments of an arrangement, from start point to start point.
+//! The sides of the segments of an arrangement by a plane sweep, from start point to start point: like Shamos and Hoey's, since
+//! nothing crosses. The segments that start at a point stand by angle (`fan`), the status tells what lies below the lowest
+//! (`live`), and windings are summed upward from it (`fan_sides`). The status is a list, a red-black tree or a row; where all
+//! segments are level or upright, `Auto` keeps what ran last at each height (`level_sides`).
+//!
+//! Degenerate cases: an upright segment is the last of its fan and never lives. With a list it takes up to n comparisons for each
+//! start and each segment, else 4nk at most in all, where k is the greatest with `2^k <= n + 1`; and fans take n log n.
 
 ghost use Rattle.std.specs.Prelude.{◌≡◌, ℕ, ◌+◌, ◌-◌, ◌*◌, ◌<◌, ◌≤◌, ◌^◌, ◌⊎◌, false};
 ghost use Rattle.std.specs.Prelude.{length, map, take, drop, slice_index_or, IfOk, OnOk, IfErr, IsOkUnless, IsTrue};
