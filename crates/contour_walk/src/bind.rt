@@ -1,8 +1,8 @@
 //! Holes into shapes.
 //!
 //! Without holes nothing is sought, and with one outline all holes are its own. With more outlines one sweep over sorted edges and anchors
-//! finds what lies below each hole's anchor, and the owners follow from hole to hole. The shapes are then put together in time linear in the contours
-//! and their points.
+//! finds what lies below each hole's anchor, and the owners follow from hole to hole: n log n. From 2^31 edges on rays are shot one by one
+//! (`ray`), in quadratic time. The shapes are then put together in time linear in the contours and their points.
 
 ghost use Rattle.std.specs.Prelude.{◌≡◌, ◌<◌, ℕ, All, false, IfOk, IfSome, IsFalse, IsOkUnless, length, map, slice_index_or};
 ghost use Rattle.plane_base.specs.Segments.{IsEdgeWithin};

@@ -1,4 +1,5 @@
-//! The rings of a graph's nodes of many links.
+//! The rings of a graph's nodes of many links: rotations of nodes of more than 16 links, with ways that skip what is passed. Degenerate
+//! cases: where two of the links left run in one direction, the node has no ring. It takes n log n time.
 
 ghost use Rattle.std.specs.Prelude.{◌≡◌, ℕ, ◌+◌, ◌<◌, ◌≤◌, length, slice_index_or, IfOk, IfSome, OnOk, IsOkUnless};
 ghost use Rattle.plane_base.specs.Plane.{IsWithin};

@@ -1,4 +1,4 @@
-//! Contours without the points that they pass straight, in the memory of their points.
+//! Contours without the points that they pass straight, in the memory of their points. It takes linear time.
 
 ghost use Rattle.std.specs.Prelude.{◌≡◌, ◌+◌, ◌≤◌, ◌<◌, ◌++◌, All, length, take, drop};
 ghost use Rattle.plane_base.specs.Plane.{IsWithin};

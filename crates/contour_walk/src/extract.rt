@@ -1,4 +1,6 @@
-//! From graphs to shapes.
+//! From graphs to shapes: walks along the boundary, loops where contours may not touch themselves (`parted`), holes bound to outlines,
+//! contours below the least area dropped, and points that are passed straight left out. Degenerate cases: without a boundary there are no
+//! shapes. It takes n log n time.
 
 ghost use Rattle.std.specs.Prelude.{◌≡◌, true, [], List, All, IfOk, OnOk, OnErr, IsOkUnless, map};
 ghost use Rattle.segment_arrangement.specs.LinkViews.{link_edge_of, overlay_link_of};

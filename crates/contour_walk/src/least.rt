@@ -1,6 +1,6 @@
 //! Shapes that reach a least area, each with its holes that do.
 //!
-//! The contours are looked at with all their points. Each one that is left is moved, in the memory of its points.
+//! The contours are looked at with all their points. Each one that is left is moved, in the memory of its points. It takes linear time.
 
 ghost use Rattle.std.specs.Prelude.{◌≡◌, ◌++◌, ◌∷◌, [], All, IfOk, OnOk, IsOkUnless, map, filter};
 ghost use Rattle.plane_base.specs.Plane.{IsWithin};

@@ -1,4 +1,5 @@
-//! The direction that is met first on turning.
+//! The direction that is met first on turning, of points that are seen one by one: by half turns, and else by which lies ahead of the other
+//! (`turning`). Degenerate cases: of points in one direction the last is kept. It takes constant time for each point.
 
 ghost use Rattle.std.specs.Prelude.{◌≡◌, ◌||◌, ◌&&◌, ◌==◌, Bool, List, [], ◌∷◌, nat_lt, int_lt, pos};
 ghost use Rattle.plane_base.specs.Plane.{Point, IsWithin};

@@ -1,4 +1,5 @@
-//! The links at a node, sorted by angle.
+//! The links at a node, sorted by angle: std's sort by orientation about the node, of those on one side of it, among which that is an
+//! order. Degenerate cases: two that run in one direction are found by `rise`. It takes n log n time.
 
 ghost use Rattle.std.specs.Prelude.{◌≡◌, ℕ, ◌+◌, ◌<◌, pos, ◌<ℤ◌, true, All, IfOk, IfSome, IsOkUnless, IsPermutation, OnOk, flat_map, length, map};
 ghost use Rattle.std.specs.Prelude.{◌++◌, slice_index_or};

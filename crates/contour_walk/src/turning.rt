@@ -1,4 +1,8 @@
-//! Which of several points is met first on turning round a point.
+//! Which of several points is met first on turning round a point: by the half turns to each, told by a cross and an inner product, and else
+//! by which lies ahead of the other. No angle is computed.
+//!
+//! Degenerate cases: what lies straight across the centre is a half turn away, and what lies in the direction where the turn begins a whole
+//! one. It takes constant time for two points.
 
 ghost use Rattle.std.specs.Prelude.{◌≡◌, pos, int_lt};
 ghost use Rattle.std.specs.Ordering.{int_cmp};

@@ -1,7 +1,10 @@
-//! Walks along the boundary in a graph.
+//! Contours by walks along the boundary in a graph, over each link in one direction: at each node by the unvisited link that is met first
+//! on turning one way. A walk begins with the topmost unvisited link where the first one in order starts, and ends with the link that is
+//! met first at its first node on turning the other way.
 //!
-//! The states of the links tell which no walk has passed yet. At a node a walk looks at the links of that node alone, or asks the
-//! node's ring where it has many.
+//! The states of the links tell which no walk has passed yet. At a node a walk looks at the links of that node alone, or asks the node's
+//! ring where it has many. Degenerate cases: nodes at which contours touch. It takes linear time, but d steps for each visit of a node
+//! of d links, or log d, one with another, where that has a ring.
 
 ghost use Rattle.std.specs.Prelude.{◌≡◌, ◌⊎◌, ℕ, ◌<◌, ◌≤◌, cond, Bool, true, false, not, List, [], ◌∷◌, ◌++◌, All, IfOk, OnOk, IfSome, IsOkUnless};
 ghost use Rattle.std.specs.Prelude.{Some, None, length, map, flat_map, slice_index_or};

@@ -1,7 +1,7 @@
-//! Ways over the places of a ring whose links are passed.
+//! Ways over the places of a ring whose links are passed: in the words of textbooks disjoint sets with path halving.
 //!
-//! From each place one way leads ahead, and one back; the places between are passed. Who looks for a place that is left makes the
-//! ways longer that it takes, so that later searches take fewer steps. A link that is marked as passed needs no change.
+//! From each place one way leads ahead, and one back; the places between are passed. Who looks for a place that is left makes the ways
+//! longer that it takes, so that later searches take fewer steps: log n, one with another. A link that is marked as passed needs no change.
 
 ghost use Rattle.std.specs.Prelude.{◌≡◌, ℕ, ◌+◌, ◌<◌, ◌≤◌, true, false, length, All, IfSome, None};
 ghost use Rattle.contour_walk.specs.NodeRings.{IsPassed, IsLeftAt, LeadAhead, LeadBack, IsNextPlace};

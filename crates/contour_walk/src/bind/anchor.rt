@@ -1,4 +1,5 @@
-//! From where the way down from a contour begins: the lowest edge at its least point.
+//! From where the way down from a contour begins: the lowest edge at its least point, by one look at all edges. Degenerate cases: several
+//! edges start there. It takes linear time and memory.
 
 ghost use Rattle.std.specs.Prelude.{◌≡◌, All, IfOk, IfSome, IsOkUnless};
 ghost use Rattle.plane_base.specs.Plane.{IsWithin};

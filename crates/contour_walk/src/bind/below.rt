@@ -1,4 +1,8 @@
-//! What lies below the anchors of holes, by one sweep over edges and anchors.
+//! What lies below the anchors of holes: rays shot down from all of them in one plane sweep over edges with the region above them, and
+//! anchors, both by the columns where they begin. At an anchor the status is asked for the last edge below it.
+//!
+//! Degenerate cases: an edge that ends at the column isn't live; no anchor is upright. It takes n log n time with a tree; below 32 contours
+//! the status is a list, which takes a step for each live edge.
 
 ghost use Rattle.std.specs.Prelude.{◌≡◌, ◌≢◌, ℕ, ◌≤◌, ◌<◌, ◌+◌, ◌^◌, ◌≤ℤ◌, ◌<ℤ◌, int_lt};
 ghost use Rattle.std.specs.Prelude.{Option, None, All, IfOk, OnOk, IsOkUnless, length, drop, slice_index_or, true};

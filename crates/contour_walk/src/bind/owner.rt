@@ -1,4 +1,6 @@
-//! The owners of holes, from what lies below their anchors.
+//! The owners of holes, from what lies below their anchors: from contour to contour, down to an outline, or to an earlier hole whose owner
+//! is known. Degenerate cases: a hole below which nothing lies has none. It takes two steps for each hole where contours come in the order
+//! of their anchors, and is quadratic at worst.
 
 ghost use Rattle.std.specs.Prelude.{◌≡◌, ◌<◌, ℕ, List, IfOk, IsOkUnless, Some, length, slice_index_or};
 ghost use Rattle.contour_walk.specs.Binding.{Owned};

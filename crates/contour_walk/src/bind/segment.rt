@@ -1,4 +1,5 @@
-//! What a sweep goes over: the edges that have the region above them, and the anchors of holes.
+//! What a sweep goes over: the edges that have the region above them, and the anchors of holes, both sorted by the columns where they
+//! begin. Degenerate cases: upright edges are left out, upright anchors aren't. It takes n log n time.
 
 ghost use Rattle.std.specs.Prelude.{◌≡◌, ◌++◌, ◌∷◌, [], IfOk, OnOk, IsOkUnless, IsPermutation, All, int_lt, map, filter};
 ghost use Rattle.plane_base.specs.Plane.{IsWithin};
