@@ -1,4 +1,6 @@
-//! The pieces of a slice: the loops of walks, outlines with their holes.
+//! The pieces of a slice: walks are cut into loops, each an outline or a hole by the turn at its least point, and holes are joined to
+//! outlines. Degenerate cases: loops of fewer than three points go, and those below the least area. It takes n log n time, but for
+//! `join_unsorted_holes`.
 
 ghost use Rattle.std.specs.Prelude.{◌≡◌, ◌++◌, ◌∷◌, [], List, map, filter, flat_map, not, pos, int_lt, All, IfOk, OnOk, IsOkUnless};
 ghost use Rattle.std.specs.Prelude.{◌<◌, find, length, slice_index_or, IfSome};

@@ -1,10 +1,10 @@
-//! Walks along the halves of a graph's edges.
+//! Walks along the halves of a graph's edges, in the words of textbooks half-edges.
 //!
-//! A half is an edge that parts, and a side of it that the subject fills. Its step goes along the edge with that side on the left, or on the
-//! right where outlines run clockwise. Links are gone through in order, and with each step that no walk has passed a walk is begun. At
-//! each node it goes on along the edge that has a half and is met first on turning through the filled side, until the walk has passed that step: it is
-//! its first. It takes time in the steps, and at each node that a walk comes to in the links that meet there; but which link follows at a node
-//! of many links is told once (`turns`), so that all walks through a node of n links take time n log n there together.
+//! A half is an edge that parts, and a side of it that the subject fills. Its step goes along the edge with that side on the left, or on
+//! the right where outlines run clockwise. Links are gone through in order, and with each step that no walk has passed a walk is begun. At
+//! each node it goes on along the edge that has a half and is met first on turning through the filled side, until the walk has passed that
+//! step: it is its first. It takes time in the steps, and at each node that a walk comes to in the links that meet there; but which link
+//! follows at a node of many links is told once (`turns`), so that all walks through a node of n links take time n log n there together.
 
 ghost use Rattle.std.specs.Prelude.{◌≡◌, ◌≢◌, ◌<◌, None, true, false, cond, not, ◌∷◌, ◌++◌, map, flat_map, length, slice_index_or, List, ℕ};
 ghost use Rattle.std.specs.Prelude.{All, Contains, IsPermutation, IfOk, OnOk, IfSome, IfNone, IsOkUnless};
