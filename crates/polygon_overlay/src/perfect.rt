@@ -1,4 +1,5 @@
-//! Perfect contours: those that an overlay would take as they are. One is answered as it runs, turned round, or not at all.
+//! Perfect contours: those that an overlay would take as they are. Their points differ, as many edges are held as there are points, and redrawing
+//! changes nothing. One is answered as it runs, turned round, or not at all.
 //!
 //! Whether a point occurs twice shows among the neighbours of a sorted copy: n log n.
 

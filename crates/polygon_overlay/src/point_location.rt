@@ -1,8 +1,8 @@
-//! Whether points lie inside of contours, by parity, and whether contours meet themselves in ends alone.
+//! Whether points lie inside of contours, by parity, as ray casting tells it, and whether contours meet themselves in ends alone.
 //!
-//! A point is asked for under boxes: those of stretches of contours, and of shapes that lie near each other. Where they tell little, as for contours that
-//! lie in one another, points that are asked for together are sorted by x, and each edge is held against those in its column alone. `PointLocator` keeps
-//! the boxes from query to query.
+//! A point is asked for under boxes: those of stretches of contours, and of shapes that lie near each other. Where they tell little, as for
+//! contours that lie in one another, points that are asked for together are sorted by x, and each edge is held against those in its column alone.
+//! `PointLocator` keeps the boxes from query to query.
 
 ghost use Rattle.std.specs.Prelude.{◌≡◌, ◌↔◌, Bool, List, [], ◌∷◌, IsTrue, IfOk, IsOkUnless, All};
 ghost use Rattle.plane_base.specs.Plane.{Point, RationalPoint, IsWithin};

@@ -1,5 +1,9 @@
-//! Handlers of predicates: each is told the fills of the redrawn segments, one after the other, and breaks off as soon as its answer
-//! stands.
+//! Handlers of predicates, visitors of the sweep: each is told the fills of the redrawn segments, one after the other, and breaks off as soon as
+//! its answer stands, which later ones leave as it is; that of all relations goes to the end. Whether boundaries share a point shows at the end,
+//! when the ends of segments are sorted and merged.
+//!
+//! Degenerate cases: edges that both fill, contact at corners alone, nothing filled. It takes constant time for each segment, and n log n for
+//! ends.
 
 ghost use Rattle.std.specs.Prelude.{◌≡◌, ℕ, Bool, true, false, not, ◌&&◌, ◌||◌, List, [], ◌∷◌, ◌++◌, OnOk, IsOkUnless};
 ghost use Rattle.std.specs.List.Sorted.{IsSorted};

@@ -1,4 +1,5 @@
-//! What leaves each point less what enters it, of edges that were added.
+//! What leaves each point less what enters it, of edges that were added: their ends are sorted in place, and what runs of equal points count is
+//! summed in 128 bits. Degenerate cases: where no edges are held all is balanced. It takes n log n time, and no memory but what adders made.
 
 ghost use Rattle.std.specs.Prelude.{◌≡◌, ◌≤◌, ◌<◌, ◌+◌, ◌*◌, ◌++◌, ◌∷◌, ◌↔◌, ℤ, pos, [], length, map, take, All, IsTrue, IfOk, IfErr, OnOk, IsOkUnless, IsPermutation, vec_capacity, not, slice_index_or};
 ghost use Rattle.plane_base.specs.Counts.{boolean};

@@ -1,4 +1,5 @@
-//! Whether a point lies on an edge.
+//! Whether a point lies on an edge, by its turn and its order between the ends. Degenerate cases: an edge of no length has its one point. It
+//! takes linear time.
 
 ghost use Rattle.std.specs.Prelude.{◌≡◌, [], ◌∷◌, All};
 ghost use Rattle.std.specs.Ordering.{is_le};

@@ -1,4 +1,5 @@
-//! Whether contours meet themselves in ends alone.
+//! Whether contours meet themselves in ends alone: all pairs of a contour's edges, each by `cross_late`. Degenerate cases: edges of no length
+//! don't count, and equal ones aren't resolved. It takes quadratic time and no memory.
 
 ghost use Rattle.std.specs.Prelude.{◌≡◌, ◌↔◌, ◌<◌, IsTrue, All, length, slice_index_or};
 ghost use Rattle.plane_base.specs.Plane.{IsWithin, is_before};

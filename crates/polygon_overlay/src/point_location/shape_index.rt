@@ -1,8 +1,9 @@
 //! Shapes under boxes, and whether one of them has a point inside.
 //!
-//! Each contour has its outline. The shapes stand in an order in which those that follow each other lie near each other: by the bits of x and y of their
-//! boxes' middles in turns. Runs of them in that order are fields: stretches of shapes, of which one is passed where the point lies outside of its
-//! box, so that a point comes to few shapes but those whose boxes have it. Nothing is owed of the order but that each shape stands in it.
+//! Each contour has its outline. The shapes stand in an order in which those that follow each other lie near each other: Morton's, by the bits of
+//! x and y of their boxes' middles in turns. Runs of them in that order are fields: stretches of shapes, of which one is passed where the point
+//! lies outside of its box, so that a point comes to few shapes but those whose boxes have it. Nothing is owed of the order but that each shape
+//! stands in it. It takes n log n time to make.
 
 ghost use Rattle.std.specs.Prelude.{◌≡◌, ◌≤◌, ◌<◌, ◌+◌, true, false, ℕ, List, All, Contains, IfOk, OnOk, IsOkUnless, IsPermutation, length, map, flat_map, slice_index_or};
 ghost use Rattle.std.specs.List.{AllZip};

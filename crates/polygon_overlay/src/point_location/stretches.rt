@@ -1,5 +1,6 @@
-//! Stretches: a few items in a row, edges of a contour or shapes, under the box of all their points; two such that follow each other under one
-//! box; two of those, and so on. They stand in one list, each behind its parts, and each has the number of the first of its parts.
+//! Stretches, in the words of textbooks a bounding volume hierarchy: a few items in a row, edges of a contour or shapes, under the box of all
+//! their points; two such that follow each other under one box; two of those, and so on. They stand in one list, each behind its parts, and each
+//! has the number of the first of its parts.
 //!
 //! So a list is read from its end: from a stretch the way leads to its last part, which stands right before it, or past it to what stands before
 //! its parts. The list is made from left to right as a binary counter counts: behind a new stretch those that are equally long are joined.
