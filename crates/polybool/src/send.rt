@@ -1,4 +1,4 @@
-//! Bytes go out.
+//! Bytes are written to a writer whole, or it is told that a write failed.
 
 ghost use Rattle.std.specs.Prelude.{◌≡◌, ℕ, ◌<◌, List, [], ◌++◌, length, MatchResult};
 ghost use Rattle.std.specs.Io.KnownBytes.{Appends};
