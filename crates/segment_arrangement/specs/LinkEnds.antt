@@ -4,7 +4,8 @@ use Rattle.std.specs.Prelude.{List, [], ◌∷◌, ◌++◌, length, map, slice_
 use Rattle.std.specs.declared.cmp.Ordering.{Ordering}
 use Rattle.std.specs.declared.cmp.Ordering.TheVariants.{Greater}
 use Rattle.std.specs.Ordering.{ordering_then, bool_cmp, nat_cmp, is_eq}
-use Rattle.plane_base.specs.Plane.{Point, Edge, point_order}
+use Rattle.plane_base.specs.Plane.{Point, Edge, point_order, IsWithin}
+use Rattle.plane_base.specs.Segments.{IsEdgeWithin}
 use Rattle.segment_arrangement.specs.Graphs.{places_from}
 
 -- an end of the link at a place: where it lies, and whether the link ends there or starts there
@@ -58,9 +59,13 @@ pub record IsRunAt (es : List End) (at next : ℕ) (p : Point) : Type 0 where
 
 -- ---- ends as numbers
 
--- numbers with room for coordinates from -half on and below half have room for this range
-abbrev pub HasRoomFor : ℕ → ℤ → ℤ → Type 0
-HasRoomFor half least greatest = (neg_ℤ (pos half) ≤ℤ least) × (greatest <ℤ pos half)
+-- numbers with room for coordinates from -half on and below half have room for the point
+abbrev pub HasRoomFor : ℕ → Point → Type 0
+HasRoomFor half p = IsWithin (neg_ℤ (pos half)) (pos half -ℤ pos 1) p
+
+-- and for both ends of the edge
+abbrev pub HasRoomForEnds : ℕ → Edge → Type 0
+HasRoomForEnds half s = IsEdgeWithin (neg_ℤ (pos half)) (pos half -ℤ pos 1) s
 
 -- the coordinate of a number, of those from -half up
 abbrev pub coordinate_at : ℕ → ℕ → ℤ

@@ -4,10 +4,10 @@
 //! the ends stand as nodes need them: by rising points, at one point what starts there before what ends there, then by rising
 //! place. Numbers of 64 bits have room for coordinates of 20 bits and 2^23 links, those of 128 bits for 41 bits and 2^31 links.
 
-ghost use Rattle.std.specs.Prelude.{◌≡◌, ◌↔◌, ℕ, ◌<◌, ◌≤◌, ◌^◌, ◌≤ℤ◌, IsTrue};
+ghost use Rattle.std.specs.Prelude.{◌≡◌, ◌↔◌, ℕ, ◌<◌, ◌≤◌, ◌^◌, pos, negsuc, IsTrue};
 ghost use Rattle.std.specs.Ordering.{nat_cmp};
 ghost use Rattle.std.proofs.Common.{rules};
-ghost use Rattle.plane_base.specs.Plane.{IsWithin};
+ghost use Rattle.plane_base.specs.Plane.{IsCoordinate};
 ghost use Rattle.plane_base.specs.Views.{point_of};
 ghost use Rattle.segment_arrangement.specs.LinkEnds.{coordinate_at, point_at, end_at, HasRoomFor};
 
@@ -27,8 +27,7 @@ pub(crate) trait EndNumber: Copy + Ord {
 
     // The number of an end of the link at a place.
     fn of_end<I: OverlayInt>(point: IntPoint<I>, is_last: bool, place: usize) -> Self
-        requires fits { HasRoomFor half I.least I.greatest }
-        requires within { IsWithin I.least I.greatest (point_of I.value point) }
+        requires within { HasRoomFor half (point_of I.value point) }
         requires few { place < room }
         ensures { end_at half room (Self.number result) ≡ record { point = point_of I.value point; is_last = is_last; place = place } };
 
@@ -108,8 +107,7 @@ impl EndNumber for u128 {
 
 // The number of a point, of 40 bits.
 fn number_of_point<I: OverlayInt>(point: IntPoint<I>) -> u64
-    requires fits { HasRoomFor (2 ^ 19) I.least I.greatest }
-    requires within { IsWithin I.least I.greatest (point_of I.value point) }
+    requires { HasRoomFor (2 ^ 19) (point_of I.value point) }
     ensures below { result < 2 ^ 40 }
     ensures point { point_at (2 ^ 19) result ≡ point_of I.value point }
 {
@@ -118,9 +116,7 @@ fn number_of_point<I: OverlayInt>(point: IntPoint<I>) -> u64
 
 // The number of a coordinate, of 20 bits.
 fn number_of_coordinate<I: OverlayInt>(coordinate: I) -> u64
-    requires fits { HasRoomFor (2 ^ 19) I.least I.greatest }
-    requires above { I.least ≤ℤ I.value coordinate }
-    requires below { I.value coordinate ≤ℤ I.greatest }
+    requires { IsCoordinate (negsuc 524287) (pos 524287) (I.value coordinate) }
     ensures below { result < 2 ^ 20 }
     ensures coordinate { coordinate_at (2 ^ 19) result ≡ I.value coordinate }
 {
@@ -129,8 +125,7 @@ fn number_of_coordinate<I: OverlayInt>(coordinate: I) -> u64
 
 // The number of a point, of 82 bits.
 fn wide_number_of_point<I: OverlayInt>(point: IntPoint<I>) -> u128
-    requires fits { HasRoomFor (2 ^ 40) I.least I.greatest }
-    requires within { IsWithin I.least I.greatest (point_of I.value point) }
+    requires { HasRoomFor (2 ^ 40) (point_of I.value point) }
     ensures below { result < 2 ^ 82 }
     ensures point { point_at (2 ^ 40) result ≡ point_of I.value point }
 {
@@ -140,9 +135,7 @@ fn wide_number_of_point<I: OverlayInt>(point: IntPoint<I>) -> u128
 
 // The number of a coordinate, of 41 bits.
 fn wide_number_of_coordinate<I: OverlayInt>(coordinate: I) -> u64
-    requires fits { HasRoomFor (2 ^ 40) I.least I.greatest }
-    requires above { I.least ≤ℤ I.value coordinate }
-    requires below { I.value coordinate ≤ℤ I.greatest }
+    requires { IsCoordinate (negsuc 1099511627775) (pos 1099511627775) (I.value coordinate) }
     ensures below { result < 2 ^ 41 }
     ensures coordinate { coordinate_at (2 ^ 40) result ≡ I.value coordinate }
 {

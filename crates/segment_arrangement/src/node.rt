@@ -4,15 +4,16 @@
 //! by point, then by rising place. Both are gone through side by side, and what lies at one point is a node. It takes n log n time
 //! and memory in n.
 
-ghost use Rattle.std.specs.Prelude.{◌≡◌, ◌≢◌, ◌⊎◌, ◌+◌, ◌-◌, ◌<◌, ◌≤◌, ◌^◌, ◌++◌, length, map, take, drop, [], true, false, ℕ, List, slice_index_or, ⊤};
+ghost use Rattle.std.specs.Prelude.{◌≡◌, ◌≢◌, ◌⊎◌, ◌+◌, ◌-◌, ◌<◌, ◌≤◌, ◌^◌, ◌++◌, length, map, take, drop, [], true, false, ℕ, pos, negsuc, List, slice_index_or, ⊤};
 ghost use Rattle.std.specs.Prelude.{All, AllPairs, OnOk, OnErr, IfOk, IsOkUnless, IsTrue};
 ghost use Rattle.std.specs.List.{range_with_len};
 ghost use Rattle.std.specs.declared.cmp.Ordering.TheVariants.{Greater};
-ghost use Rattle.plane_base.specs.Plane.{point_order};
+ghost use Rattle.plane_base.specs.Plane.{point_order, IsCoordinate};
 ghost use Rattle.plane_base.specs.declared.fault.Fault.TheVariants.{Memory};
 ghost use Rattle.plane_base.specs.Segments.{IsEdgeWithin};
+ghost use Rattle.plane_base.specs.Views.{point_of};
 ghost use Rattle.segment_arrangement.specs.Graphs.{AreLists};
-ghost use Rattle.segment_arrangement.specs.LinkEnds.{ends_of_kind, IsNextPoint, IsRunAt, HasRoomFor};
+ghost use Rattle.segment_arrangement.specs.LinkEnds.{ends_of_kind, IsNextPoint, IsRunAt, HasRoomFor, HasRoomForEnds};
 ghost use Rattle.segment_arrangement.specs.LinkViews.{link_edge_of, link_parts, places_of, IsBridgeOfTwo, AreNumbered};
 ghost use Rattle.segment_arrangement.specs.LinkEndViews.{end_of, with_number, IsNumberedFrom};
 
@@ -20,6 +21,7 @@ use crate::ends::EndNumber;
 use crate::link::OverlayLink;
 use plane_base::fault::Fault;
 use plane_base::int::OverlayInt;
+use plane_base::point::IntPoint;
 use std::alloc::Global;
 use std::cmp::Ordering;
 
@@ -108,7 +110,7 @@ pub(crate) fn join_links<I: OverlayInt, D, K: GraphNode>(
     ensures nothing { OnErr result (nodes.new.items ≡ []) }
     ensures memory { IsOkUnless result Memory }
 {
-    let joined = if have_narrow_ends::<I>(links.len()) {
+    let joined = if have_narrow_ends(links) {
         join_ends::<I, D, K, u64>(alloc, links, nodes)
     } else {
         join_ends::<I, D, K, u128>(alloc, links, nodes)
@@ -119,12 +121,39 @@ pub(crate) fn join_links<I: OverlayInt, D, K: GraphNode>(
     joined
 }
 
-// Whether numbers of 64 bits have room for the ends of so many links.
-fn have_narrow_ends<I: OverlayInt>(links: usize) -> bool
-    ensures links { IsTrue result → links ≤ 2 ^ 23 }
-    ensures fits { IsTrue result → HasRoomFor (2 ^ 19) I.least I.greatest }
+// Whether numbers of 64 bits have room for the ends of the links.
+fn have_narrow_ends<I: OverlayInt, D>(links: &[OverlayLink<I, D>]) -> bool
+    requires within { All (λ l. IsEdgeWithin I.least I.greatest (link_edge_of I.value l)) links.now }
+    ensures few { IsTrue result → length links.now ≤ 2 ^ 23 }
+    ensures within { IsTrue result → All (λ l. HasRoomForEnds (2 ^ 19) (link_edge_of I.value l)) links.now }
 {
-    I::IS_NARROW && links <= 1 << 23
+    links.len() <= 1 << 23 && (I::IS_NARROW || lie_near(links))
+}
+
+// Whether all coordinates of the links have 20 bits.
+fn lie_near<I: OverlayInt, D>(links: &[OverlayLink<I, D>]) -> bool
+    ensures { IsTrue result → All (λ l. HasRoomForEnds (2 ^ 19) (link_edge_of I.value l)) links.now }
+{
+    for link in links {
+        if !is_near(link.a.point) || !is_near(link.b.point) {
+            return false;
+        }
+    }
+    true
+}
+
+fn is_near<I: OverlayInt>(point: IntPoint<I>) -> bool
+    ensures { IsTrue result → HasRoomFor (2 ^ 19) (point_of I.value point) }
+{
+    is_narrow(point.x) && is_narrow(point.y)
+}
+
+// Whether a coordinate has 20 bits.
+fn is_narrow<I: OverlayInt>(coordinate: I) -> bool
+    ensures { IsTrue result → IsCoordinate (negsuc 524287) (pos 524287) (I.value coordinate) }
+{
+    let number = coordinate.to_i64();
+    -524_288 <= number && number <= 524_287
 }
 
 // The same by numbers of one type.
@@ -133,8 +162,7 @@ fn join_ends<I: OverlayInt, D, K: GraphNode, N: EndNumber>(
     links: &mut [OverlayLink<I, D>],
     nodes: &mut Vec<K>,
 ) -> Result<(), Fault>
-    requires fits { HasRoomFor N.half I.least I.greatest }
-    requires within { All (λ l. IsEdgeWithin I.least I.greatest (link_edge_of I.value l)) links.old }
+    requires within { All (λ l. HasRoomForEnds N.half (link_edge_of I.value l)) links.old }
     requires by_start { AllPairs (λ s t. point_order s.a t.a ≢ Greater) (map (link_edge_of I.value) links.old) }
     requires few { length links.old ≤ N.room }
     ensures kept { map (link_parts I.value) links.new ≡ map (link_parts I.value) links.old }
@@ -168,8 +196,7 @@ fn collect_ends<I: OverlayInt, D, N: EndNumber>(
     alloc: Global,
     links: &[OverlayLink<I, D>],
 ) -> Result<Vec<N>, Fault>
-    requires fits { HasRoomFor N.half I.least I.greatest }
-    requires within { All (λ l. IsEdgeWithin I.least I.greatest (link_edge_of I.value l)) links.now }
+    requires within { All (λ l. HasRoomForEnds N.half (link_edge_of I.value l)) links.now }
     requires few { length links.now ≤ N.room }
     ensures ok { IfOk result (λ ends. map (end_of N.half N.room N.number) ends.items ≡ ends_of_kind true 0 (map (link_edge_of I.value) links.now)) }
     ensures memory { IsOkUnless result Memory }
@@ -189,8 +216,7 @@ fn next_end<I: OverlayInt, D, N: EndNumber>(
     ends: &[N],
     last: usize,
 ) -> N
-    requires fits { HasRoomFor N.half I.least I.greatest }
-    requires within { All (λ l. IsEdgeWithin I.least I.greatest (link_edge_of I.value l)) links.now }
+    requires within { All (λ l. HasRoomForEnds N.half (link_edge_of I.value l)) links.now }
     requires few { length links.now ≤ N.room }
     requires some { (start < length links.now) ⊎ (last < length ends.now) }
     ensures { IsNextPoint (ends_of_kind false 0 (map (link_edge_of I.value) links.now)) start (map (end_of N.half N.room N.number) ends.now) last
@@ -226,8 +252,7 @@ fn number_starts<I: OverlayInt, D, N: EndNumber>(
     end: N,
     number: usize,
 ) -> usize
-    requires fits { HasRoomFor N.half I.least I.greatest }
-    requires within { All (λ l. IsEdgeWithin I.least I.greatest (link_edge_of I.value l)) links.old }
+    requires within { All (λ l. HasRoomForEnds N.half (link_edge_of I.value l)) links.old }
     requires few { length links.old ≤ N.room }
     requires inside { from ≤ length links.old }
     ensures run { IsRunAt (ends_of_kind false 0 (map (link_edge_of I.value) links.old)) from result (end_of N.half N.room N.number end).point }

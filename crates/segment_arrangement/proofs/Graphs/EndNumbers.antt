@@ -1,13 +1,15 @@
 -- The order of numbers is that of the ends that they stand for.
-use Rattle.std.proofs.Common.{◌≡◌, ℕ, zero, suc, ◌+◌, ◌*◌, ◌/◌, ◌%◌, ◌<◌, ◌≤◌, ◌<ℤ◌, Ordering, Less, Equal, Greater, int_cmp, refl, sym, ap, nat_eq, ◌∙◌, arith}
+use Rattle.std.proofs.Common.{◌≡◌, ℕ, zero, suc, ◌+◌, ◌*◌, ◌/◌, ◌%◌, ◌<◌, ◌≤◌, ◌<ℤ◌, ◌≤ℤ◌, ℤ, pos, neg_ℤ, ◌-ℤ◌, List, All, Ordering, Less, Equal, Greater, int_cmp, refl, sym, ap, nat_eq, ◌∙◌, arith}
 use Rattle.std.specs.Ordering.{MatchOrdering, ordering_then, bool_cmp, nat_cmp}
 use Rattle.std.specs.Cmp.{nat_cmp_is, int_cmp_is}
 use Rattle.std.proofs.Math.Nat.{mul-le-mul_right, mod-lt}
 use Rattle.std.proofs.lemmas.Nat.{div-add-mod'}
 use Rattle.std.proofs.lemmas.Cmp.{ranked}
 use Rattle.std.proofs.lemmas.Int.{ints}
-use Rattle.plane_base.specs.Plane.{point_order}
-use Rattle.segment_arrangement.specs.LinkEnds.{end_order, coordinate_at, point_at, end_at}
+use Rattle.std.proofs.lemmas.List.Elements.{All-weaker}
+use Rattle.plane_base.specs.Plane.{Point, Edge, point_order, IsWithin}
+use Rattle.plane_base.specs.Segments.{IsEdgeWithin}
+use Rattle.segment_arrangement.specs.LinkEnds.{end_order, coordinate_at, point_at, end_at, HasRoomFor, HasRoomForEnds}
 
 -- ---- two parts of a number
 
@@ -73,3 +75,22 @@ numbers_order half room m n wide some =
   where
     places : Ordering
     places = nat_cmp (m % room) (n % room)
+
+-- ---- room for a range
+
+module _ (least greatest : ℤ) (half : ℕ) (low : neg_ℤ (pos half) ≤ℤ least) (high : greatest <ℤ pos half) where
+  coordinate_low : (x : ℤ) → least ≤ℤ x → neg_ℤ (pos half) ≤ℤ x
+  coordinate_low x h = omega (arith, ints, low, h)
+
+  coordinate_high : (x : ℤ) → x ≤ℤ greatest → x ≤ℤ (pos half -ℤ pos 1)
+  coordinate_high x h = omega (arith, ints, high, h)
+
+  point_has_room : (p : Point) → IsWithin least greatest p → HasRoomFor half p
+  point_has_room p h = (coordinate_low p.x h.0, coordinate_high p.x h.1, coordinate_low p.y h.2, coordinate_high p.y h.3)
+
+  -- numbers with room for the range have room for the ends that lie in it
+  pub ends_have_room : {L : Type 0} (edge : L → Edge) (links : List L)
+      → All (λ l. IsEdgeWithin least greatest (edge l)) links → All (λ l. HasRoomForEnds half (edge l)) links
+  ends_have_room edge links =
+      All-weaker (λ l. IsEdgeWithin least greatest (edge l)) (λ l. HasRoomForEnds half (edge l))
+      (λ l h. (point_has_room (edge l).a h.0, point_has_room (edge l).b h.1)) links

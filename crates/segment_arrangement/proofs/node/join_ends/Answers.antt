@@ -1,11 +1,10 @@
 use Rattle.std.proofs.Common.{◌≡◌, ◌<◌, ◌≤◌, ◌-◌, [], ◌∷◌, ◌++◌, length, map, take, drop, IsPermutation, All, true, false, refl, rules, subst, sym, ap, ◌∙◌, arith}
 use Rattle.std.proofs.lemmas.List.{length-map, length-drop, length-take-le, map-append, drop_all, take_all}
 use Rattle.std.specs.List.{range_with_len}
-use Rattle.plane_base.specs.Segments.{IsEdgeWithin}
 use Rattle.std.proofs.lemmas.List.Elements.{All-nil, All-push, All-take, All-drop}
 use Rattle.std.proofs.lemmas.List.Sorted.{IsPermutation-map, length_permutation}
 use Rattle.segment_arrangement.specs.Graphs.{ends_of, AreLists}
-use Rattle.segment_arrangement.specs.LinkEnds.{End, ends_from, ends_of_kind, IsNextPoint, IsRunAt}
+use Rattle.segment_arrangement.specs.LinkEnds.{HasRoomForEnds, End, ends_from, ends_of_kind, IsNextPoint, IsRunAt}
 use Rattle.segment_arrangement.specs.LinkViews.{link_edge_of}
 use Rattle.segment_arrangement.specs.LinkEndViews.{end_of, IsNumberedFrom}
 use Rattle.segment_arrangement.proofs.Graphs.EndOrder.{Member}
@@ -44,10 +43,10 @@ loop-start-init g c =
     }
 
 pub next_end-next-requires-clause-within : goal.next_end-next-requires-clause-within
-next_end-next-requires-clause-within g c = kept_within g.I.OverlayInt.value c.loop-start.links c.args.links.now c.loop-start.invariant.kept (IsEdgeWithin g.I.OverlayInt.least g.I.OverlayInt.greatest) c.requires.within
+next_end-next-requires-clause-within g c = kept_within g.I.OverlayInt.value c.loop-start.links c.args.links.now c.loop-start.invariant.kept (HasRoomForEnds g.N.EndNumber.half) c.requires.within
 
 pub number_starts-next_start-requires-clause-within : goal.number_starts-next_start-requires-clause-within
-number_starts-next_start-requires-clause-within g c = kept_within g.I.OverlayInt.value c.loop-start.links c.args.links.now c.loop-start.invariant.kept (IsEdgeWithin g.I.OverlayInt.least g.I.OverlayInt.greatest) c.requires.within
+number_starts-next_start-requires-clause-within g c = kept_within g.I.OverlayInt.value c.loop-start.links c.args.links.now c.loop-start.invariant.kept (HasRoomForEnds g.N.EndNumber.half) c.requires.within
 
 pub number_starts-next_start-requires-clause-inside : goal.number_starts-next_start-requires-clause-inside
 number_starts-next_start-requires-clause-inside g c = omega (arith, c.loop-start.invariant.start_within, starts_length g.I.OverlayInt.value c.loop-start.links c.args.links.now c.loop-start.invariant.kept)

@@ -1,9 +1,8 @@
 use Rattle.std.proofs.lemmas.Grind.{common_steps}
 use Rattle.std.proofs.Common.{◌≡◌, ◌+◌, ◌-◌, ◌<◌, length, map, take, drop, set, slice_index_or, true, false, sym, ap, subst, ◌∙◌, arith}
 use Rattle.std.proofs.lemmas.List.{length-drop, get_or-drop}
-use Rattle.plane_base.specs.Segments.{IsEdgeWithin}
 use Rattle.plane_base.specs.Views.{point_of}
-use Rattle.segment_arrangement.specs.LinkEnds.{End, ends_of_kind}
+use Rattle.segment_arrangement.specs.LinkEnds.{HasRoomForEnds, End, ends_of_kind}
 use Rattle.segment_arrangement.specs.LinkViews.{link_edge_of, link_parts}
 use Rattle.segment_arrangement.specs.LinkEndViews.{end_of, with_number, IsNumberedFrom}
 use Rattle.segment_arrangement.proofs.Graphs.NodeRuns.{numbered_more, parts_kept}
@@ -12,7 +11,7 @@ use Rattle.segment_arrangement.proofs.node.number_starts.Goals as goal
 
 pub of_end-requires-clause-within : goal.of_end-requires-clause-within
 of_end-requires-clause-within g c =
-    (kept_within g.I.OverlayInt.value c.loop-to.links c.args.links.now c.loop-to.invariant.kept (IsEdgeWithin g.I.OverlayInt.least g.I.OverlayInt.greatest) c.requires.within c.loop-to.to c.index-links-to.result c.loop-to-test.true).0
+    (kept_within g.I.OverlayInt.value c.loop-to.links c.args.links.now c.loop-to.invariant.kept (HasRoomForEnds g.N.EndNumber.half) c.requires.within c.loop-to.to c.index-links-to.result c.loop-to-test.true).0
 
 pub returns-then-not-lies_with-clause-run : goal.returns-then-not-lies_with-clause-run
 returns-then-not-lies_with-clause-run g c =
