@@ -1,3 +1,4 @@
 mod Contours
 mod Pieces
+mod Rules
 mod Sets

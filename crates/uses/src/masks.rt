@@ -1,19 +1,25 @@
-//! Masks: level and upright edges, grown and shrunk by whole distances.
+//! Masks: level and upright edges, grown and shrunk by whole distances, and checked for widths, spaces and enclosures.
+//!
+//! A width is checked by shrinking the mask and growing it again by the same amounts, left and right together one less than the width, bottom and top
+//! too: what is gone is what no square of the width in the mask covers. A space is checked by growing first: what has come is what no square of the
+//! space outside covers. These are widths and spaces across: of two corners that face each other diagonally nothing is told, however near they are.
 
-ghost use Rattle.std.specs.Prelude.{IfOk, IfSome};
+ghost use Rattle.std.specs.Prelude.{◌≡◌, ◌↔◌, pos, neg_ℤ, ◌≤ℤ◌, IsTrue, IfOk, IfErr, IfSome, IfNone};
 ghost use Rattle.polygon_overlay.specs.Builders.{default_options, default_precision};
 ghost use Rattle.polygon_overlay.specs.Calls.{contours_of};
 ghost use Rattle.polygon_overlay.specs.PathViews.{paths_of_shapes};
+ghost use Rattle.polygon_overlay.specs.Plane.{IsCoordinate};
 ghost use Rattle.polygon_overlay.specs.Regions.{NonZero};
 ghost use Rattle.polygon_overlay.specs.ShapeViews.{shapes_of};
-ghost use Rattle.polygon_overlay.specs.SizingCalls.{AreSized};
+ghost use Rattle.polygon_overlay.specs.Singles.{IsSingleRefused};
+ghost use Rattle.polygon_overlay.specs.SizingCalls.{AreSized, IsNotSized, Fits};
 ghost use Rattle.polygon_overlay.specs.SizingViews.{amounts_of};
-ghost use Rattle.polygon_overlay.specs.Singles.{IsSingleOverlay};
-ghost use Rattle.polygon_overlay.specs.Regions.{Difference};
-ghost use Rattle.uses.specs.Rules.{AreSizedTwice, AreWidthErrors, AreSpaceErrors, AreEnclosureErrors};
+ghost use Rattle.uses.specs.Rules.{IsMask, IsSide, CanBeChecked, CanBeEnclosed, AreWidthErrors, AreSpaceErrors, AreEnclosureErrors};
+ghost use Rattle.uses.specs.Rules.{evenly, halves, opposite, FitsAgain, AreSizedTwice, AreRest, IsNotSizedTwice, AreNoWidths, AreNoSpaces, AreNoEnclosures};
 
 use polygon_overlay::arrangement::fill_rule::FillRule;
 use polygon_overlay::arrangement::overlay_rule::OverlayRule;
+use polygon_overlay::laws::{answers_stay_in_the_box, holding_goes_on, sources_are_held};
 use polygon_overlay::plane::fault::Fault;
 use polygon_overlay::plane::int::OverlayInt;
 use polygon_overlay::plane::path::IntShapes;
@@ -21,6 +27,7 @@ use polygon_overlay::plane::range::source_in_range;
 use polygon_overlay::single::SingleIntOverlay;
 use polygon_overlay::sizing::{Sizing, are_level_or_upright, fits, sized};
 use polygon_overlay::split::solver::Solver;
+use polygon_overlay::tile_laws::tiles_answer_their_region;
 use polygon_overlay::walk::options::IntOverlayOptions;
 use std::alloc::Global;
 
@@ -48,87 +55,240 @@ pub fn resized<I: OverlayInt>(
     Ok(Some(sized(alloc, mask, FillRule::NonZero, by, options, solver)?))
 }
 
-/// What of a mask is narrower than a width: it is shrunk and grown again by the same amounts, left and right together one less than the width, and
-/// bottom and top. So what is gone is what no square of that width in the mask covers.
+/// What of a mask is narrower than a width: each of its points that no square of this width in the mask covers, wherever the square stands.
+///
+/// `None` where the width is below 1, or doesn't fit in the range, or a point of the mask is nearer to an end of the range, or an edge is neither level
+/// nor upright.
 pub fn width_errors<I: OverlayInt>(
     alloc: Global,
     mask: &IntShapes<I>,
-    inward: Sizing<I>,
-    outward: Sizing<I>,
+    width: I,
 ) -> Result<Option<IntShapes<I>>, Fault>
-    ensures { IfOk result (λ found. IfSome found (λ shapes. AreWidthErrors I.least I.greatest (amounts_of I.value inward) (amounts_of I.value outward)
+    ensures told { IfOk result (λ found. IfSome found (λ shapes. AreWidthErrors (I.value width)
         (contours_of I.value (paths_of_shapes mask.now.shapes.items)) (shapes_of I.value shapes.shapes.items))) }
+    ensures untold { IfOk result (λ found. IfNone found (CanBeChecked I.least I.greatest (I.value width)
+        (contours_of I.value (paths_of_shapes mask.now.shapes.items)) → ⊥)) }
+    ensures refused { IfErr result (AreNoWidths I.least I.greatest (I.value width) (contours_of I.value (paths_of_shapes mask.now.shapes.items))) }
 {
-    match resized_twice(alloc, mask, inward, outward)? {
-        Some(opened) => difference(alloc, mask, &opened),
-        None => Ok(None),
+    if !can_be_checked(mask, width) {
+        return Ok(None);
     }
+    answers_stay_in_the_box();
+    let opened = sized_twice(alloc, mask, inward(width), outward(width))?;
+    let narrow = rest(alloc, mask, &opened)?;
+    Ok(Some(narrow))
 }
 
-/// Where parts of a mask are nearer to one another than a space: it is grown and shrunk again, as for a width.
+/// Where parts of a mask are nearer to each other than a space, or sides of a notch: each point outside the mask that no square of this width outside
+/// covers. `None` as for a width.
 pub fn space_errors<I: OverlayInt>(
     alloc: Global,
     mask: &IntShapes<I>,
-    inward: Sizing<I>,
-    outward: Sizing<I>,
+    space: I,
 ) -> Result<Option<IntShapes<I>>, Fault>
-    ensures { IfOk result (λ found. IfSome found (λ shapes. AreSpaceErrors I.least I.greatest (amounts_of I.value inward) (amounts_of I.value outward)
+    ensures told { IfOk result (λ found. IfSome found (λ shapes. AreSpaceErrors (I.value space)
         (contours_of I.value (paths_of_shapes mask.now.shapes.items)) (shapes_of I.value shapes.shapes.items))) }
+    ensures untold { IfOk result (λ found. IfNone found (CanBeChecked I.least I.greatest (I.value space)
+        (contours_of I.value (paths_of_shapes mask.now.shapes.items)) → ⊥)) }
+    ensures refused { IfErr result (AreNoSpaces I.least I.greatest (I.value space) (contours_of I.value (paths_of_shapes mask.now.shapes.items))) }
 {
-    match resized_twice(alloc, mask, outward, inward)? {
-        Some(closed) => difference(alloc, &closed, mask),
-        None => Ok(None),
+    if !can_be_checked(mask, space) {
+        return Ok(None);
     }
+    answers_stay_in_the_box();
+    let closed = sized_twice(alloc, mask, outward(space), inward(space))?;
+    let near = rest(alloc, &closed, mask)?;
+    Ok(Some(near))
 }
 
-/// Where a mask doesn't reach so far beyond another.
+/// Where a mask doesn't enclose another by a distance: each point that it doesn't hold, no further from the inner mask than that, in x and in y.
+///
+/// `None` where the distance is below 0, or a point is out of range, one of the inner mask moved so far too, or an edge is neither level nor upright.
 pub fn enclosure_errors<I: OverlayInt>(
     alloc: Global,
     inner: &IntShapes<I>,
     outer: &IntShapes<I>,
-    by: Sizing<I>,
+    distance: I,
 ) -> Result<Option<IntShapes<I>>, Fault>
-    ensures { IfOk result (λ found. IfSome found (λ shapes. AreEnclosureErrors I.least I.greatest (amounts_of I.value by)
+    ensures told { IfOk result (λ found. IfSome found (λ shapes. AreEnclosureErrors (I.value distance)
         (contours_of I.value (paths_of_shapes inner.now.shapes.items)) (contours_of I.value (paths_of_shapes outer.now.shapes.items))
         (shapes_of I.value shapes.shapes.items))) }
+    ensures untold { IfOk result (λ found. IfNone found (CanBeEnclosed I.least I.greatest (I.value distance)
+        (contours_of I.value (paths_of_shapes inner.now.shapes.items)) (contours_of I.value (paths_of_shapes outer.now.shapes.items)) → ⊥)) }
+    ensures refused { IfErr result (AreNoEnclosures I.least I.greatest (I.value distance)
+        (contours_of I.value (paths_of_shapes inner.now.shapes.items)) (contours_of I.value (paths_of_shapes outer.now.shapes.items))) }
 {
-    match resized(alloc, inner, by)? {
-        Some(grown) => difference(alloc, &grown, outer),
-        None => Ok(None),
+    if !can_be_enclosed(inner, outer, distance) {
+        return Ok(None);
+    }
+    let grown = sized_once(alloc, inner, evenly(distance))?;
+    let beyond = rest(alloc, &grown, outer)?;
+    Ok(Some(beyond))
+}
+
+// ---- what can be checked
+
+fn is_mask<I: OverlayInt>(mask: &IntShapes<I>) -> bool
+    ensures { IsTrue result ↔ IsMask I.least I.greatest (contours_of I.value (paths_of_shapes mask.now.shapes.items)) }
+{
+    if !source_in_range(mask) {
+        return false;
+    }
+    are_level_or_upright(mask)
+}
+
+fn is_side<I: OverlayInt>(side: I) -> bool
+    ensures { IsTrue result ↔ IsSide I.least I.greatest (I.value side) }
+{
+    let number = side.to_i64();
+    if number < 1 {
+        return false;
+    }
+    if !I::in_range(number) {
+        return false;
+    }
+    I::in_range(-number)
+}
+
+fn can_be_checked<I: OverlayInt>(mask: &IntShapes<I>, side: I) -> bool
+    ensures { IsTrue result ↔ CanBeChecked I.least I.greatest (I.value side) (contours_of I.value (paths_of_shapes mask.now.shapes.items)) }
+{
+    if !is_side(side) {
+        return false;
+    }
+    if !is_mask(mask) {
+        return false;
+    }
+    fits(mask, evenly(side))
+}
+
+fn is_distance<I: OverlayInt>(distance: I) -> bool
+    ensures { IsTrue result ↔ (pos 0 ≤ℤ I.value distance) }
+{
+    0 <= distance.to_i64()
+}
+
+fn can_be_enclosed<I: OverlayInt>(inner: &IntShapes<I>, outer: &IntShapes<I>, distance: I) -> bool
+    ensures { IsTrue result ↔ CanBeEnclosed I.least I.greatest (I.value distance)
+        (contours_of I.value (paths_of_shapes inner.now.shapes.items)) (contours_of I.value (paths_of_shapes outer.now.shapes.items)) }
+{
+    if !is_distance(distance) {
+        return false;
+    }
+    if !is_mask(inner) {
+        return false;
+    }
+    if !is_mask(outer) {
+        return false;
+    }
+    fits(inner, evenly(distance))
+}
+
+// ---- amounts
+
+fn evenly<I: OverlayInt>(distance: I) -> Sizing<I>
+    ensures { amounts_of I.value result ≡ evenly (I.value distance) }
+{
+    Sizing {
+        left: distance,
+        right: distance,
+        bottom: distance,
+        top: distance,
     }
 }
 
-// A mask resized, and resized again.
-fn resized_twice<I: OverlayInt>(
+// One less than a side in two parts.
+fn outward<I: OverlayInt>(side: I) -> Sizing<I>
+    requires { IsSide I.least I.greatest (I.value side) }
+    ensures { amounts_of I.value result ≡ halves (I.value side) }
+{
+    let whole = side.to_i64() - 1;
+    let half = I::from_i64(whole / 2);
+    let other = I::from_i64(whole - whole / 2);
+    Sizing {
+        left: half,
+        right: other,
+        bottom: half,
+        top: other,
+    }
+}
+
+// The same, inward.
+fn inward<I: OverlayInt>(side: I) -> Sizing<I>
+    requires { IsSide I.least I.greatest (I.value side) }
+    ensures { amounts_of I.value result ≡ opposite (halves (I.value side)) }
+{
+    let by = outward(side);
+    let half = negated(by.left);
+    let other = negated(by.right);
+    Sizing {
+        left: half,
+        right: other,
+        bottom: half,
+        top: other,
+    }
+}
+
+fn negated<I: OverlayInt>(number: I) -> I
+    requires { IsCoordinate I.least I.greatest (neg_ℤ (I.value number)) }
+    ensures { I.value result ≡ neg_ℤ (I.value number) }
+{
+    I::from_i64(-number.to_i64())
+}
+
+// ---- overlays
+
+fn sized_once<I: OverlayInt>(
+    alloc: Global,
+    mask: &IntShapes<I>,
+    by: Sizing<I>,
+) -> Result<IntShapes<I>, Fault>
+    requires is_mask { IsMask I.least I.greatest (contours_of I.value (paths_of_shapes mask.now.shapes.items)) }
+    requires fits { Fits I.least I.greatest (amounts_of I.value by) (contours_of I.value (paths_of_shapes mask.now.shapes.items)) }
+    ensures sized { IfOk result (λ shapes. AreSized I.least I.greatest (amounts_of I.value by) default_options NonZero default_precision
+        (contours_of I.value (paths_of_shapes mask.now.shapes.items)) (shapes_of I.value shapes.shapes.items)) }
+    ensures refused { IfErr result (IsNotSized I.least I.greatest (amounts_of I.value by) default_options NonZero default_precision
+        (contours_of I.value (paths_of_shapes mask.now.shapes.items))) }
+{
+    let options = IntOverlayOptions::default();
+    let solver = Solver::default();
+    sized(alloc, mask, FillRule::NonZero, by, options, solver)
+}
+
+fn sized_twice<I: OverlayInt>(
     alloc: Global,
     mask: &IntShapes<I>,
     first: Sizing<I>,
     second: Sizing<I>,
-) -> Result<Option<IntShapes<I>>, Fault>
-    ensures { IfOk result (λ found. IfSome found (λ shapes. AreSizedTwice I.least I.greatest (amounts_of I.value first) (amounts_of I.value second)
-        (contours_of I.value (paths_of_shapes mask.now.shapes.items)) (shapes_of I.value shapes.shapes.items))) }
+) -> Result<IntShapes<I>, Fault>
+    requires is_mask { IsMask I.least I.greatest (contours_of I.value (paths_of_shapes mask.now.shapes.items)) }
+    requires fits { Fits I.least I.greatest (amounts_of I.value first) (contours_of I.value (paths_of_shapes mask.now.shapes.items)) }
+    requires fits_again { FitsAgain I.least I.greatest (amounts_of I.value first) (amounts_of I.value second)
+        (contours_of I.value (paths_of_shapes mask.now.shapes.items)) }
+    ensures sized { IfOk result (λ shapes. AreSizedTwice I.least I.greatest (amounts_of I.value first) (amounts_of I.value second)
+        (contours_of I.value (paths_of_shapes mask.now.shapes.items)) (shapes_of I.value shapes.shapes.items)) }
+    ensures refused { IfErr result (IsNotSizedTwice I.least I.greatest (amounts_of I.value first) (amounts_of I.value second)
+        (contours_of I.value (paths_of_shapes mask.now.shapes.items))) }
 {
-    match resized(alloc, mask, first)? {
-        Some(between) => resized(alloc, &between, second),
-        None => Ok(None),
-    }
+    let between = sized_once(alloc, mask, first)?;
+    sized_once(alloc, &between, second)
 }
 
-// What the one covers without the other. None where a point is out of range.
-fn difference<I: OverlayInt>(
+// What the one covers without the other.
+fn rest<I: OverlayInt>(
     alloc: Global,
     one: &IntShapes<I>,
     other: &IntShapes<I>,
-) -> Result<Option<IntShapes<I>>, Fault>
-    ensures { IfOk result (λ found. IfSome found (λ shapes. IsSingleOverlay I.least I.greatest NonZero Difference
-        (contours_of I.value (paths_of_shapes one.now.shapes.items)) (contours_of I.value (paths_of_shapes other.now.shapes.items))
-        (shapes_of I.value shapes.shapes.items))) }
+) -> Result<IntShapes<I>, Fault>
+    requires one_is { IsMask I.least I.greatest (contours_of I.value (paths_of_shapes one.now.shapes.items)) }
+    requires other_is { IsMask I.least I.greatest (contours_of I.value (paths_of_shapes other.now.shapes.items)) }
+    ensures rest { IfOk result (λ shapes. AreRest (contours_of I.value (paths_of_shapes one.now.shapes.items))
+        (contours_of I.value (paths_of_shapes other.now.shapes.items)) (shapes_of I.value shapes.shapes.items)) }
+    ensures refused { IfErr result (IsSingleRefused (contours_of I.value (paths_of_shapes one.now.shapes.items))
+        (contours_of I.value (paths_of_shapes other.now.shapes.items))) }
 {
-    if !source_in_range(one) {
-        return Ok(None);
-    }
-    if !source_in_range(other) {
-        return Ok(None);
-    }
-    Ok(Some(one.overlay(alloc, other, OverlayRule::Difference, FillRule::NonZero)?))
+    holding_goes_on();
+    sources_are_held();
+    tiles_answer_their_region();
+    one.overlay(alloc, other, OverlayRule::Difference, FillRule::NonZero)
 }

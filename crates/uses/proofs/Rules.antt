@@ -1,0 +1,8 @@
+pub mod Places
+pub mod Cells
+pub mod Windows
+pub mod Squares
+pub mod Room
+pub mod Rest
+pub mod Answers
+pub mod Calls
