@@ -23,6 +23,7 @@ use std::test::Fail;
 mod answers;
 mod areas;
 mod boxes;
+mod checks;
 mod compared;
 mod ends;
 mod flat;
