@@ -1,5 +1,5 @@
 -- What is answered by sizing and overlays are the errors, point by point.
-use Rattle.std.proofs.Common.{◌≡◌, ◌⊎◌, inl, inr, ◌<◌, List, ℤ, pos, neg_ℤ, ◌+ℤ◌, ◌-ℤ◌, ◌*ℤ◌, ◌≤ℤ◌, ◌<ℤ◌, true, refl, sym, ap, ap₂, ◌∙◌, subst, arith}
+use Rattle.std.proofs.Common.{◌≡◌, ◌⊎◌, inl, inr, List, ℤ, pos, neg_ℤ, ◌+ℤ◌, ◌-ℤ◌, ◌*ℤ◌, ◌≤ℤ◌, ◌<ℤ◌, true, refl, sym, ap, ◌∙◌, subst, arith}
 use Rattle.std.proofs.lemmas.Int.{ints}
 use Rattle.std.proofs.lemmas.Bool.{false≢true}
 use Rattle.polygon_overlay.specs.BindingLaws.{all_contours}
@@ -14,7 +14,7 @@ use Rattle.uses.specs.Rules.{IsCovered, IsNear, IsEnclosureError, AreRest, AreWi
 use Rattle.uses.proofs.Rules.Cells.{column, row, place_winding, winding_by_places}
 use Rattle.uses.proofs.Rules.Places.{product_of_negation, times_at_most, floor, floor_moves, floor_rises, floor_is, row_of, row_moves, row_rises}
 use Rattle.uses.proofs.Rules.Room.{halves_part}
-use Rattle.uses.proofs.Rules.Squares.{CoversCells, covered_by_cells, Parts, of_some_cell, some_cell, opened_by_squares, closed_off_squares, closed_where_no_square}
+use Rattle.uses.proofs.Rules.Squares.{covered_by_cells, Parts, of_some_cell, some_cell, opened_by_squares, closed_off_squares, closed_where_no_square}
 use Rattle.uses.proofs.Rules.Windows.{SizedCells, IsByCells, sized_by_cells, moves_back}
 
 -- ---- what contours fill

@@ -1,18 +1,18 @@
 -- Contours of level and upright steps wind alike round all points of a unit square, its left side and its top included.
-use Rattle.std.proofs.Common.{◌≡◌, ◌⊎◌, inl, inr, ⊎_elim, ℕ, ◌<◌, Bool, true, false, cond, ◌&&◌, ◌||◌, ℤ, pos, ◌+ℤ◌, ◌-ℤ◌, ◌*ℤ◌, ◌≤ℤ◌, ◌<ℤ◌, int_lt, int_le, int_eq, List, [], ◌∷◌, ◌++◌, flat_map, All, refl, sym, ap, ap₂, ◌∙◌, subst, arith}
+use Rattle.std.proofs.Common.{◌≡◌, ◌⊎◌, inl, inr, ⊎_elim, Bool, true, false, cond, ◌&&◌, ◌||◌, ℤ, pos, ◌+ℤ◌, ◌-ℤ◌, ◌*ℤ◌, ◌≤ℤ◌, ◌<ℤ◌, int_lt, int_le, int_eq, List, [], ◌∷◌, ◌++◌, flat_map, All, refl, sym, ap, ap₂, ◌∙◌, subst, arith}
 use Rattle.std.specs.declared.cmp.Ordering.{Ordering}
 use Rattle.std.specs.declared.cmp.Ordering.TheVariants.{Less, Equal, Greater}
 use Rattle.std.proofs.lemmas.Int.{ints}
 use Rattle.std.proofs.lemmas.Bool.{false≢true}
 use Rattle.std.proofs.lemmas.Bool.Decides.{Decides-int_eq}
 use Rattle.std.proofs.lemmas.List.Elements.{All-nil, All-cons, All-head, All-tail, All-append}
-use Rattle.polygon_overlay.specs.Counts.{Count, Entry, Counting, boolean, one_subject, lay, normal, joined, unless_empty}
+use Rattle.polygon_overlay.specs.Counts.{Count, Entry, boolean, one_subject, lay, normal, joined, unless_empty}
 use Rattle.polygon_overlay.specs.Plane.{Point, Edge, RationalPoint, IsRational, point_order, edge_order, side, is_below}
 use Rattle.polygon_overlay.specs.Tiles.{AreLevelOrUpright}
 use Rattle.polygon_overlay.specs.Totals.{total}
 use Rattle.polygon_overlay.specs.WalkLaws.{steps_to, contour_steps}
 use Rattle.polygon_overlay.specs.Windings.{contour_winding}
-use Rattle.uses.proofs.Rules.Places.{product_positive, times_at_most, below_of_times, at_most, at_most_below, below_at_most, floor, floor_low, floor_high, floor_at_least, floor_below, row_of, row_low, row_high, row_at_least, row_below}
+use Rattle.uses.proofs.Rules.Places.{product_positive, times_at_most, below_of_times, at_most, at_most_below, below_at_most, floor, floor_low, floor_high, floor_at_least, floor_below, row_of, row_low, row_at_least}
 
 -- ---- the map of contours, as `contour_winding` has it
 

@@ -1,5 +1,5 @@
 -- What one mask has without another, at every rational point: by the law of tiles, with one that holds both masks and the point.
-use Rattle.std.proofs.Common.{◌≡◌, ◌⊎◌, inl, inr, Bool, true, false, not, cond, ◌&&◌, List, [], ◌∷◌, ◌++◌, map, All, ℤ, pos, ◌+ℤ◌, ◌*ℤ◌, ◌≤ℤ◌, ◌<ℤ◌, int_lt, int_le, refl, sym, ap, ap₂, ◌∙◌, subst, arith}
+use Rattle.std.proofs.Common.{◌≡◌, ◌⊎◌, inl, inr, Bool, true, false, not, cond, ◌&&◌, List, [], ◌∷◌, map, All, ℤ, pos, ◌+ℤ◌, ◌≤ℤ◌, int_lt, refl, sym, ap, ap₂, ◌∙◌, subst, arith}
 use Rattle.std.proofs.lemmas.Int.{ints}
 use Rattle.std.proofs.lemmas.Bool.{false≢true}
 use Rattle.std.proofs.lemmas.List.Elements.{All-head, All-tail, All-append}
@@ -14,7 +14,7 @@ use Rattle.polygon_overlay.specs.Regions.{NonZero, Difference, is_filled}
 use Rattle.polygon_overlay.specs.Singles.{IsSingleOverlay}
 use Rattle.polygon_overlay.specs.Sizing.{IsFilledBy}
 use Rattle.polygon_overlay.specs.TileLaws.{TilesAnswerTheirRegion}
-use Rattle.polygon_overlay.specs.Tiles.{in_tile, IsTile, clamped_number, clamped_point, clamped, AreLevelOrUpright}
+use Rattle.polygon_overlay.specs.Tiles.{in_tile, IsTile, clamped_number, clamped_point, clamped}
 use Rattle.polygon_overlay.specs.WalkLaws.{turns_of, contour_steps}
 use Rattle.polygon_overlay.specs.Windings.{contour_winding}
 use Rattle.uses.specs.Rules.{IsMask, AreRest}

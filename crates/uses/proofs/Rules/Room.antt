@@ -1,5 +1,5 @@
 -- Room for masks that are sized by halves of a side, and again.
-use Rattle.std.proofs.Common.{◌≡◌, Bool, true, false, cond, List, [], ◌∷◌, map, flat_map, get_or, All, ℤ, pos, negsuc, neg_ℤ, ◌+ℤ◌, ◌-ℤ◌, ◌≤ℤ◌, int_eq, int_lt, refl, sym, ap, subst, arith}
+use Rattle.std.proofs.Common.{◌≡◌, Bool, true, false, cond, List, [], ◌∷◌, map, flat_map, get_or, All, ℤ, pos, negsuc, neg_ℤ, ◌+ℤ◌, ◌-ℤ◌, ◌≤ℤ◌, int_eq, int_lt, sym, subst, arith}
 use Rattle.std.specs.Int.{int_div_euclid}
 use Rattle.std.proofs.lemmas.Int.{ints}
 use Rattle.std.proofs.lemmas.List.Elements.{All-nil, All-cons, All-head, All-tail, All-append, All-map}
@@ -8,12 +8,12 @@ use Rattle.polygon_overlay.specs.BindingLaws.{all_contours}
 use Rattle.polygon_overlay.specs.BoxLaws.{AnswersStayInTheBox}
 use Rattle.polygon_overlay.specs.Builders.{default_options, default_precision}
 use Rattle.polygon_overlay.specs.Groups.{Bounds, LiesWithin}
-use Rattle.polygon_overlay.specs.Plane.{Point, Edge, IsCoordinate}
+use Rattle.polygon_overlay.specs.Plane.{Point, Edge}
 use Rattle.polygon_overlay.specs.Regions.{FillRule, NonZero, Positive, Subject}
 use Rattle.polygon_overlay.specs.Sizing.{Amounts, moved_across, moved_up, moved}
-use Rattle.polygon_overlay.specs.SizingCalls.{HasRoom, StaysInRange, AreSized, Fits}
+use Rattle.polygon_overlay.specs.SizingCalls.{HasRoom, Fits}
 use Rattle.polygon_overlay.specs.SizingLaws.{HoldsAlone, region_of}
-use Rattle.polygon_overlay.specs.WalkLaws.{steps_to, contour_steps}
+use Rattle.polygon_overlay.specs.WalkLaws.{steps_to}
 use Rattle.uses.specs.Rules.{evenly, opposite, halves, FitsAgain}
 use Rattle.uses.proofs.Rules.Squares.{Parts}
 

@@ -1,5 +1,5 @@
 -- A sized region by columns and rows: a window at a point reaches over the places round its own that the window's amounts say.
-use Rattle.std.proofs.Common.{◌≡◌, ℕ, ◌<◌, ℤ, pos, neg_ℤ, ◌+ℤ◌, ◌-ℤ◌, ◌*ℤ◌, ◌≤ℤ◌, ◌<ℤ◌, refl, sym, ap, ap₂, ◌∙◌, subst, arith}
+use Rattle.std.proofs.Common.{◌≡◌, ℕ, ◌<◌, ℤ, pos, neg_ℤ, ◌+ℤ◌, ◌-ℤ◌, ◌*ℤ◌, ◌≤ℤ◌, ◌<ℤ◌, refl, sym, ap, ◌∙◌, subst, arith}
 use Rattle.std.proofs.lemmas.Int.{ints}
 use Rattle.polygon_overlay.specs.Plane.{RationalPoint, IsRational}
 use Rattle.polygon_overlay.specs.Sizing.{Amounts, LiesInRow, IsSizedAcross, exchanged, IsSized}

@@ -1,7 +1,6 @@
 use Rattle.polygon_overlay.specs.Calls.{contours_of}
 use Rattle.polygon_overlay.specs.PathViews.{paths_of_shapes}
 use Rattle.polygon_overlay.specs.SizingCalls.{Fits}
-use Rattle.polygon_overlay.specs.SizingViews.{amounts_of}
 use Rattle.std.proofs.Common.{sym, subst}
 use Rattle.uses.proofs.masks.can_be_checked.Goals as goal
 
