@@ -4,5 +4,5 @@ pub mod Windows
 pub mod Squares
 pub mod Room
 pub mod Rest
-pub mod Answers
+pub mod Errors
 pub mod Calls

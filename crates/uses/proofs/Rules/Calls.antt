@@ -19,7 +19,7 @@ use Rattle.polygon_overlay.specs.SizingCalls.{AreSized, IsNotSized, Fits}
 use Rattle.polygon_overlay.specs.Views.{points_of}
 use Rattle.uses.specs.Rules.{IsMask, IsSide, CanBeChecked, CanBeEnclosed, AreWidthErrors, AreSpaceErrors, AreEnclosureErrors, evenly, halves, opposite, FitsAgain, AreSizedTwice, AreRest, IsNotSizedTwice, of_once, of_again, AreNoWidths, of_opened, of_narrow, AreNoSpaces, of_closed, of_near, AreNoEnclosures, of_grown, of_rest}
 use Rattle.uses.proofs.Contours.{same_contours}
-use Rattle.uses.proofs.Rules.Answers.{are_width_errors, are_space_errors, are_enclosure_errors}
+use Rattle.uses.proofs.Rules.Errors.{are_width_errors, are_space_errors, are_enclosure_errors}
 use Rattle.uses.proofs.Rules.Room.{half, halves_are, halves_within, opposite_within, fits_within, fits_again, rest}
 
 pub if_answered : {T E : Type 0} {P Q : T → Type 0} (r : Result T E) → ((t : T) → P t → Q t) → IfOk r P → IfOk r Q
