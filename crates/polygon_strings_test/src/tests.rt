@@ -7,3 +7,4 @@ mod looped;
 mod made;
 mod plain;
 mod sliced;
+mod starred;

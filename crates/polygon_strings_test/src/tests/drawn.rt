@@ -145,7 +145,7 @@ fn has_loop(pieces: &IntShapes<i32>, contour: &IntPath<i32>) -> bool {
 }
 
 // Whether the contours of pieces are these loops: each of either is among the others, and they are as many.
-fn are_loops(pieces: &IntShapes<i32>, loops: &[IntPath<i32>]) -> bool {
+pub(super) fn are_loops(pieces: &IntShapes<i32>, loops: &[IntPath<i32>]) -> bool {
     for contour in loops {
         if !has_loop(pieces, contour) {
             return false;
@@ -192,7 +192,7 @@ fn wind_once(pieces: &IntShapes<i32>, once: i128) -> bool {
 }
 
 // The loops that a slow program finds in the graph of what is held.
-fn loops_held(
+pub(super) fn loops_held(
     alloc: Global,
     overlay: &mut StringOverlay<i32>,
     slice: &Slice,
