@@ -5,3 +5,4 @@ pub mod Built
 pub mod Paths
 pub mod Links
 pub mod Within
+pub mod Begins

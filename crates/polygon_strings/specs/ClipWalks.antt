@@ -1,14 +1,15 @@
 -- What contracts see of clips under way: which steps along links no path has passed.
-use Rattle.std.specs.Prelude.{◌≡◌, ◌≢◌, ℕ, ◌<◌, ℤ, Bool, true, false, cond, List, [], ◌∷◌, ◌++◌, map, slice_index_or, Some, All, AllPairs}
+use Rattle.std.specs.Prelude.{◌≡◌, ◌≢◌, ℕ, ◌<◌, ℤ, Bool, true, false, cond, List, [], ◌∷◌, ◌++◌, length, map, take, slice_index_or, Some, All, AllPairs}
 use Rattle.std.specs.declared.cmp.Ordering.TheVariants.{Less}
 use Rattle.plane_base.specs.Plane.{Point, Edge, is_before, edge_order}
-use Rattle.segment_arrangement.specs.Graphs.{Link, nodes_of}
+use Rattle.segment_arrangement.specs.Graphs.{Link, ends_of, nodes_of}
 use Rattle.segment_arrangement.specs.Fills.{has}
 use Rattle.segment_arrangement.specs.LinkViews.{link_edge_of, AreNumbered}
 use Rattle.segment_arrangement.specs.declared.link.OverlayLink.{OverlayLink}
 use Rattle.contour_walk.specs.Walks.{same_point, is_same}
 use Rattle.polygon_strings.specs.Clips.{turned, path_steps, first_of, last_of, NoneGoesOn, NoneLeadsTo, AreClipPaths}
 use Rattle.polygon_strings.specs.declared.string.clip_walk.StepsLeft.{StepsLeft}
+use Rattle.polygon_strings.specs.declared.string.clip_walk.SearchBegins.{SearchBegins}
 
 abbrev pub link_edges : {I D : Type 0} → (I → ℤ) → List (OverlayLink I D) → List Edge
 link_edges value links = map (link_edge_of value) links
@@ -67,6 +68,29 @@ StayPassed old new = (from_a : Bool) (i : ℕ) → is_left from_a (slice_index_o
 -- No step in this direction is left along an edge before this one.
 abbrev pub ArePassedBefore : ℕ → List StepsLeft → Type 0
 ArePassedBefore first left = (from_a : Bool) (i : ℕ) → i < first → is_left from_a (slice_index_or left i none_left) ≡ false
+
+-- No step is left along the edges at these places that leaves v, or leads to it on the way backward.
+abbrev pub ArePassedAlong : Bool → Point → List Edge → List StepsLeft → List ℕ → Type 0
+ArePassedAlong forward v edges left places = All (λ place. is_left_from forward v edges left place ≡ false) places
+
+-- where the search for a step begins in a direction
+abbrev pub begin_of : Bool → SearchBegins → ℕ
+begin_of forward begins = cond forward begins.forward begins.backward
+
+-- the search in this direction begins there
+abbrev pub begun : Bool → ℕ → SearchBegins → SearchBegins
+begun forward begin begins = record { forward = cond forward begin begins.forward; backward = cond forward begins.backward begin }
+
+-- all links of a node are still to be looked at
+abbrev pub at_first : SearchBegins
+at_first = record { forward = 0; backward = 0 }
+
+-- Beside each edge stands which of its steps are left, and for each node, by the list of its places, where searches begin: no step is left before.
+pub record AreRemaining (edges : List Edge) (lists : List (List ℕ)) (left : List StepsLeft) (begins : List SearchBegins) : Type 0 where
+  pub beside : length left ≡ length edges
+  pub nodes : length begins ≡ length lists
+  pub passed : (forward : Bool) (k : ℕ) (v : Point) → k < length (ends_of edges) → slice_index_or (ends_of edges) k v ≡ v
+      → ArePassedAlong forward v edges left (take (begin_of forward (slice_index_or begins k at_first)) (slice_index_or lists k []))
 
 -- ---- a path under way
 

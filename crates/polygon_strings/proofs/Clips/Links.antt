@@ -38,24 +38,32 @@ places_inside edges v =
     (subst (λ m. All (λ p. p < m) (node_at edges v).ends) all (places_within 0 (λ s. is_eq (point_order s.b v)) edges))
 
 -- the list of a node has the places of the links that meet there
-module _ {N : Type 0} (items : N → List ℕ) (edges : List Edge) (nodes : List N) (joined : map items nodes ≡ map (λ n. n.starts ++ n.ends) (nodes_of edges))
-    (k : ℕ) (within : k < length (ends_of edges)) where
-  pub node_within : k < length nodes
-  node_within =
-      let one = length-map nodes items in
-      let two : length (map items nodes) ≡ length (ends_of edges) = ap length joined ∙ (length-map (nodes_of edges) (λ n. n.starts ++ n.ends) ∙ length-map (ends_of edges) (node_at edges)) in
-      omega (arith, one, two, within)
+module _ (edges : List Edge) (lists : List (List ℕ)) (joined : lists ≡ map (λ n. n.starts ++ n.ends) (nodes_of edges)) (k : ℕ) (within : k < length (ends_of edges)) where
+  pub list_within : k < length lists
+  list_within =
+      let two : length lists ≡ length (ends_of edges) = ap length joined ∙ (length-map (nodes_of edges) (λ n. n.starts ++ n.ends) ∙ length-map (ends_of edges) (node_at edges)) in
+      omega (arith, two, within)
 
-  pub node_places : (v : Point) (n : N) → get_or (ends_of edges) k v ≡ v → n ≡ get_or nodes k n → items n ≡ places edges v
-  node_places v n at here =
-      ap items here
-      ∙ (sym (get_or-map items nodes k n [] node_within)
-      ∙ (ap (λ l. get_or l k []) joined
+  pub node_list : (v : Point) → get_or (ends_of edges) k v ≡ v → get_or lists k [] ≡ places edges v
+  node_list v at =
+      ap (λ l. get_or l k []) joined
       ∙ (get_or-map (λ m. m.starts ++ m.ends) (nodes_of edges) k (node_at edges v) [] inside
-      ∙ ap (λ m. m.starts ++ m.ends) (get_or-map (node_at edges) (ends_of edges) k v (node_at edges v) within ∙ ap (node_at edges) at))))
+      ∙ ap (λ m. m.starts ++ m.ends) (get_or-map (node_at edges) (ends_of edges) k v (node_at edges v) within ∙ ap (node_at edges) at))
     where
       inside : k < length (nodes_of edges)
       inside = omega (arith, length-map (ends_of edges) (node_at edges), within)
+
+-- the same of a list as the code has it
+module _ {N : Type 0} (items : N → List ℕ) (edges : List Edge) (nodes : List N) (joined : map items nodes ≡ map (λ n. n.starts ++ n.ends) (nodes_of edges))
+    (k : ℕ) (within : k < length (ends_of edges)) where
+  pub node_within : k < length nodes
+  node_within = omega (arith, length-map nodes items, list_within edges (map items nodes) joined k within)
+
+  pub node_items : (n : N) → n ≡ get_or nodes k n → items n ≡ get_or (map items nodes) k []
+  node_items n here = ap items here ∙ sym (get_or-map items nodes k n [] node_within)
+
+  pub node_places : (v : Point) (n : N) → get_or (ends_of edges) k v ≡ v → n ≡ get_or nodes k n → items n ≡ places edges v
+  node_places v n at here = node_items n here ∙ node_list edges (map items nodes) joined k within v at
 
 -- at first each link has the steps of its lines
 pub steps_at_first : {I D : Type 0} (value : I → ℤ) (links : List (OverlayLink I D))

@@ -2,10 +2,11 @@
 //!
 //! Along each link at most two steps run, one in each direction. Links are gone through in order, and with each step that no path has
 //! passed a path is begun: forward by the step from the link's lesser end, else backward, to be turned in the end. At each node it goes
-//! on by the first step that is left. It takes time in the steps, and at each node that a path comes to in the links that meet there.
+//! on by the first step that is left. The search for it begins where the last one at the node ended, forward and backward apart, since
+//! steps only get fewer: so all takes time in the links and their steps.
 
-ghost use Rattle.std.specs.Prelude.{◌≡◌, ◌≢◌, ◌<◌, true, false, Some, cond, ◌∷◌, ◌++◌, map, flat_map, reverse, length, slice_index_or};
-ghost use Rattle.std.specs.Prelude.{All, Contains, IsPermutation, IfOk, OnOk, IfSome, IfNone, IsOkUnless};
+ghost use Rattle.std.specs.Prelude.{◌≡◌, ◌≢◌, ◌<◌, ℕ, true, false, Some, cond, List, [], ◌∷◌, ◌++◌, map, flat_map, reverse, take, length};
+ghost use Rattle.std.specs.Prelude.{slice_index_or, slice_set, All, Contains, IsPermutation, IfOk, OnOk, IfSome, IfNone, IsOkUnless};
 ghost use Rattle.plane_base.specs.Plane.{Edge, point_order};
 ghost use Rattle.plane_base.specs.Views.{point_of, points_of};
 ghost use Rattle.plane_base.specs.GivenViews.{contours_of};
@@ -15,6 +16,7 @@ ghost use Rattle.contour_walk.specs.Walks.{same_point, is_same};
 ghost use Rattle.polygon_strings.specs.Clips.{path_steps, last_of, IsClip};
 ghost use Rattle.polygon_strings.specs.ClipWalks.{link_edges, link_steps, IsWalkable, step_along, steps_of, is_left, is_left_from, without, none_left};
 ghost use Rattle.polygon_strings.specs.ClipWalks.{steps_left, StayPassed, ArePassedBefore, walk_steps, BeginsWith, HasEnded, IsBuilt, AddsClipPaths};
+ghost use Rattle.polygon_strings.specs.ClipWalks.{begin_of, begun, ArePassedAlong, AreRemaining};
 
 use plane_base::fault::Fault;
 use plane_base::int::OverlayInt;
@@ -41,6 +43,20 @@ pub(crate) struct StepsLeft {
     from_b: bool,
 }
 
+/// Where the search for a step begins among the links of a node: for one that leaves it, and for one that leads to it.
+#[derive(Clone, Copy, Debug, PartialEq, Eq)]
+pub(crate) struct SearchBegins {
+    forward: usize,
+    backward: usize,
+}
+
+// The steps that no path has passed: those along each link, and for each node where the search for one begins.
+#[derive(Debug, Drop)]
+struct Remaining {
+    steps: Vec<StepsLeft>,
+    begins: Vec<SearchBegins>,
+}
+
 // The paths of all steps of lines along links, each of which stands in one path.
 pub(crate) fn find_paths<I: OverlayInt>(
     alloc: Global,
@@ -51,7 +67,9 @@ pub(crate) fn find_paths<I: OverlayInt>(
     ensures clip { IfOk result (λ paths. IsClip (flat_map link_steps (map (overlay_link_of I.value) links.now)) (contours_of I.value paths.items)) }
     ensures memory { IsOkUnless result Fault.Memory }
 {
-    let mut left = steps_of_links(alloc, links)?;
+    let steps = steps_of_links(alloc, links)?;
+    let begins = vec![in alloc; SearchBegins::FIRST; nodes.len()]?;
+    let mut left = Remaining { steps, begins };
     paths_of_steps(alloc, links, nodes, &mut left)
 }
 
@@ -60,11 +78,11 @@ fn paths_of_steps<I: OverlayInt>(
     alloc: Global,
     links: &[OverlayLink<I, ()>],
     nodes: &[Vec<usize>],
-    left: &mut [StepsLeft],
+    left: &mut Remaining,
 ) -> Result<Vec<IntPath<I>>, Fault>
     requires walkable { IsWalkable I.value links.now (map (λ n. n.items) nodes.now) }
-    requires beside { length left.old ≡ length links.now }
-    ensures clip { IfOk result (λ paths. IsClip (steps_left (link_edges I.value links.now) left.old) (contours_of I.value paths.items)) }
+    requires remaining { AreRemaining (link_edges I.value links.now) (map (λ n. n.items) nodes.now) left.old.steps.items left.old.begins.items }
+    ensures clip { IfOk result (λ paths. IsClip (steps_left (link_edges I.value links.now) left.old.steps.items) (contours_of I.value paths.items)) }
     ensures memory { IsOkUnless result Fault.Memory }
 {
     let mut paths = Vec::new(alloc);
@@ -104,24 +122,24 @@ fn begin_path<I: OverlayInt>(
     alloc: Global,
     links: &[OverlayLink<I, ()>],
     nodes: &[Vec<usize>],
-    left: &mut [StepsLeft],
+    left: &mut Remaining,
     first: usize,
     forward: bool,
     paths: &mut Vec<IntPath<I>>,
 ) -> Result<(), Fault>
     requires walkable { IsWalkable I.value links.now (map (λ n. n.items) nodes.now) }
     requires inside { first < length links.now }
-    requires beside { length left.old ≡ length links.now }
-    requires passed { ArePassedBefore first left.old }
-    requires forward_first { forward ≡ false → is_left true (slice_index_or left.old first none_left) ≡ false }
-    ensures beside { length left.new ≡ length links.now }
-    ensures stay { StayPassed left.old left.new }
-    ensures used { is_left forward (slice_index_or left.new first none_left) ≡ false }
-    ensures added { OnOk result (AddsClipPaths (steps_left (link_edges I.value links.now) left.old) (contours_of I.value paths.old.items)
-        (steps_left (link_edges I.value links.now) left.new) (contours_of I.value paths.new.items)) }
+    requires remaining { AreRemaining (link_edges I.value links.now) (map (λ n. n.items) nodes.now) left.old.steps.items left.old.begins.items }
+    requires passed { ArePassedBefore first left.old.steps.items }
+    requires forward_first { forward ≡ false → is_left true (slice_index_or left.old.steps.items first none_left) ≡ false }
+    ensures remaining { AreRemaining (link_edges I.value links.now) (map (λ n. n.items) nodes.now) left.new.steps.items left.new.begins.items }
+    ensures stay { StayPassed left.old.steps.items left.new.steps.items }
+    ensures used { is_left forward (slice_index_or left.new.steps.items first none_left) ≡ false }
+    ensures added { OnOk result (AddsClipPaths (steps_left (link_edges I.value links.now) left.old.steps.items) (contours_of I.value paths.old.items)
+        (steps_left (link_edges I.value links.now) left.new.steps.items) (contours_of I.value paths.new.items)) }
     ensures memory { IsOkUnless result Fault.Memory }
 {
-    if !left[first].is_left(forward) {
+    if !left.steps[first].is_left(forward) {
         return Ok(());
     }
     let points = build_path(alloc, links, nodes, left, first, forward)?;
@@ -134,25 +152,25 @@ fn build_path<I: OverlayInt>(
     alloc: Global,
     links: &[OverlayLink<I, ()>],
     nodes: &[Vec<usize>],
-    left: &mut [StepsLeft],
+    left: &mut Remaining,
     first: usize,
     forward: bool,
 ) -> Result<Vec<IntPoint<I>>, Fault>
     requires walkable { IsWalkable I.value links.now (map (λ n. n.items) nodes.now) }
     requires inside { first < length links.now }
-    requires beside { length left.old ≡ length links.now }
-    requires left { is_left forward (slice_index_or left.old first none_left) ≡ true }
-    ensures beside { length left.new ≡ length links.now }
-    ensures stay { StayPassed left.old left.new }
-    ensures used { is_left forward (slice_index_or left.new first none_left) ≡ false }
-    ensures passes { IfOk result (λ points. IsPermutation (steps_left (link_edges I.value links.now) left.old)
-        (path_steps (points_of I.value points.items) ++ steps_left (link_edges I.value links.now) left.new)) }
+    requires remaining { AreRemaining (link_edges I.value links.now) (map (λ n. n.items) nodes.now) left.old.steps.items left.old.begins.items }
+    requires left { is_left forward (slice_index_or left.old.steps.items first none_left) ≡ true }
+    ensures remaining { AreRemaining (link_edges I.value links.now) (map (λ n. n.items) nodes.now) left.new.steps.items left.new.begins.items }
+    ensures stay { StayPassed left.old.steps.items left.new.steps.items }
+    ensures used { is_left forward (slice_index_or left.new.steps.items first none_left) ≡ false }
+    ensures passes { IfOk result (λ points. IsPermutation (steps_left (link_edges I.value links.now) left.old.steps.items)
+        (path_steps (points_of I.value points.items) ++ steps_left (link_edges I.value links.now) left.new.steps.items)) }
     ensures built { IfOk result (λ points. (d : Edge) → IsBuilt forward (slice_index_or (link_edges I.value links.now) first d)
-        (points_of I.value points.items) (steps_left (link_edges I.value links.now) left.new)) }
+        (points_of I.value points.items) (steps_left (link_edges I.value links.now) left.new.steps.items)) }
     ensures memory { IsOkUnless result Fault.Memory }
 {
     let link = &links[first];
-    left[first].pass(forward);
+    left.pass(first, forward);
     let mut points = Vec::new(alloc);
     points.push(link.a.point)?;
     points.push(link.b.point)?;
@@ -174,22 +192,22 @@ fn turn_unless<I>(forward: bool, points: &mut Vec<IntPoint<I>>)
 fn go_on<I: OverlayInt>(
     links: &[OverlayLink<I, ()>],
     nodes: &[Vec<usize>],
-    left: &mut [StepsLeft],
+    left: &mut Remaining,
     from: IdPoint<I>,
     forward: bool,
     points: &mut Vec<IntPoint<I>>,
 ) -> Result<(), Fault>
     requires walkable { IsWalkable I.value links.now (map (λ n. n.items) nodes.now) }
     requires numbered { IsNumbered I.value (ends_of (link_edges I.value links.now)) from }
-    requires beside { length left.old ≡ length links.now }
+    requires remaining { AreRemaining (link_edges I.value links.now) (map (λ n. n.items) nodes.now) left.old.steps.items left.old.begins.items }
     requires last { last_of (points_of I.value points.old.items) ≡ Some (point_of I.value from.point) }
-    ensures beside { length left.new ≡ length links.now }
-    ensures stay { StayPassed left.old left.new }
+    ensures remaining { AreRemaining (link_edges I.value links.now) (map (λ n. n.items) nodes.now) left.new.steps.items left.new.begins.items }
+    ensures stay { StayPassed left.old.steps.items left.new.steps.items }
     ensures begins { OnOk result (BeginsWith (points_of I.value points.old.items) (points_of I.value points.new.items)) }
     ensures passes { OnOk result (IsPermutation
-        (walk_steps forward (points_of I.value points.old.items) ++ steps_left (link_edges I.value links.now) left.old)
-        (walk_steps forward (points_of I.value points.new.items) ++ steps_left (link_edges I.value links.now) left.new)) }
-    ensures ended { OnOk result (HasEnded forward (points_of I.value points.new.items) (steps_left (link_edges I.value links.now) left.new)) }
+        (walk_steps forward (points_of I.value points.old.items) ++ steps_left (link_edges I.value links.now) left.old.steps.items)
+        (walk_steps forward (points_of I.value points.new.items) ++ steps_left (link_edges I.value links.now) left.new.steps.items)) }
+    ensures ended { OnOk result (HasEnded forward (points_of I.value points.new.items) (steps_left (link_edges I.value links.now) left.new.steps.items)) }
     ensures memory { IsOkUnless result Fault.Memory }
 {
     let mut at = from;
@@ -204,53 +222,86 @@ fn go_on<I: OverlayInt>(
 fn take_step<I: OverlayInt>(
     links: &[OverlayLink<I, ()>],
     nodes: &[Vec<usize>],
-    left: &mut [StepsLeft],
+    left: &mut Remaining,
     at: IdPoint<I>,
     forward: bool,
 ) -> Option<IdPoint<I>>
     requires walkable { IsWalkable I.value links.now (map (λ n. n.items) nodes.now) }
     requires numbered { IsNumbered I.value (ends_of (link_edges I.value links.now)) at }
-    requires beside { length left.old ≡ length links.now }
-    ensures beside { length left.new ≡ length links.now }
-    ensures stay { StayPassed left.old left.new }
+    requires remaining { AreRemaining (link_edges I.value links.now) (map (λ n. n.items) nodes.now) left.old.steps.items left.old.begins.items }
+    ensures remaining { AreRemaining (link_edges I.value links.now) (map (λ n. n.items) nodes.now) left.new.steps.items left.new.begins.items }
+    ensures stay { StayPassed left.old.steps.items left.new.steps.items }
     ensures numbered { IfSome result (IsNumbered I.value (ends_of (link_edges I.value links.now))) }
-    ensures passes { IfSome result (λ next. IsPermutation (steps_left (link_edges I.value links.now) left.old)
+    ensures passes { IfSome result (λ next. IsPermutation (steps_left (link_edges I.value links.now) left.old.steps.items)
         (step_along forward (record { a = point_of I.value at.point; b = point_of I.value next.point })
-        ∷ steps_left (link_edges I.value links.now) left.new)) }
-    ensures unchanged { IfNone result (left.new ≡ left.old) }
-    ensures none { IfNone result (All (λ s. point_of I.value at.point ≢ (step_along forward s).a) (steps_left (link_edges I.value links.now) left.new)) }
+        ∷ steps_left (link_edges I.value links.now) left.new.steps.items)) }
+    ensures unchanged { IfNone result (left.new.steps.items ≡ left.old.steps.items) }
+    ensures none { IfNone result (All (λ s. point_of I.value at.point ≢ (step_along forward s).a)
+        (steps_left (link_edges I.value links.now) left.new.steps.items)) }
 {
-    let place = find_step(links, &nodes[at.id], left, at.point, forward)?;
+    let place = find_place(links, nodes, left, at, forward)?;
     let link = &links[place];
     let starts = is_at(link.a.point, at.point);
-    left[place].pass(is_same(starts, forward));
+    left.pass(place, is_same(starts, forward));
     Some(if starts { link.b } else { link.a })
 }
 
-// The first of these places of links at a point along which a step is left that leaves the point, or leads to it on the way backward.
+// The place of the first link at a node along which a step is left that leaves the node, or leads to it on the way backward. There the next
+// search begins.
+fn find_place<I: OverlayInt>(
+    links: &[OverlayLink<I, ()>],
+    nodes: &[Vec<usize>],
+    left: &mut Remaining,
+    at: IdPoint<I>,
+    forward: bool,
+) -> Option<usize>
+    requires walkable { IsWalkable I.value links.now (map (λ n. n.items) nodes.now) }
+    requires numbered { IsNumbered I.value (ends_of (link_edges I.value links.now)) at }
+    requires remaining { AreRemaining (link_edges I.value links.now) (map (λ n. n.items) nodes.now) left.old.steps.items left.old.begins.items }
+    ensures remaining { AreRemaining (link_edges I.value links.now) (map (λ n. n.items) nodes.now) left.new.steps.items left.new.begins.items }
+    ensures unchanged { left.new.steps.items ≡ left.old.steps.items }
+    ensures inside { IfSome result (λ place. place < length links.now) }
+    ensures some { IfSome result (λ place. Contains (slice_index_or (map (λ n. n.items) nodes.now) at.id []) place ×
+        (is_left_from forward (point_of I.value at.point) (link_edges I.value links.now) left.old.steps.items place ≡ true)) }
+    ensures none { IfNone result (ArePassedAlong forward (point_of I.value at.point) (link_edges I.value links.now) left.old.steps.items
+        (slice_index_or (map (λ n. n.items) nodes.now) at.id [])) }
+{
+    let places = &nodes[at.id];
+    let begin = left.begins[at.id].of(forward);
+    let found = find_step(links, places, &left.steps, at.point, forward, begin);
+    left.begins[at.id].set(forward, found);
+    if found < places.len() {
+        Some(places[found])
+    } else {
+        None
+    }
+}
+
+// Among these places of links at a point, the first along which a step is left that leaves the point, or leads to it on the way backward, or
+// else the number of places. Before the place at which the search begins none is left.
 fn find_step<I: OverlayInt>(
     links: &[OverlayLink<I, ()>],
     places: &[usize],
     left: &[StepsLeft],
     v: IntPoint<I>,
     forward: bool,
-) -> Option<usize>
+    begin: usize,
+) -> usize
     requires inside { All (λ place. place < length links.now) places.now }
     requires beside { length left.now ≡ length links.now }
-    ensures inside { IfSome result (λ place. place < length links.now) }
-    ensures some { IfSome result (λ place. Contains places.now place ×
-        (is_left_from forward (point_of I.value v) (link_edges I.value links.now) left.now place ≡ true)) }
-    ensures none { IfNone result (All (λ place.
-        is_left_from forward (point_of I.value v) (link_edges I.value links.now) left.now place ≡ false) places.now) }
+    requires passed { ArePassedAlong forward (point_of I.value v) (link_edges I.value links.now) left.now (take begin places.now) }
+    ensures passed { ArePassedAlong forward (point_of I.value v) (link_edges I.value links.now) left.now (take result places.now) }
+    ensures some { result < length places.now →
+        is_left_from forward (point_of I.value v) (link_edges I.value links.now) left.now (slice_index_or places.now result 0) ≡ true }
 {
-    for i in 0..places.len() {
+    for i in begin..places.len() {
         let place = places[i];
         let starts = is_at(links[place].a.point, v);
         if left[place].is_left(is_same(starts, forward)) {
-            return Some(place);
+            return i;
         }
     }
-    None
+    places.len()
 }
 
 // Whether the point is this one.
@@ -296,6 +347,46 @@ impl StepsLeft {
             self.from_a = false;
         } else {
             self.from_b = false;
+        }
+    }
+}
+
+impl Remaining {
+    // The step along a link from its lesser end is passed, or the other.
+    fn pass(&mut self, place: usize, from_a: bool)
+        requires inside { place < length self.old.steps.items }
+        ensures steps { self.new.steps.items ≡ slice_set self.old.steps.items place (without from_a (slice_index_or self.old.steps.items place none_left)) }
+        ensures stay { StayPassed self.old.steps.items self.new.steps.items }
+        ensures used { is_left from_a (slice_index_or self.new.steps.items place none_left) ≡ false }
+        ensures remaining { (edges : List Edge) (lists : List (List ℕ)) → AreRemaining edges lists self.old.steps.items self.old.begins.items →
+            AreRemaining edges lists self.new.steps.items self.new.begins.items }
+    {
+        self.steps[place].pass(from_a);
+    }
+}
+
+impl SearchBegins {
+    // Nothing is passed yet.
+    const FIRST: SearchBegins = SearchBegins {
+        forward: 0,
+        backward: 0,
+    };
+
+    // Where the search in a direction begins.
+    fn of(self, forward: bool) -> usize
+        ensures { result ≡ begin_of forward self }
+    {
+        if forward { self.forward } else { self.backward }
+    }
+
+    // The next search in a direction begins there.
+    fn set(&mut self, forward: bool, begin: usize)
+        ensures { self.new ≡ begun forward begin self.old }
+    {
+        if forward {
+            self.forward = begin;
+        } else {
+            self.backward = begin;
         }
     }
 }

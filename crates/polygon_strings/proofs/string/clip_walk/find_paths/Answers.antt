@@ -10,5 +10,5 @@ pub returns-clause-clip : goal.returns-clause-clip
 returns-clause-clip g c =
     let value = g.I.OverlayInt.value in
     let links = c.args.links.now in
-    let steps = ap (steps_left (link_edges value links)) (c.deref_mut.ensures.value ∙ c.in_ok-left.ensures.is) ∙ steps_at_first value links in
+    let steps = ap (steps_left (link_edges value links)) c.in_ok-steps.ensures.is ∙ steps_at_first value links in
     if_answered c.paths_of_steps.result (λ paths is. subst (λ s. IsClip s (contours_of value paths.items)) steps is) c.paths_of_steps.ensures.clip

@@ -1,9 +1,9 @@
-use Rattle.std.proofs.Common.{◌≡◌, ◌<◌, false, get_or, length, All, sym, ap, ◌∙◌, subst}
+use Rattle.std.proofs.Common.{◌≡◌, ◌<◌, false, get_or, length, sym, ap, ◌∙◌, subst, arith}
 use Rattle.std.proofs.lemmas.List.{take_all}
 use Rattle.std.proofs.lemmas.List.Elements.{All-more}
 use Rattle.plane_base.specs.Views.{point_of}
 use Rattle.contour_walk.specs.Walks.{same_point, is_same}
-use Rattle.polygon_strings.specs.ClipWalks.{link_edges, is_left, is_left_from, none_left}
+use Rattle.polygon_strings.specs.ClipWalks.{link_edges, is_left, is_left_from, none_left, ArePassedAlong}
 use Rattle.polygon_strings.proofs.Clips.Links.{edge_at}
 use Rattle.polygon_strings.proofs.string.clip_walk.find_step.Goals as goal
 
@@ -27,8 +27,9 @@ loop-i-preserved g c =
     ∙ c.if-is_left.false in
     All-more (λ i. is_left_from c.args.forward v edges left i ≡ false) places c.loop-i.i 0 c.loop-i-test.true c.loop-i.invariant here
 
-pub returns-clause-none : goal.returns-clause-none
-returns-clause-none g c =
+pub returns-clause-passed : goal.returns-clause-passed
+returns-clause-passed g c =
     let value = g.I.OverlayInt.value in
-    subst (All (λ i. is_left_from c.args.forward (point_of value c.args.v) (link_edges value c.args.links.now) c.args.left.now i ≡ false))
-    (take_all c.loop-i.i c.args.places.now c.loop-i-test.false) c.loop-i.invariant
+    let places = c.args.places.now in
+    subst (ArePassedAlong c.args.forward (point_of value c.args.v) (link_edges value c.args.links.now) c.args.left.now)
+    (take_all c.loop-i.i places c.loop-i-test.false ∙ sym (take_all (length places) places (omega arith))) c.loop-i.invariant

@@ -14,12 +14,12 @@ pub loop-next-init : goal.loop-next-init
 loop-next-init g c =
     let points = points_of g.I.OverlayInt.value c.args.points.now.items in
     record {
-      beside = c.requires.beside;
+      remaining = c.requires.remaining;
       numbered = c.requires.numbered;
       last = c.requires.last;
       begins = ([], sym (append-nil points));
       stay = λ from_a i h. h;
-      passes = IsPermutation-refl (walk_steps c.args.forward points ++ steps_left (link_edges g.I.OverlayInt.value c.args.links.now) c.args.left.now);
+      passes = IsPermutation-refl (walk_steps c.args.forward points ++ steps_left (link_edges g.I.OverlayInt.value c.args.links.now) c.args.left.now.steps.items);
     }
 
 pub loop-next-smaller : goal.loop-next-smaller
@@ -27,9 +27,9 @@ loop-next-smaller g c =
     let value = g.I.OverlayInt.value in
     let edges = link_edges value c.args.links.now in
     let step : Edge = step_along c.args.forward (record { a = point_of value c.loop-next.at.point; b = point_of value c.in-Some.next.point }) in
-    let less : length (step ∷ steps_left edges c.take_step.new.left) ≡ length (steps_left edges c.loop-next.left) =
-    length_permutation (steps_left edges c.loop-next.left) (step ∷ steps_left edges c.take_step.new.left) c.in-Some.ensures.passes in
-    let h : length (steps_left edges c.take_step.new.left) < length (steps_left edges c.loop-next.left) = omega (arith, less) in
+    let less : length (step ∷ steps_left edges c.take_step.new.left.steps.items) ≡ length (steps_left edges c.loop-next.left.steps.items) =
+    length_permutation (steps_left edges c.loop-next.left.steps.items) (step ∷ steps_left edges c.take_step.new.left.steps.items) c.in-Some.ensures.passes in
+    let h : length (steps_left edges c.take_step.new.left.steps.items) < length (steps_left edges c.loop-next.left.steps.items) = omega (arith, less) in
     h
 
 pub loop-next-preserved : goal.loop-next-preserved
@@ -42,15 +42,15 @@ loop-next-preserved g c =
     let far = point_of value c.in-Some.next.point in
     let is : points_of value c.push.new.self.items ≡ old ++ far ∷ [] =
     ap (points_of value) c.in_ok-push.ensures.items ∙ map_push (point_of value) c.loop-next.points.items c.in-Some.next.point in
-    let all = walk_steps c.args.forward (points_of value c.args.points.now.items) ++ steps_left edges c.args.left.now in
+    let all = walk_steps c.args.forward (points_of value c.args.points.now.items) ++ steps_left edges c.args.left.now.steps.items in
     record {
-      beside = c.take_step.ensures.beside;
+      remaining = c.take_step.ensures.remaining;
       numbered = c.in-Some.ensures.numbered;
       last = ap last_of is ∙ last_pushed old far;
       begins = begun_more (points_of value c.args.points.now.items) old (points_of value c.push.new.self.items) far before.begins is;
-      stay = stay_through c.args.left.now c.loop-next.left c.take_step.new.left before.stay c.take_step.ensures.stay;
+      stay = stay_through c.args.left.now.steps.items c.loop-next.left.steps.items c.take_step.new.left.steps.items before.stay c.take_step.ensures.stay;
       passes =
-          subst (λ l. IsPermutation all (walk_steps c.args.forward l ++ steps_left edges c.take_step.new.left)) (sym is)
-          (one_more_passed c.args.forward old v far all (steps_left edges c.loop-next.left) (steps_left edges c.take_step.new.left) before.last before.passes
+          subst (λ l. IsPermutation all (walk_steps c.args.forward l ++ steps_left edges c.take_step.new.left.steps.items)) (sym is)
+          (one_more_passed c.args.forward old v far all (steps_left edges c.loop-next.left.steps.items) (steps_left edges c.take_step.new.left.steps.items) before.last before.passes
           c.in-Some.ensures.passes);
     }

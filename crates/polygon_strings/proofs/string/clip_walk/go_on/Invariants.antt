@@ -1,10 +1,10 @@
-use Rattle.std.proofs.Common.{◌≡◌, ◌++◌, length, Some}
+use Rattle.std.proofs.Common.{◌≡◌, ◌++◌, length, map, Some}
 use Rattle.std.specs.Prelude.{IsPermutation}
 use Rattle.plane_base.specs.Views.{point_of, points_of}
 use Rattle.segment_arrangement.specs.Graphs.{ends_of}
 use Rattle.segment_arrangement.specs.LinkViews.{IsNumbered}
 use Rattle.polygon_strings.specs.Clips.{last_of}
-use Rattle.polygon_strings.specs.ClipWalks.{link_edges, steps_left, StayPassed, walk_steps, BeginsWith}
+use Rattle.polygon_strings.specs.ClipWalks.{link_edges, steps_left, StayPassed, AreRemaining, walk_steps, BeginsWith}
 use Rattle.polygon_strings.proofs.string.clip_walk.go_on.Given as goal
 
 -- The path has come to this node, and has passed some of the steps that were left, each once.
@@ -13,16 +13,16 @@ invariant-loop-next g l =
     let value = g.I.OverlayInt.value in
     let edges = link_edges value l.links in
     record {
-      beside : length l.left ≡ length l.links;
+      remaining : AreRemaining edges (map (λ n. n.items) l.nodes) l.left.steps.items l.left.begins.items;
       numbered : IsNumbered value (ends_of edges) l.at;
       last : last_of (points_of value l.points.items) ≡ Some (point_of value l.at.point);
       begins : BeginsWith (points_of value l.initial.points.items) (points_of value l.points.items);
-      stay : StayPassed l.initial.left l.left;
+      stay : StayPassed l.initial.left.steps.items l.left.steps.items;
       passes :
-          IsPermutation (walk_steps l.forward (points_of value l.initial.points.items) ++ steps_left edges l.initial.left)
-          (walk_steps l.forward (points_of value l.points.items) ++ steps_left edges l.left);
+          IsPermutation (walk_steps l.forward (points_of value l.initial.points.items) ++ steps_left edges l.initial.left.steps.items)
+          (walk_steps l.forward (points_of value l.points.items) ++ steps_left edges l.left.steps.items);
     }
 
 -- Each step that is passed leaves one less.
 abbrev pub decreases-loop-next : goal.decreases-loop-next
-decreases-loop-next g l = length (steps_left (link_edges g.I.OverlayInt.value l.links) l.left)
+decreases-loop-next g l = length (steps_left (link_edges g.I.OverlayInt.value l.links) l.left.steps.items)

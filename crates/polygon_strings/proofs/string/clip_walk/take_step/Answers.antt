@@ -1,4 +1,4 @@
-use Rattle.std.proofs.Common.{◌≡◌, ◌<◌, ◌⊎◌, true, false, cond, get_or, set, length, All, sym, ap, ◌∙◌, subst, arith}
+use Rattle.std.proofs.Common.{◌≡◌, ◌≢◌, ◌<◌, ◌⊎◌, true, cond, [], get_or, length, map, All, sym, ap, ◌∙◌, subst, arith}
 use Rattle.std.specs.Prelude.{IsPermutation, ◌∷◌}
 use Rattle.std.proofs.lemmas.List.{length-map}
 use Rattle.std.proofs.lemmas.List.Elements.{All-contains}
@@ -7,41 +7,35 @@ use Rattle.plane_base.specs.Views.{point_of}
 use Rattle.segment_arrangement.specs.Graphs.{ends_of}
 use Rattle.segment_arrangement.specs.LinkViews.{link_edge_of, IsNumbered}
 use Rattle.contour_walk.specs.Walks.{same_point, is_same}
-use Rattle.polygon_strings.specs.ClipWalks.{link_edges, step_along, is_left, is_left_from, none_left, steps_left, StayPassed}
-use Rattle.polygon_strings.proofs.Clips.Left.{passed_once, stays_passed}
+use Rattle.polygon_strings.specs.ClipWalks.{link_edges, step_along, is_left, is_left_from, none_left, steps_left, StayPassed, ArePassedAlong}
+use Rattle.polygon_strings.proofs.Clips.Left.{passed_once}
 use Rattle.polygon_strings.proofs.Clips.Nodes.{ends_at, step_from, none_leaves}
-use Rattle.polygon_strings.proofs.Clips.Links.{edge_at, places_inside, node_places}
+use Rattle.polygon_strings.proofs.Clips.Links.{edge_at, node_list}
 use Rattle.polygon_strings.proofs.string.clip_walk.take_step.Goals.{then-starts, else-starts}
 use Rattle.polygon_strings.proofs.string.clip_walk.take_step.Goals as goal
-
-pub find_step-requires-clause-inside : goal.find_step-requires-clause-inside
-find_step-requires-clause-inside g c =
-    let value = g.I.OverlayInt.value in
-    let edges = link_edges value c.args.links.now in
-    let v = point_of value c.args.at.point in
-    let node = c.index-nodes-at.result in
-    let places = c.deref.ensures.value
-    ∙ node_places (λ n. n.items) edges c.args.nodes.now c.requires.walkable.joined c.args.at.id c.requires.numbered.0 v node (c.requires.numbered.1 v) c.index-nodes-at.is in
-    subst (λ n. All (λ p. p < n) c.deref.result.now) (length-map c.args.links.now (link_edge_of value))
-    (subst (All (λ p. p < length edges)) (sym places) (places_inside edges v))
 
 pub returns-in_err-place-clause-none : goal.returns-in_err-place-clause-none
 returns-in_err-place-clause-none g c =
     let value = g.I.OverlayInt.value in
     let edges = link_edges value c.args.links.now in
     let v = point_of value c.args.at.point in
-    let node = c.index-nodes-at.result in
-    let places = c.deref.ensures.value
-    ∙ node_places (λ n. n.items) edges c.args.nodes.now c.requires.walkable.joined c.args.at.id c.requires.numbered.0 v node (c.requires.numbered.1 v) c.index-nodes-at.is in
+    let places = node_list edges (map (λ n. n.items) c.args.nodes.now) c.requires.walkable.joined c.args.at.id c.requires.numbered.0 v (c.requires.numbered.1 v) in
     rw c.from_residual.ensures
-    (none_leaves c.args.forward v edges c.args.left.now c.requires.walkable.directed
-    (subst (All (λ i. is_left_from c.args.forward v edges c.args.left.now i ≡ false)) places c.in_err-place.ensures.none))
+    (subst (λ l. All (λ s. v ≢ (step_along c.args.forward s).a) (steps_left edges l)) (sym c.find_place.ensures.unchanged)
+    (none_leaves c.args.forward v edges c.args.left.now.steps.items c.requires.walkable.directed
+    (subst (ArePassedAlong c.args.forward v edges c.args.left.now.steps.items) places c.in_err-place.ensures.none)))
+
+pub pass-requires : goal.pass-requires
+pass-requires g c =
+    let same = length-map c.args.links.now (link_edge_of g.I.OverlayInt.value) in
+    record { inside = omega (arith, c.in_ok-place.ensures.inside, c.find_place.ensures.remaining.beside, same) }
 
 pub returns-clause-stay : goal.returns-clause-stay
-returns-clause-stay g c =
-    let inside : c.in_ok-place.place < length c.args.left.now = omega (arith, c.in_ok-place.ensures.inside, c.requires.beside) in
-    subst (λ l. StayPassed c.args.left.now (set c.args.left.now c.in_ok-place.place l)) (sym c.pass.ensures)
-    (stays_passed c.is_same.result c.args.left.now c.in_ok-place.place inside)
+returns-clause-stay g c = subst (λ l. StayPassed l c.pass.new.self.steps.items) c.find_place.ensures.unchanged c.pass.ensures.stay
+
+pub returns-clause-remaining : goal.returns-clause-remaining
+returns-clause-remaining g c =
+    c.pass.ensures.remaining (link_edges g.I.OverlayInt.value c.args.links.now) (map (λ n. n.items) c.args.nodes.now) c.find_place.ensures.remaining
 
 pub returns-clause-numbered : goal.returns-clause-numbered
 returns-clause-numbered g c =
@@ -60,29 +54,29 @@ returns-clause-passes g c =
     let value = g.I.OverlayInt.value in
     let edges = link_edges value c.args.links.now in
     let v = point_of value c.args.at.point in
-    let node = c.index-nodes-at.result in
-    let left = c.args.left.now in
+    let left = c.find_place.new.left.steps.items in
     let place = c.in_ok-place.place in
     let link = c.index-links-place.result in
     let s = link_edge_of value link in
     let from_a = c.is_same.result in
     let d : Edge = record { a = v; b = v } in
-    let places = c.deref.ensures.value
-    ∙ node_places (λ n. n.items) edges c.args.nodes.now c.requires.walkable.joined c.args.at.id c.requires.numbered.0 v node (c.requires.numbered.1 v) c.index-nodes-at.is in
+    let places = node_list edges (map (λ n. n.items) c.args.nodes.now) c.requires.walkable.joined c.args.at.id c.requires.numbered.0 v (c.requires.numbered.1 v) in
     let edge = edge_at value c.args.links.now place link d c.in_ok-place.ensures.inside c.index-links-place.is in
-    let long : length left ≡ length edges = c.requires.beside ∙ sym (length-map c.args.links.now (link_edge_of value)) in
+    let long : length left ≡ length edges = c.find_place.ensures.remaining.beside in
     let inside : place < length edges = omega (arith, c.in_ok-place.ensures.inside, length-map c.args.links.now (link_edge_of value)) in
     let found = c.in_ok-place.ensures.some in
+    let is_found : is_left_from c.args.forward v edges left place ≡ true =
+    subst (λ l. is_left_from c.args.forward v edges l place ≡ true) (sym c.find_place.ensures.unchanged) found.1 in
     let end : (s.a ≡ v) ⊎ (s.b ≡ v) =
     subst (λ t. (t.a ≡ v) ⊎ (t.b ≡ v)) edge
-    (All-contains (λ i. ((get_or edges i d).a ≡ v) ⊎ ((get_or edges i d).b ≡ v)) c.deref.result.now place
+    (All-contains (λ i. ((get_or edges i d).a ≡ v) ⊎ ((get_or edges i d).b ≡ v)) (get_or (map (λ n. n.items) c.args.nodes.now) c.args.at.id []) place
     (subst (All (λ i. ((get_or edges i d).a ≡ v) ⊎ ((get_or edges i d).b ≡ v))) (sym places) (ends_at edges v d)) found.0) in
     let way : from_a ≡ is_same (same_point s.a v) c.args.forward =
     c.is_same.ensures ∙ ap (λ b. is_same b c.args.forward) c.is_at-starts.ensures in
     let is : is_left from_a (get_or left place none_left) ≡ true =
     ap (λ b. is_left b (get_or left place none_left)) way
     ∙ sym (ap (λ t. is_left (is_same (same_point t.a v) c.args.forward) (get_or left place none_left)) edge)
-    ∙ found.1 in
+    ∙ is_found in
     let far : point_of value c.if-starts.result.point ≡ cond (same_point s.a v) s.b s.a =
     elim c.if-starts.branch [
       | then-starts w ↦ ap (λ p. point_of value p.point) w.result-is ∙ sym (ap (λ b. cond b s.b s.a) (sym c.is_at-starts.ensures ∙ w.if-starts.true))
@@ -90,6 +84,8 @@ returns-clause-passes g c =
     ] in
     let step : step_along from_a (get_or edges place d) ≡ step_along c.args.forward (record { a = v; b = point_of value c.if-starts.result.point }) =
     ap (step_along from_a) edge ∙ ap (λ b. step_along b s) way ∙ step_from c.args.forward s v (point_of value c.if-starts.result.point) end far in
-    subst (λ t. IsPermutation (steps_left edges left) (t ∷ steps_left edges (set left place c.pass.new.self))) step
-    (subst (λ l. IsPermutation (steps_left edges left) (step_along from_a (get_or edges place d) ∷ steps_left edges (set left place l))) (sym c.pass.ensures)
-    (passed_once from_a edges left place d long inside is))
+    subst (λ l. IsPermutation (steps_left edges l) (step_along c.args.forward (record { a = v; b = point_of value c.if-starts.result.point })
+    ∷ steps_left edges c.pass.new.self.steps.items)) c.find_place.ensures.unchanged
+    (subst (λ t. IsPermutation (steps_left edges left) (t ∷ steps_left edges c.pass.new.self.steps.items)) step
+    (subst (λ l. IsPermutation (steps_left edges left) (step_along from_a (get_or edges place d) ∷ steps_left edges l)) (sym c.pass.ensures.steps)
+    (passed_once from_a edges left place d long inside is)))
