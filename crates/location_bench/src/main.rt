@@ -1,7 +1,8 @@
-//! Reads contours and points, and tells which points lie inside of the contours, as often as it is asked.
+//! Reads shapes and points, and tells which points lie inside of the shapes, or whether two shapes meet, as often as it is asked.
 //!
-//! Each line is `shape`, which begins a shape, a contour of the last shape, `contour N x y ..` with its N points, a point, `point x y`, or `ask`: then
-//! the points so far are located in all shapes so far, and how many of them lie inside is written.
+//! Each line is `shape`, which begins a shape, a contour of the last shape, `contour N x y ..` with its N points, a point, `point x y`, or a question:
+//! `ask` locates the points so far in all shapes so far, and writes how many of them lie inside; `intersects` tells whether two shapes, which are
+//! all so far, have a point in common, and `in_range` whether they are two in range, which it sees before.
 #![tactic(auto)]
 
 ghost use Rattle.std.specs.Prelude.{IsTrue, All, negsuc, pos};
@@ -12,8 +13,9 @@ ghost use Rattle.contour_walk.specs.ShapeViews.{shapes_of};
 use plane_base::fault::Fault;
 use plane_base::path::{IntPath, IntShape, IntShapes};
 use plane_base::point::IntPoint;
-use plane_base::range::{all_contours_in_range, all_in_range};
+use plane_base::range::{all_contours_in_range, all_in_range, source_in_range};
 use polygon_overlay::point_location::IntPointContainment;
+use polygon_overlay::relate::IntRelate;
 use row_words::Words;
 use std::alloc::Global;
 use std::io::{self, BufRead, BufReader};
@@ -38,6 +40,12 @@ fn main(rt: HostRuntime) -> io::Result<()> {
                 }
             }
             "point" => points.push(point_from(&mut words))?,
+            "in_range" => println!(rt; "in range {}", are_two_in_range(&shapes.shapes))?,
+            "intersects" => match do_intersect(alloc, &shapes.shapes) {
+                Ok(Some(meets)) => println!(rt; "intersects {meets}")?,
+                Ok(None) => println!(rt; "not two shapes in range")?,
+                Err(fault) => println!(rt; "{fault}")?,
+            },
             _ => match count_inside(alloc, &shapes, &points) {
                 Ok(Some(count)) => println!(rt; "{count} of {} points", points.len())?,
                 Ok(None) => println!(rt; "out of range")?,
@@ -52,6 +60,25 @@ fn point_from(words: &mut Words<'_>) -> IntPoint<i32> {
     let x = words.coordinate();
     let y = words.coordinate();
     IntPoint::new(x, y)
+}
+
+// Whether these are two shapes in range.
+fn are_two_in_range(shapes: &[IntShape<i32>]) -> bool {
+    match shapes {
+        [subject, clip] => source_in_range(subject) && source_in_range(clip),
+        _ => false,
+    }
+}
+
+// Whether two shapes have a point in common, or none where they are not two or one is out of range.
+fn do_intersect(alloc: Global, shapes: &[IntShape<i32>]) -> Result<Option<bool>, Fault> {
+    match shapes {
+        [subject, clip] if source_in_range(subject) && source_in_range(clip) => {
+            let meets = subject.intersects(alloc, clip)?;
+            Ok(Some(meets))
+        }
+        _ => Ok(None),
+    }
 }
 
 // How many of the points lie inside, or none where one is out of range.
