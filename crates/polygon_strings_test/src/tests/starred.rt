@@ -1,4 +1,4 @@
-//! Stars: squares sliced by many lines that meet in their middle, as a slow program slices them.
+//! Stars: squares sliced by many lines that meet in their middle, as a slow program slices them, and such lines clipped.
 
 use super::drawn::{are_loops, loops_held};
 use contour_walk::contour_direction::ContourDirection;
@@ -6,6 +6,7 @@ use plane_base::fault::Fault;
 use plane_base::point::IntPoint;
 use plane_base::range::all_in_range;
 use polygon_strings::string::overlay::StringOverlay;
+use segment_arrangement::clip_rule::ClipRule;
 use segment_arrangement::fill_rule::FillRule;
 use segment_split::solver::{Precision, Strategy};
 use shape_rows::slices::{Slice, pieces_held};
@@ -109,4 +110,44 @@ fn slices_stars(rt: HostRuntime) {
 fn slices_lines_that_go_on(rt: HostRuntime) {
     assert!(rt; pieces_both_ways(rt.alloc(), 16, true) == Ok(Some(24)));
     assert!(rt; pieces_both_ways(rt.alloc(), 20, true) == Ok(Some(30)));
+}
+
+// Adds so many lines between the rim and the middle: to the middle, and each second one from there.
+fn add_rays(overlay: &mut StringOverlay<i32>, count: u8) -> Result<(), Fault> {
+    for number in 0..count {
+        let rim = on_rim(number);
+        if number % 2 == 0 {
+            add_line(overlay, rim, MIDDLE)?;
+        } else {
+            add_line(overlay, MIDDLE, rim)?;
+        }
+    }
+    Ok(())
+}
+
+// The numbers of paths and of their points where such lines are clipped.
+fn clipped_rays(alloc: Global, count: u8) -> Result<(usize, usize), Fault> {
+    let mut overlay = StringOverlay::new(alloc, 0)?;
+    if all_in_range(&SQUARE) {
+        overlay.add_shape_contour(&SQUARE)?;
+    }
+    add_rays(&mut overlay, count)?;
+    let inside = ClipRule {
+        invert: false,
+        boundary_included: false,
+    };
+    let paths = overlay.clip_string_lines(FillRule::NonZero, inside)?;
+    let mut points = 0_usize;
+    for path in &paths {
+        points = points.wrapping_add(path.points.len());
+    }
+    Ok((paths.len(), points))
+}
+
+// A path goes on where it is begun left of the middle, or below it. So do none of 16 rays, one of 17 and twenty of 40.
+#[test]
+fn clips_stars(rt: HostRuntime) {
+    assert!(rt; clipped_rays(rt.alloc(), 16) == Ok((16, 32)));
+    assert!(rt; clipped_rays(rt.alloc(), 17) == Ok((16, 33)));
+    assert!(rt; clipped_rays(rt.alloc(), 40) == Ok((20, 60)));
 }
