@@ -62,7 +62,7 @@ pub(crate) fn redraw_by_lines<C: WindingCount, I: OverlayInt, D: OverlayEdgeData
 }
 
 // Whether the strategy leaves the choice, and there are segments enough.
-fn may_take_lines(solver: Solver, many: usize) -> bool
+pub(crate) fn may_take_lines(solver: Solver, many: usize) -> bool
     ensures { IsTrue result → solver.strategy ≡ strategy.Auto }
 {
     match solver.strategy {
@@ -72,7 +72,7 @@ fn may_take_lines(solver: Solver, many: usize) -> bool
 }
 
 // The datum of the first segment, if there is one.
-fn first_datum<C, I: OverlayInt, D: Copy>(segments: &[Segment<C, I, D>]) -> Option<D> {
+pub(crate) fn first_datum<C, I: OverlayInt, D: Copy>(segments: &[Segment<C, I, D>]) -> Option<D> {
     if segments.is_empty() {
         return None;
     }
@@ -96,7 +96,7 @@ fn keys_of<C: WindingCount, I: OverlayInt, D: Copy>(
     Ok(keys)
 }
 
-fn key_of<C: WindingCount, I: OverlayInt, D: Copy>(segment: Segment<C, I, D>) -> Key<I>
+pub(crate) fn key_of<C: WindingCount, I: OverlayInt, D: Copy>(segment: Segment<C, I, D>) -> Key<I>
     requires adds { C.ADDS ≡ true }
     ensures edge { edge_of I.value result.x_segment ≡ edge_of I.value segment.x_segment }
     ensures count { of_count C.of result.count ≡ segment.count }
@@ -109,7 +109,7 @@ fn key_of<C: WindingCount, I: OverlayInt, D: Copy>(segment: Segment<C, I, D>) ->
 }
 
 // Puts keys in the place of segments, all with this datum.
-fn put_all<C: WindingCount, I: OverlayInt, D: Copy>(
+pub(crate) fn put_all<C: WindingCount, I: OverlayInt, D: Copy>(
     segments: &mut Vec<Segment<C, I, D>>,
     keys: &[Key<I>],
     datum: D,

@@ -1,10 +1,9 @@
 use Rattle.std.proofs.Common.{ℕ, ◌<◌, ◌≤◌}
 use Rattle.segment_split.specs.Passes.{early_passes, edges_of}
 use Rattle.segment_split.specs.Redrawing.{spread, MarksInPass}
-use Rattle.segment_split.specs.Redraws.{listed}
+use Rattle.segment_split.specs.Redraws.{listed, IsBefore}
 use Rattle.segment_split.specs.SeenPasses.{IsPass}
 use Rattle.segment_split.specs.SegmentViews.{entries_of}
-use Rattle.segment_split.proofs.Redrawing.Passing.{IsBefore}
 use Rattle.segment_split.proofs.Redrawing.Redraws.{work_of}
 use Rattle.segment_split.proofs.split.redraw_by_passes.Given as goal
 
