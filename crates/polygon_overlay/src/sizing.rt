@@ -179,7 +179,7 @@ fn is_at_most(a: i128, b: i128) -> bool
 }
 
 // The shapes of the region that the fill rule makes of a source, held alone.
-fn region_of<I: OverlayInt, R: IntShapeResource<I>>(
+pub(crate) fn region_of<I: OverlayInt, R: IntShapeResource<I>>(
     alloc: Global,
     source: &R,
     fill_rule: FillRule,

@@ -1,5 +1,6 @@
-//! The law of sizing, the contract of a function that does nothing.
+//! Laws of sizing, each the contract of a function that does nothing.
 
+ghost use Rattle.polygon_overlay.specs.Checks.{GrownIsNear};
 ghost use Rattle.polygon_overlay.specs.SizingLaws.{SizedIsTheNeighbourhood};
 
 use crate::given_laws::held_winds_as_given;
@@ -25,3 +26,8 @@ pub fn sized_is_the_neighbourhood()
     held_winds_as_given();
     redrawn_of_level_and_upright::<ShapeCountBoolean>();
 }
+
+/// What is grown by one distance: the points that are no further from some point of the region, in x and in y.
+pub fn grown_is_near()
+    ensures { GrownIsNear }
+{}

@@ -78,7 +78,7 @@ module _ (least greatest : ℤ) where
   -- a region stays in each box of its contours
   module _ (stay : AnswersStayInTheBox) (fill : FillRule) (precision : Precision) (contours : List (List Point)) (shapes : List (List (List Point)))
       (region : IsRegionOf least greatest default_options fill precision contours shapes) where
-    region_stays : (box : Bounds) → All (All (LiesWithin box)) contours → All (All (LiesWithin box)) (all_contours shapes)
+    pub region_stays : (box : Bounds) → All (All (LiesWithin box)) contours → All (All (LiesWithin box)) (all_contours shapes)
     region_stays box within =
         subst (λ ss. All (All (LiesWithin box)) (all_contours ss)) (sym region.is.canonical)
         (stay.of_contours least greatest box false contours [] (answering_of default_options) fill Subject precision region.held region.alone.holds region.alone.is_held within

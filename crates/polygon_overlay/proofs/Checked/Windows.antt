@@ -1,10 +1,11 @@
 -- A sized region by columns and rows: a window at a point reaches over the places round its own that the window's amounts say.
 use Rattle.std.proofs.Common.{◌≡◌, ℕ, ◌<◌, ℤ, pos, neg_ℤ, ◌+ℤ◌, ◌-ℤ◌, ◌*ℤ◌, ◌≤ℤ◌, ◌<ℤ◌, refl, sym, ap, ◌∙◌, subst, arith}
 use Rattle.std.proofs.lemmas.Int.{ints}
-use Rattle.polygon_overlay.specs.Plane.{RationalPoint, IsRational}
+use Rattle.plane_base.specs.Plane.{RationalPoint, IsRational}
 use Rattle.polygon_overlay.specs.Sizing.{Amounts, LiesInRow, IsSizedAcross, exchanged, IsSized}
-use Rattle.uses.proofs.Rules.Cells.{column, row}
-use Rattle.uses.proofs.Rules.Places.{product_of_negation, times_at_most, both_ways, floor, floor_moves, floor_rises, row_of, row_moves, row_rises}
+use Rattle.polygon_overlay.proofs.Checked.Cells.{column, row}
+use Rattle.plane_base.proofs.Facts.Numbers.Products.{product_of_negation, product_monotone}
+use Rattle.polygon_overlay.proofs.Checked.Places.{both_ways, floor, floor_moves, floor_rises, row_of, row_moves, row_rises}
 
 -- The same of places: some of the window has it, or each.
 pub record SizedPlaces (left right : ℤ) (At : ℤ → Type 0) (n : ℤ) : Type 0 where
@@ -49,8 +50,8 @@ module _ (index : ℤ → ℕ → ℤ)
   lies_in_row back on p n some from to = record {
     rational = some;
     row = refl;
-    from = times_at_most (pos p.q) _ _ positive (subst (λ x. (p.x +ℤ x) ≤ℤ (p.x +ℤ (pos p.q *ℤ way))) (product_of_negation (pos p.q) back) (later p.x (times_at_most (pos p.q) (neg_ℤ back) way positive (no_less (index p.x p.q) back n from))));
-    to = times_at_most (pos p.q) _ _ positive (later p.x (times_at_most (pos p.q) way on positive (no_more (index p.x p.q) on n to)));
+    from = product_monotone (pos p.q) _ _ positive (subst (λ x. (p.x +ℤ x) ≤ℤ (p.x +ℤ (pos p.q *ℤ way))) (product_of_negation (pos p.q) back) (later p.x (product_monotone (pos p.q) (neg_ℤ back) way positive (no_less (index p.x p.q) back n from))));
+    to = product_monotone (pos p.q) _ _ positive (later p.x (product_monotone (pos p.q) way on positive (no_more (index p.x p.q) on n to)));
   }
     where
       way : ℤ

@@ -1,21 +1,24 @@
 -- Room for masks that are sized by halves of a side, and again.
-use Rattle.std.proofs.Common.{◌≡◌, Bool, true, false, cond, List, [], ◌∷◌, map, flat_map, get_or, All, ℤ, pos, negsuc, neg_ℤ, ◌+ℤ◌, ◌-ℤ◌, ◌≤ℤ◌, int_eq, int_lt, sym, subst, arith}
+use Rattle.std.proofs.Common.{◌≡◌, Bool, true, false, cond, List, [], ◌∷◌, map, get_or, All, ℤ, pos, negsuc, neg_ℤ, ◌+ℤ◌, ◌-ℤ◌, ◌≤ℤ◌, int_eq, int_lt, sym, subst, arith}
 use Rattle.std.specs.Int.{int_div_euclid}
 use Rattle.std.proofs.lemmas.Int.{ints}
-use Rattle.std.proofs.lemmas.List.Elements.{All-nil, All-cons, All-head, All-tail, All-append, All-map}
-use Rattle.polygon_overlay.specs.Answering.{answering_of}
-use Rattle.polygon_overlay.specs.BindingLaws.{all_contours}
+use Rattle.std.proofs.lemmas.List.Elements.{All-nil, All-cons}
+use Rattle.contour_walk.specs.Answering.{answering_of}
+use Rattle.contour_walk.specs.BindingLaws.{all_contours}
 use Rattle.polygon_overlay.specs.BoxLaws.{AnswersStayInTheBox}
-use Rattle.polygon_overlay.specs.Builders.{default_options, default_precision}
-use Rattle.polygon_overlay.specs.Groups.{Bounds, LiesWithin}
-use Rattle.polygon_overlay.specs.Plane.{Point, Edge}
-use Rattle.polygon_overlay.specs.Regions.{FillRule, NonZero, Positive, Subject}
+use Rattle.polygon_overlay.specs.Builders.{default_options}
+use Rattle.segment_split.specs.Groups.{Bounds, LiesWithin}
+use Rattle.plane_base.specs.Plane.{Point, Edge}
+use Rattle.plane_base.specs.Regions.{FillRule, NonZero, Positive, Subject}
 use Rattle.polygon_overlay.specs.Sizing.{Amounts, moved_across, moved_up, moved}
-use Rattle.polygon_overlay.specs.SizingCalls.{HasRoom, Fits}
+use Rattle.polygon_overlay.specs.SizingCalls.{HasRoom, Fits, IsRegionOf}
+use Rattle.segment_split.specs.declared.solver.Precision.{Precision}
 use Rattle.polygon_overlay.specs.SizingLaws.{HoldsAlone, region_of}
-use Rattle.polygon_overlay.specs.WalkLaws.{steps_to}
-use Rattle.uses.specs.Rules.{evenly, opposite, halves, FitsAgain}
-use Rattle.uses.proofs.Rules.Squares.{Parts}
+use Rattle.polygon_overlay.specs.CheckCalls.{FitsAgain}
+use Rattle.polygon_overlay.specs.Checks.{evenly, opposite, halves}
+use Rattle.polygon_overlay.proofs.Checked.Squares.{Parts}
+use Rattle.polygon_overlay.proofs.Sized.Calls.{region_stays}
+use Rattle.polygon_overlay.proofs.Sized.Kept.{moved_hold}
 
 -- ---- the halves of a side
 
@@ -153,23 +156,7 @@ module _ (least greatest : ℤ) where
           → HasRoom least greatest back on n
       one back on n a b c d e f = record { below = (omega (arith, ints), omega (arith, ints)); above = (omega (arith, ints), omega (arith, ints)) }
 
-  -- ---- moved contours stay in boxes
-
-  module _ (P Q : Point → Type 0) (move : Edge → List Point) (moves : (s : Edge) → P s.a → P s.b → All Q (move s)) where
-    steps_hold : (first p : Point) (rest : List Point) → P first → All P (p ∷ rest) → All Q (flat_map move (steps_to first (p ∷ rest)))
-    steps_hold first p [] f all =
-        All-append Q (move (record { a = p; b = first })) [] (moves (record { a = p; b = first }) (All-head P p [] all) f) (All-nil Q)
-    steps_hold first p (r ∷ rest) f all =
-        let others = All-tail P p (r ∷ rest) all in
-        All-append Q (move (record { a = p; b = r })) (flat_map move (steps_to first (r ∷ rest)))
-        (moves (record { a = p; b = r }) (All-head P p (r ∷ rest) all) (All-head P r rest others)) (steps_hold first r rest f others)
-
-    contour_holds : (c : List Point) → All P c → All Q (moved move c)
-    contour_holds [] all = All-nil Q
-    contour_holds (p ∷ rest) all = steps_hold p p rest (All-head P p rest all) all
-
-    moved_hold : (cs : List (List Point)) → All (All P) cs → All (All Q) (map (moved move) cs)
-    moved_hold cs h = All-map (All Q) (moved move) cs (λ i d l. contour_holds (get_or cs i d) (h i d l))
+  -- ---- moved steps stay in boxes
 
   module _ (h : ℤ) (by : Amounts) (are : AreWithin h by) where
     -- a number that is moved
@@ -232,29 +219,45 @@ module _ (least greatest : ℤ) where
               })
               (All-nil (LiesWithin (box a (b -ℤ h)))))
 
+  -- ---- a region keeps as far from the ends of the range as its contours
+
+  of_box : (side : ℤ) (cs : List (List Point)) → pos 1 ≤ℤ side → All (All (LiesWithin (box side side))) cs → Fits least greatest (evenly side) cs
+  of_box side cs some lie i d k j e m =
+      let lies = lie i d k j e m in
+      let p : Point = get_or (get_or cs i d) j e in
+      record { across = one side p.x some lies.left lies.right; up = one side p.y some lies.bottom lies.top }
+    where
+      one : (side n : ℤ) → pos 1 ≤ℤ side → (least +ℤ side) ≤ℤ n → n ≤ℤ (greatest -ℤ side) → HasRoom least greatest side side n
+      one side n some a b = record { below = (omega (arith, ints), omega (arith, ints)); above = (omega (arith, ints), omega (arith, ints)) }
+
+  pub region_has_room : AnswersStayInTheBox → (side : ℤ) → pos 1 ≤ℤ side → (fill : FillRule) (precision : Precision) (cs : List (List Point)) (shapes : List (List (List Point)))
+      → IsRegionOf least greatest default_options fill precision cs shapes → Fits least greatest (evenly side) cs → Fits least greatest (evenly side) (all_contours shapes)
+  region_has_room stay side some fill precision cs shapes region fit =
+      of_box side (all_contours shapes) some (region_stays least greatest stay fill precision cs shapes region (box side side) (in_box side cs fit))
+
   -- ---- what is sized keeps room for the same amounts again
 
   module _ (stay : AnswersStayInTheBox) (side h : ℤ) (first second : Amounts) (firsts : AreWithin h first) (seconds : AreWithin h second)
-      (twice : (h +ℤ h) ≤ℤ side) (cs : List (List Point)) (fit : Fits least greatest (evenly side) cs) where
-    region_stays : (bounds : Bounds) (fill : FillRule) (contours : List (List Point)) (held : _) → HoldsAlone least greatest false contours held
-        → All (All (LiesWithin bounds)) contours → All (All (LiesWithin bounds)) (region_of fill default_precision held)
-    region_stays bounds fill contours held alone lie =
-        stay.of_contours least greatest bounds false contours [] (answering_of default_options) fill Subject default_precision held alone.holds alone.is_held lie
+      (twice : (h +ℤ h) ≤ℤ side) (precision : Precision) (cs : List (List Point)) (fit : Fits least greatest (evenly side) cs) where
+    alone_stays : (bounds : Bounds) (fill : FillRule) (contours : List (List Point)) (held : _) → HoldsAlone least greatest false contours held
+        → All (All (LiesWithin bounds)) contours → All (All (LiesWithin bounds)) (region_of fill precision held)
+    alone_stays bounds fill contours held alone lie =
+        stay.of_contours least greatest bounds false contours [] (answering_of default_options) fill Subject precision held alone.holds alone.is_held lie
         (All-nil (All (LiesWithin bounds)))
 
-    pub fits_again : FitsAgain least greatest first second cs
+    pub fits_again : FitsAgain least greatest first second precision cs
     fits_again shapes sized =
         let moves = sized.moves in
-        let given = region_stays (box side side) NonZero cs moves.given moves.of_given (in_box side cs fit) in
+        let given = alone_stays (box side side) NonZero cs moves.given moves.of_given (in_box side cs fit) in
         let sides =
         moved_hold (LiesWithin (box side side)) (LiesWithin (box (side -ℤ h) side)) (moved_across first.left first.right) (across_stays h first firsts side side)
-        (region_of NonZero default_precision moves.given) given in
-        let wide = region_stays (box (side -ℤ h) side) Positive (map (moved (moved_across first.left first.right)) (region_of NonZero default_precision moves.given)) moves.wide moves.across sides in
+        (region_of NonZero precision moves.given) given in
+        let wide = alone_stays (box (side -ℤ h) side) Positive (map (moved (moved_across first.left first.right)) (region_of NonZero precision moves.given)) moves.wide moves.across sides in
         let levels =
         moved_hold (LiesWithin (box (side -ℤ h) side)) (LiesWithin (box (side -ℤ h) (side -ℤ h))) (moved_up first.bottom first.top) (up_stays h first firsts (side -ℤ h) side)
-        (region_of Positive default_precision moves.wide) wide in
+        (region_of Positive precision moves.wide) wide in
         room_in_box side h second (all_contours shapes) twice seconds
         (subst (λ ss. All (All (LiesWithin (box (side -ℤ h) (side -ℤ h)))) (all_contours ss)) (sym sized.is.canonical)
         (stay.of_contours least greatest (box (side -ℤ h) (side -ℤ h)) false
-        (map (moved (moved_up first.bottom first.top)) (region_of Positive default_precision moves.wide)) [] (answering_of default_options) Positive Subject
-        default_precision sized.held moves.up.holds moves.up.is_held levels (All-nil (All (LiesWithin (box (side -ℤ h) (side -ℤ h)))))))
+        (map (moved (moved_up first.bottom first.top)) (region_of Positive precision moves.wide)) [] (answering_of default_options) Positive Subject
+        precision sized.held moves.up.holds moves.up.is_held levels (All-nil (All (LiesWithin (box (side -ℤ h) (side -ℤ h)))))))

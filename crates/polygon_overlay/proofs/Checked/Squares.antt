@@ -1,12 +1,14 @@
 -- Squares by columns and rows: what is shrunk and grown again is covered by squares, and what is grown and shrunk again is not, outside.
 use Rattle.std.proofs.Common.{◌≡◌, ◌⊎◌, inl, inr, ℕ, ◌*◌, ◌<◌, ℤ, pos, neg_ℤ, ◌+ℤ◌, ◌-ℤ◌, ◌*ℤ◌, ◌≤ℤ◌, ◌<ℤ◌, sym, ap, ◌∙◌, subst, arith, mul-pos}
 use Rattle.std.proofs.lemmas.Int.{ints, by_lt_z}
-use Rattle.polygon_overlay.specs.Plane.{RationalPoint, IsRational}
+use Rattle.plane_base.specs.Plane.{RationalPoint, IsRational}
 use Rattle.polygon_overlay.specs.Sizing.{Amounts}
-use Rattle.uses.specs.Rules.{LiesInSquare, IsCovered, opposite}
-use Rattle.uses.proofs.Rules.Cells.{column, row}
-use Rattle.uses.proofs.Rules.Places.{product_assoc, product_of_sum, product_of_negation, exchange, times_at_most, at_most, at_most_below, below_at_most, floor, floor_low, floor_high, floor_at_least, floor_below, floor_moves, row_of, row_low, row_high, row_at_least, row_below, row_moves}
-use Rattle.uses.proofs.Rules.Windows.{SizedPlaces, SizedCells, IsByCells}
+use Rattle.polygon_overlay.specs.Checks.{LiesInSquare, IsCovered, opposite}
+use Rattle.polygon_overlay.proofs.Checked.Cells.{column, row}
+use Rattle.plane_base.proofs.Facts.Numbers.Products.{product_assoc, product_of_sum, product_of_negation, product_left_comm, product_monotone}
+use Rattle.polygon_overlay.proofs.Checked.Places.{floor, floor_low, floor_high, floor_at_least, floor_below, floor_moves, row_of, row_low, row_high, row_at_least, row_below, row_moves}
+use Rattle.polygon_overlay.proofs.Tiles.Steps.{at_most, at_most_below, below_at_most}
+use Rattle.polygon_overlay.proofs.Checked.Windows.{SizedPlaces, SizedCells, IsByCells}
 
 -- Some square of so many columns and rows covers the place, and all its places have it.
 pub record CoversCells (side : ℤ) (At : ℤ → ℤ → Type 0) (i j : ℤ) : Type 0 where
@@ -26,7 +28,7 @@ from_corner a q b s = (pos s *ℤ a) -ℤ (pos q *ℤ b)
 
 module _ (a : ℤ) (q : ℕ) (b : ℤ) (s : ℕ) where
   common : (k : ℤ) → pos s *ℤ (pos q *ℤ k) ≡ pos (q * s) *ℤ k
-  common k = exchange (pos s) (pos q) k ∙ sym (product_assoc (pos q) (pos s) k)
+  common k = product_left_comm (pos s) (pos q) k ∙ sym (product_assoc (pos q) (pos s) k)
 
   moved : (d : ℤ) → pos s *ℤ (a +ℤ (pos q *ℤ d)) ≡ (pos s *ℤ a) +ℤ (pos (q * s) *ℤ d)
   moved d = product_of_sum (pos s) a (pos q *ℤ d) ∙ ap (λ x. (pos s *ℤ a) +ℤ x) (common d)
@@ -36,10 +38,10 @@ module _ (a : ℤ) (q : ℕ) (b : ℤ) (s : ℕ) where
 
   -- moved by so much, no less than back to the corner, and so far that the side reaches on
   back_of : (way d : ℤ) → neg_ℤ way ≤ℤ d → neg_ℤ (pos (q * s) *ℤ way) ≤ℤ (pos (q * s) *ℤ d)
-  back_of way d l = subst (λ x. x ≤ℤ (pos (q * s) *ℤ d)) (product_of_negation (pos (q * s)) way) (times_at_most (pos (q * s)) (neg_ℤ way) d (omega (arith, ints)) l)
+  back_of way d l = subst (λ x. x ≤ℤ (pos (q * s) *ℤ d)) (product_of_negation (pos (q * s)) way) (product_monotone (pos (q * s)) (neg_ℤ way) d (omega (arith, ints)) l)
 
   on_of : (way d side : ℤ) → ((way +ℤ pos 1) +ℤ d) ≤ℤ side → ((pos (q * s) *ℤ (way +ℤ pos 1)) +ℤ (pos (q * s) *ℤ d)) ≤ℤ (pos (q * s) *ℤ side)
-  on_of way d side l = subst (λ x. x ≤ℤ (pos (q * s) *ℤ side)) (product_of_sum (pos (q * s)) (way +ℤ pos 1) d) (times_at_most (pos (q * s)) ((way +ℤ pos 1) +ℤ d) side (omega (arith, ints)) l)
+  on_of way d side l = subst (λ x. x ≤ℤ (pos (q * s) *ℤ side)) (product_of_sum (pos (q * s)) (way +ℤ pos 1) d) (product_monotone (pos (q * s)) ((way +ℤ pos 1) +ℤ d) side (omega (arith, ints)) l)
 
   from_left : (way d : ℤ) → (pos (q * s) *ℤ way) ≤ℤ from_corner a q b s → neg_ℤ way ≤ℤ d → (pos q *ℤ b) ≤ℤ (pos s *ℤ (a +ℤ (pos q *ℤ d)))
   from_left way d l m = rw (moved d) (sum _ _ _ _ l (back_of way d m))
@@ -123,10 +125,10 @@ module _ (side k h : ℤ) (m : RationalPoint) (some : IsRational m) where
 
   in_square : k ≤ℤ column m → column m <ℤ (k +ℤ side) → h ≤ℤ row m → row m <ℤ (h +ℤ side) → LiesInSquare side whole_corner m
   in_square left right bottom top = record {
-    left = subst (λ x. (pos m.q *ℤ k) ≤ℤ x) (sym (one m.x)) (at_most _ _ _ (times_at_most (pos m.q) k (column m) not_negative left) (floor_low m.x m.q some));
-    right = rw (one m.x, one side) (below_at_most _ _ _ (floor_high m.x m.q some) (times_at_most (pos m.q) (column m +ℤ pos 1) (k +ℤ side) not_negative (next (column m) (k +ℤ side) right)));
-    bottom = subst (λ y. (pos m.q *ℤ h) <ℤ y) (sym (one m.y)) (at_most_below _ _ _ (times_at_most (pos m.q) h (row m) not_negative bottom) (row_low m.y m.q some));
-    top = rw (one m.y, one side) (at_most _ _ _ (row_high m.y m.q some) (times_at_most (pos m.q) (row m +ℤ pos 1) (h +ℤ side) not_negative (next (row m) (h +ℤ side) top)));
+    left = subst (λ x. (pos m.q *ℤ k) ≤ℤ x) (sym (one m.x)) (at_most _ _ _ (product_monotone (pos m.q) k (column m) not_negative left) (floor_low m.x m.q some));
+    right = rw (one m.x, one side) (below_at_most _ _ _ (floor_high m.x m.q some) (product_monotone (pos m.q) (column m +ℤ pos 1) (k +ℤ side) not_negative (next (column m) (k +ℤ side) right)));
+    bottom = subst (λ y. (pos m.q *ℤ h) <ℤ y) (sym (one m.y)) (at_most_below _ _ _ (product_monotone (pos m.q) h (row m) not_negative bottom) (row_low m.y m.q some));
+    top = rw (one m.y, one side) (at_most _ _ _ (row_high m.y m.q some) (product_monotone (pos m.q) (row m +ℤ pos 1) (h +ℤ side) not_negative (next (row m) (h +ℤ side) top)));
   }
 
   module _ (lies : LiesInSquare side whole_corner m) where

@@ -1,6 +1,6 @@
 use Rattle.polygon_overlay.specs.SizingViews.{amounts_of}
-use Rattle.uses.proofs.Rules.Calls.{left_negated, right_negated, are_opposite}
-use Rattle.uses.proofs.masks.inward.Goals as goal
+use Rattle.polygon_overlay.proofs.Checked.Calls.{left_negated, right_negated, are_opposite}
+use Rattle.polygon_overlay.proofs.checks.inward.Goals as goal
 
 pub negated-half-requires : goal.negated-half-requires
 negated-half-requires g c =
