@@ -1,4 +1,7 @@
-//! The boundary that a graph's links tell.
+//! The boundary edges of a region: of a graph's links, in their order, those of which the rule holds on one side alone, each with that side.
+//!
+//! Degenerate cases: a link that has the region on both sides, or on neither, bounds nothing; of a vertical link the upper side is its left one. One pass over the
+//! links.
 
 ghost use Rattle.std.specs.Prelude.{◌≡◌, ◌++◌, ◌∷◌, [], All, IfOk, OnOk, IsOkUnless, map};
 ghost use Rattle.plane_base.specs.Segments.{IsEdgeWithin};

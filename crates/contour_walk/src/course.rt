@@ -1,4 +1,7 @@
-//! Which way walks run.
+//! Which way walks turn at nodes, told by the end from which a walk passes its first link and by the output direction, before it begins.
+//!
+//! By kind, outlines turn through the region and holes through what lies outside: the end alone tells. Else all turn through the region: the output direction
+//! tells. Both are told in constant time, and there is no degenerate case.
 
 ghost use Rattle.std.specs.Prelude.{◌≡◌, true, false, not};
 
