@@ -13,6 +13,7 @@ mod drawn;
 mod held;
 mod joins;
 mod level;
+mod mixed;
 mod roads;
 mod splitting;
 mod types;
@@ -38,10 +39,18 @@ fn segments_from(
     rows: &[Row],
 ) -> Result<Vec<Segment<ShapeCountBoolean, i32, ()>>, Fault> {
     let mut segments = Vec::new(alloc);
+    push_rows(&mut segments, rows)?;
+    Ok(segments)
+}
+
+fn push_rows(
+    segments: &mut Vec<Segment<ShapeCountBoolean, i32, ()>>,
+    rows: &[Row],
+) -> Result<(), Fault> {
     for row in rows {
         if let Some(segment) = segment_from(*row) {
             segments.push(segment)?;
         }
     }
-    Ok(segments)
+    Ok(())
 }

@@ -4,7 +4,7 @@ ghost use Rattle.std.specs.Prelude.{◌≡◌};
 
 use super::drawn::{coordinate, next, redrawn_slowly};
 use super::splitting::{are_equal, split_by};
-use super::{Row, segment_from, segments_from};
+use super::{push_rows, segment_from, segments_from};
 use i_tree::Steps;
 use plane_base::fault::Fault;
 use reference::passes::redraw_given;
@@ -104,18 +104,6 @@ fn auto_redraws_by_lines_as_the_list(rt: HostRuntime) -> Result<(), Fail> {
         let is_changed_by_list = split_by(alloc, &mut by_list, &Solver::LIST)?;
         assert!(rt; is_changed == is_changed_by_list, "at map {map}");
         assert!(rt; are_equal(&by_lines, &by_list), "at map {map}");
-    }
-    Ok(())
-}
-
-fn push_rows(
-    segments: &mut Vec<Segment<ShapeCountBoolean, i32, ()>>,
-    rows: &[Row],
-) -> Result<(), Fault> {
-    for row in rows {
-        if let Some(segment) = segment_from(*row) {
-            segments.push(segment)?;
-        }
     }
     Ok(())
 }
