@@ -6,6 +6,7 @@ pub mod DataMaps
 mod Spread
 mod Whole
 mod Stops
+mod Mixed
 pub mod Ranks
 pub mod Rows
 pub mod BucketTrees

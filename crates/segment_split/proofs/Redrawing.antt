@@ -12,4 +12,5 @@ pub mod Lengths
 pub mod Sums
 pub mod Redraws
 pub mod Passing
+pub mod FirstPass
 pub mod KeysRedrawn

@@ -10,3 +10,5 @@ pub mod Coordinates
 pub mod StepLists
 pub mod Inside
 pub mod SumsAlong
+pub mod Refined
+pub mod InTurn

@@ -9,6 +9,7 @@ pub mod AlongLaws
 pub mod SpreadLaws
 pub mod WholeLaws
 pub mod LineLaws
+pub mod TurnLaws
 pub mod Stops
 pub mod Sweeps
 pub mod SecondEnds
@@ -31,3 +32,4 @@ pub mod DataLaws
 pub mod Seen
 pub mod SeenPasses
 pub mod Redraws
+pub mod Mixed

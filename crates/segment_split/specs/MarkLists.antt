@@ -90,6 +90,12 @@ pub record SkipsTo (es old : List Edge) (next_new : List ℕ) (i : ℕ) : Type 0
 abbrev pub IsTold : List Edge → List Edge → List ℕ → Type 0
 IsTold es old next_new = (more : List Edge) → SkipsTo (es ++ more) old next_new (length es)
 
+-- The number stands in all places that came to the list.
+pub record IsFilled (number : ℕ) (old new : List ℕ) : Type 0 where
+  pub kept : (n d : ℕ) → n < length old → slice_index_or new n d ≡ slice_index_or old n d
+  pub filled : (n d : ℕ) → length old ≤ n → n < length new → slice_index_or new n d ≡ number
+  pub longer : length old ≤ length new
+
 -- ----
 
 -- by edge, then along it

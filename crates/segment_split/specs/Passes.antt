@@ -32,6 +32,14 @@ marks_on marks es s = flat_map (λ t. (marks s t).first) es
 abbrev pub cut : {C : Type 0} → Counting C → (Edge → Edge → Marks) → List Edge → Entry C → List (Entry C)
 cut kind marks es e = laid_path kind e.count (path e.edge (marks_on marks es e.edge))
 
+-- the entries, each cut at points that are told of its edge
+abbrev pub all_cut_at : {C : Type 0} → Counting C → (Edge → List Point) → List (Entry C) → List (Entry C)
+all_cut_at kind base es = flat_map (λ e. laid_path kind e.count (path e.edge (base e.edge))) es
+
+-- the entries of one list, cut where the edges of another mark them
+abbrev pub all_cut : {C : Type 0} → Counting C → (Edge → Edge → Marks) → List Edge → List (Entry C) → List (Entry C)
+all_cut kind marks ss es = flat_map (cut kind marks ss) es
+
 abbrev pub pass_by : {C : Type 0} → Counting C → (Edge → Edge → Marks) → List (Entry C) → List (Entry C)
 pass_by kind marks es = normal kind (flat_map (cut kind marks (edges_of es)) es)
 

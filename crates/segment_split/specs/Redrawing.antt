@@ -1,5 +1,5 @@
 -- Redrawing: passes until one marks nothing.
-use Rattle.std.specs.Prelude.{◌≢◌, ◌⊎◌, ℕ, zero, suc, ◌+◌, ◌*◌, ◌-ℤ◌, unsigned_abs, List, map, sum, AllPairs}
+use Rattle.std.specs.Prelude.{◌≢◌, ◌⊎◌, ◌≤◌, ℕ, zero, suc, ◌+◌, ◌*◌, ◌-ℤ◌, unsigned_abs, List, map, sum, AllPairs}
 use Rattle.plane_base.specs.Plane.{Edge}
 use Rattle.plane_base.specs.Counts.{Counting, Entry, normal}
 use Rattle.segment_split.specs.Passes.{early_passes, edges_of, marks_in, MarksSome, pass}
@@ -27,6 +27,10 @@ redrawn kind precision es =
 -- pass k marks the map that is before it
 abbrev pub MarksInPass : {C : Type 0} → Counting C → Precision → List (Entry C) → ℕ → Type 0
 MarksInPass kind precision es k = MarksSome (marks_in precision k) (edges_of (iterate kind precision es k))
+
+-- Each pass that marks nothing is this one or a later one.
+abbrev pub AllMarkedBefore : {C : Type 0} → Counting C → Precision → List (Entry C) → ℕ → Type 0
+AllMarkedBefore kind precision es k = (n : ℕ) → (MarksInPass kind precision es n → ⊥) → k ≤ n
 
 -- Of entries as they are given: two lie on one edge, or some pass marks.
 abbrev pub IsChanged : {C : Type 0} → Counting C → Precision → List (Entry C) → Type 0

@@ -3,15 +3,15 @@ use Rattle.std.specs.Prelude.{◌≡◌, ◌<◌, ◌≤◌, ◌^◌, ◌↔◌,
 use Rattle.i_tree.specs.Steps.{Counts}
 use Rattle.plane_base.specs.Counts.{Counting, Entry, IsNormal, normal}
 use Rattle.plane_base.specs.declared.fault.Fault.{Fault}
-use Rattle.segment_split.specs.Data.{pass_with_data, redrawn_with_data}
+use Rattle.segment_split.specs.Data.{pass_with_data, iterate_with_data, redrawn_with_data, without_data}
 use Rattle.segment_split.specs.MarkLists.{SkipsOld, CountsPairs}
 use Rattle.segment_split.specs.Passes.{edges_of, marks_in, MarksSome, pass}
-use Rattle.segment_split.specs.Redrawing.{redrawn, MarksInPass, IsChanged}
+use Rattle.segment_split.specs.Redrawing.{iterate, redrawn, MarksInPass, IsChanged, AllMarkedBefore}
 use Rattle.segment_split.specs.Refusals.{steps_in, IsOverfull, PassesTooMuch, CountsTooMuch, LaysTooMany, IsRefusal}
 use Rattle.segment_split.specs.Rows.{CountsPairsUpTo}
 use Rattle.segment_split.specs.SegmentViews.{entries_of, AreWithin}
 use Rattle.segment_split.specs.Seen.{Seen, seen_join, normal_seen, seen_entries_of}
-use Rattle.segment_split.specs.StepBounds.{most_pairs, LooksAtFew}
+use Rattle.segment_split.specs.StepBounds.{most_pairs, pairs_in_passes, LooksAtFew}
 use Rattle.segment_split.specs.WholeLaws.{AllMeetWhole}
 use Rattle.segment_split.specs.declared.segment.Segment.{Segment}
 use Rattle.segment_split.specs.declared.solver.Solver.{Solver}
@@ -81,3 +81,23 @@ pub record Passes {C D : Type 0} (work : Work C D) (k : ℕ) (old new : Listed C
   pub refused : IfErr result (IsRefusal (IsOverfull work.kind work.fits (steps_in work.kind work.solver.precision old.entries k))
       (2 ^ 31 ≤ length (steps_in work.kind work.solver.precision old.entries k)))
   pub steps : CountsPairsUpTo before after (most_pairs work.solver.strategy (edges_of old.entries))
+
+-- The same, or nothing is answered and all stays.
+abbrev pub PassesOrLeaves : {C D : Type 0} (work : Work C D) → ℕ → (old new : Listed C D work.joins) → List ℕ → Counts → Counts → Result (Option Passed) Fault
+    → Type 0
+PassesOrLeaves work k old new next_new before after (Ok None) = (new ≡ old) × (after ≡ before)
+PassesOrLeaves work k old new next_new before after (Ok (Some passed)) = Passes work k old new next_new before after (Ok passed)
+PassesOrLeaves work k old new next_new before after (Err fault) = Passes work k old new next_new before after (Err fault)
+
+-- The list is that before pass n, each pass before it marked, and so many pairs were looked at as these may.
+pub record IsBefore {C D : Type 0} (work : Work C D) (old now : Listed C D work.joins) (n : ℕ) (first last : Counts) : Type 0 where
+  pub entries : now.entries ≡ iterate work.kind work.solver.precision old.entries n
+  pub seen : now.seen ≡ iterate_with_data work.kind (seen_join work.joins work.join) work.solver.precision old.seen n
+  pub looks : CountsPairsUpTo first last (pairs_in_passes work.solver.strategy work.kind work.solver.precision old.entries n)
+  pub marked : AllMarkedBefore work.kind work.solver.precision old.entries n
+
+-- The same in the redrawing of a map in range, whose entries are those that are seen.
+pub record IsPassedTo (least greatest : ℤ) {C D : Type 0} (work : Work C D) (given now : Listed C D work.joins) (n : ℕ) (first last : Counts) : Type 0 where
+  pub before : IsBefore work given now n first last
+  pub can : CanBeRedrawn least greatest work.kind given.entries
+  pub alike : without_data given.seen ≡ given.entries

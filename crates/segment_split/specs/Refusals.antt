@@ -58,3 +58,7 @@ IsRefusal too_much too_many Memory = ⊤
 IsRefusal too_much too_many Count = too_much
 IsRefusal too_much too_many Edges = too_many
 IsRefusal too_much too_many Failed = ⊥
+
+-- a refusal to lay these steps and join them: of their counts, or of their number
+abbrev pub IsRefusalOf : {C : Type 0} → Counting C → (C → Bool) → List (Entry C) → Fault → Type 0
+IsRefusalOf kind fits steps = IsRefusal (IsOverfull kind fits steps) (2 ^ 31 ≤ length steps)

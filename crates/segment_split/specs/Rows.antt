@@ -7,9 +7,11 @@ use Rattle.std.specs.Int.{int_min, int_max, int_gap}
 use Rattle.std.specs.List.Sorted.{IsNonDecreasing}
 use Rattle.i_tree.specs.Steps.{Counts}
 use Rattle.plane_base.specs.Plane.{Point, Edge}
-use Rattle.plane_base.specs.Crossing.{Marks, no_marks}
+use Rattle.plane_base.specs.Crossing.{Marks, no_marks, crosses_off_grid}
+use Rattle.plane_base.specs.WholeLaws.{MeetsWhole}
 use Rattle.segment_split.specs.declared.roads.rows.extents.Extent.{Extent}
 use Rattle.segment_split.specs.MarkLists.{LaidMark, IsAt, IsLaid, HasMark, IsFound}
+use Rattle.segment_split.specs.StepBounds.{x_range, share_point}
 
 -- the row of y, so wide, counted from the least y
 abbrev pub row_of : ℤ → ℕ → ℤ → ℕ
@@ -239,8 +241,33 @@ FollowsInRows reaches begins passes to_begins to_passes i j =
 abbrev pub FollowsIn : List ℕ → ℕ → ℕ → ℕ → ℕ → ℕ → Type 0
 FollowsIn to row reach i i' j = (i' ≡ i) × (i < j) × (j < reach) × Contains to (place_in row j)
 
+-- The same from new to old ones, or from old to new ones.
+abbrev pub FollowsBetween : List ℕ → List ℕ → List ℕ → List ℕ → List ℕ → ℕ → ℕ → Type 0
+FollowsBetween reaches begins passes old_begins old_passes i j =
+    FollowsInRows reaches begins passes old_begins old_passes i j ⊎ FollowsInRows reaches old_begins old_passes begins passes i j
+
 -- The same among new ones, from new to old ones, or from old to new ones.
 abbrev pub FollowsAmong : List ℕ → List ℕ → List ℕ → List ℕ → List ℕ → ℕ → ℕ → Type 0
 FollowsAmong reaches begins passes old_begins old_passes i j =
     (FollowsInRows reaches begins passes begins passes i j ⊎ FollowsInRows reaches begins passes old_begins old_passes i j)
     ⊎ FollowsInRows reaches old_begins old_passes begins passes i j
+
+-- ---- pairs of which one is new
+
+-- The segment j follows i, and one of the two is new.
+abbrev pub IsNewPair : List ℕ → ℕ → ℕ → Type 0
+IsNewPair next_new i j = (i < j) × ((is_old next_new i && is_old next_new j) ≡ false)
+
+-- No two edges of such numbers cross off the grid.
+abbrev pub CrossWhole : List Edge → (ℕ → ℕ → Type 0) → Type 0
+CrossWhole es pairs = (i j : ℕ) (s t : Edge) → pairs i j → IsAt es i s → IsAt es j t → crosses_off_grid s t ≡ false
+
+-- Of two edges one is new and the other old: they meet whole.
+abbrev pub MeetNewWhole : List Edge → List ℕ → Type 0
+MeetNewWhole es next_new =
+    (i j : ℕ) (s t : Edge) → IsAt es i s → IsAt es j t → is_old next_new i ≡ not (is_old next_new j) → MeetsWhole s t
+
+-- Pairs pass the test of which one is new, if they share an x.
+abbrev pub TakesNew : List Edge → List ℕ → (Edge → Edge → Bool) → Type 0
+TakesNew es next_new test =
+    (i j : ℕ) (s t : Edge) → IsNewPair next_new i j → IsAt es i s → IsAt es j t → share_point (x_range s) (x_range t) ≡ true → test s t ≡ true

@@ -16,7 +16,13 @@ pub record SeenPass : Type 0 where
 abbrev pub seen_pass : {C : Type 0} → List (Entry C) → List ℕ → Rounding → SeenPass
 seen_pass es next_new rounding = record { edges = edges_of es; next_new = next_new; rounding = rounding }
 
--- The entries are a map in range, of fewer than 2^31, and any two that are told to be old are parted.
+-- The entries are a map in range, of fewer than 2^31.
+pub record CanBePassed (least greatest : ℤ) {C : Type 0} (kind : Counting C) (es : List (Entry C)) : Type 0 where
+  pub within : AreWithin least greatest es
+  pub normal : IsNormal kind es
+  pub few : length es < 2 ^ 31
+
+-- The same, and any two that are told to be old are parted.
 pub record IsPass (least greatest : ℤ) {C : Type 0} (kind : Counting C) (es : List (Entry C)) (next_new : List ℕ) : Type 0 where
   pub within : AreWithin least greatest es
   pub normal : IsNormal kind es

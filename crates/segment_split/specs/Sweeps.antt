@@ -1,16 +1,27 @@
 -- A sweep over the stops of level and upright edges, from the last to the first: what stands where it came to a stop.
-use Rattle.std.specs.Prelude.{◌≡◌, ◌≢◌, ◌+◌, ◌<◌, ◌≤◌, ◌↔◌, ◌⊎◌, ℕ, ℤ, pos, ◌+ℤ◌, ◌<ℤ◌, ◌≤ℤ◌, nat_lt, Bool, true, false, not, cond, ◌||◌, List, [], ◌∷◌, ◌++◌}
-use Rattle.std.specs.Prelude.{length, take, drop, map, reverse, All, AllPairs, Contains, IsPermutation, Option, Some, None}
+use Rattle.std.specs.Prelude.{◌≡◌, ◌≢◌, ◌+◌, ◌<◌, ◌↔◌, ◌⊎◌, ℕ, ℤ, pos, ◌+ℤ◌, ◌<ℤ◌, nat_lt, Bool, true, false, not, cond, ◌||◌, List, [], ◌∷◌, ◌++◌}
+use Rattle.std.specs.Prelude.{length, map, reverse, All, AllPairs, Contains, IsPermutation, Option, Some, None}
 use Rattle.std.specs.declared.cmp.Ordering.TheVariants.{Less, Greater}
 use Rattle.std.specs.Ordering.{int_eq, is_le}
-use Rattle.plane_base.specs.Plane.{Point, Edge, point_order}
+use Rattle.plane_base.specs.Plane.{Point, Edge, is_before, point_order}
 use Rattle.plane_base.specs.Segments.{strictly_inside}
-use Rattle.plane_base.specs.Counts.{Count, Entry, boolean, IsNormal}
+use Rattle.plane_base.specs.Counts.{Count, Entry, boolean}
 use Rattle.plane_base.specs.Totals.{total}
 use Rattle.segment_split.specs.Passes.{edges_of}
 use Rattle.segment_split.specs.LineLaws.{AllLevelOrUpright, IsEndOfSome, IsCrossing, CountsFrom, first_by, steps_between}
 use Rattle.segment_split.specs.Kinds.{count_fits}
 use Rattle.segment_split.specs.Stops.{LineView, LinesView, AreRising, heights_in, IsPlaceOf, line_at, end_of, count_of, all_changed}
+
+-- ---- entries in order
+
+-- No first end comes before one that it follows.
+abbrev pub AreByFirsts : List (Entry Count) → Type 0
+AreByFirsts es = AllPairs (λ e f. point_order e.edge.a f.edge.a ≢ Greater) es
+
+-- Entries whose first ends come before their second ones, in the order of their first ends. Equal ones may stand there.
+pub record AreInOrder (es : List (Entry Count)) : Type 0 where
+  pub directed : All (λ e. is_before e.edge.a e.edge.b ≡ true) es
+  pub firsts : AreByFirsts es
 
 -- ---- what runs along a line
 
@@ -129,7 +140,7 @@ AreBySeconds es = AllPairs (λ e f. point_order e.edge.b f.edge.b ≢ Greater) e
 abbrev pub Crosses : Point → LinesView → List (Entry Count) → ℕ → LinesView → List (Entry Count) → ℕ → Bool → Type 0
 Crosses p lines laid ticks new_lines new_laid new_ticks crossed =
     (es before gone ahead come : List (Entry Count)) (t : Option Point) (ps : List Point) (marked : Bool)
-    → IsNormal boolean es → AllLevelOrUpright (edges_of es) → IsNextEnd es t p → Swept es t ps before gone ahead come lines laid marked
+    → AreInOrder es → AllLevelOrUpright (edges_of es) → IsNextEnd es t p → Swept es t ps before gone ahead come lines laid marked
     → (more : List Point) × Swept es t more before gone ahead come new_lines new_laid (marked || crossed) × IsClear p new_lines more
     × ((first : ℕ) → Ticked es ps first ticks → Ticked es more first new_ticks)
 
@@ -137,7 +148,7 @@ Crosses p lines laid ticks new_lines new_laid new_ticks crossed =
 abbrev pub CrossesSome : Point → LinesView → List (Entry Count) → ℕ → ℕ → Type 0
 CrossesSome p lines laid ticks new_ticks =
     (es before gone ahead come : List (Entry Count)) (t : Option Point) (ps : List Point) (marked : Bool)
-    → IsNormal boolean es → AllLevelOrUpright (edges_of es) → IsNextEnd es t p → Swept es t ps before gone ahead come lines laid marked
+    → AreInOrder es → AllLevelOrUpright (edges_of es) → IsNextEnd es t p → Swept es t ps before gone ahead come lines laid marked
     → (first : ℕ) → Ticked es ps first ticks → (more : List Point) × Ticked es more first new_ticks
 
 -- The sweep came to some stop, with these entries before it and ahead of it; those behind it are still in order. Pairs were counted.
@@ -158,10 +169,6 @@ pub record IsGreatestEnd (before ahead : List (Entry Count)) (p : Point) : Type 
   pub firsts : All (λ e. is_le (point_order e.edge.a p) ≡ true) before
   pub seconds : All (λ e. is_le (point_order e.edge.b p) ≡ true) ahead
 
--- No first end comes before one that it follows.
-abbrev pub AreByFirsts : List (Entry Count) → Type 0
-AreByFirsts es = AllPairs (λ e f. point_order e.edge.a f.edge.a ≢ Greater) es
-
 -- The place is that of the first row that isn't below the last stop.
 pub record IsPlaced (lines : LinesView) (place : ℕ) : Type 0 where
   pub top : Point
@@ -172,7 +179,7 @@ pub record IsPlaced (lines : LinesView) (place : ℕ) : Type 0 where
 abbrev pub CrossesOnce : Point → LinesView → List (Entry Count) → LinesView → List (Entry Count) → Type 0
 CrossesOnce p lines laid new_lines new_laid =
     (es before gone ahead come : List (Entry Count)) (t : Option Point) (ps : List Point) (marked : Bool)
-    → IsNormal boolean es → AllLevelOrUpright (edges_of es) → IsNextEnd es t p → Swept es t ps before gone ahead come lines laid marked
+    → AreInOrder es → AllLevelOrUpright (edges_of es) → IsNextEnd es t p → Swept es t ps before gone ahead come lines laid marked
     → (c : Point) × IsCrossing (edges_of es) c × IsBefore ps c × Swept es t (c ∷ ps) before gone ahead come new_lines new_laid true
 
 -- Nothing is changed, and no row between p and the last stop is to be met.

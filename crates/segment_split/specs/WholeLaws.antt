@@ -13,6 +13,10 @@ use Rattle.segment_split.specs.declared.solver.Precision.{Precision}
 abbrev pub AllMeetWhole : List Edge → Type 0
 AllMeetWhole es = (s t : Edge) → Contains es s → Contains es t → MeetsWhole s t
 
+-- The same of one edge of the list and the others.
+abbrev pub MeetsAllWhole : List Edge → Edge → Type 0
+MeetsAllWhole es s = (t : Edge) → Contains es t → MeetsWhole s t
+
 -- Where the edges of a map meet whole, so do those after a pass. Passes don't depend on the precision there, nor on their number,
 -- and redrawing doesn't depend on the precision.
 pub record WholeMeetingsStay {C : Type 0} (kind : Counting C) : Type 0 where

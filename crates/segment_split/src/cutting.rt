@@ -99,7 +99,7 @@ fn keep_all<C: WindingCount, I: OverlayInt, D: Copy>(
 }
 
 // How many marks at the beginning of a list lie on the segment.
-fn run_length<I: OverlayInt>(marks: &[Mark<I, I::Wide>], segment: usize) -> usize
+pub(crate) fn run_length<I: OverlayInt>(marks: &[Mark<I, I::Wide>], segment: usize) -> usize
     ensures within { result ≤ length marks.now }
     ensures own { All (λ m. m.segment ≡ segment) (laid_marks I.value I.Wide.number (take result marks.now)) }
     ensures apart { (m : LaidMark) (more : List LaidMark) → laid_marks I.value I.Wide.number (drop result marks.now) ≡ m ∷ more → m.segment ≢ segment }
@@ -113,7 +113,7 @@ fn run_length<I: OverlayInt>(marks: &[Mark<I, I::Wide>], segment: usize) -> usiz
 }
 
 // Lays the steps of a segment through marks in order along it. A mark may stand there twice.
-fn lay_run<C: WindingCount, I: OverlayInt, D: OverlayEdgeData<C>>(
+pub(crate) fn lay_run<C: WindingCount, I: OverlayInt, D: OverlayEdgeData<C>>(
     pieces: &mut Vec<Segment<C, I, D>>,
     segment: Segment<C, I, D>,
     run: &[Mark<I, I::Wide>],

@@ -8,6 +8,7 @@ ghost use Rattle.segment_split.specs.Redrawing.{iterate, redrawn};
 ghost use Rattle.segment_split.specs.Groups.{RedrawsAlone};
 ghost use Rattle.segment_split.specs.RedrawLaws.{Rearranges, MarkedUnlessParted, KeepsUnmarked, IsStable, ComesToRest, MarksFromTheFirst};
 ghost use Rattle.segment_split.specs.RedrawLaws.{RedrawsToTheEnd, IsCountMap, roles_exchanged, RedrawsAnyCounts, OldPairsAreParted, OnePassIsEnough};
+ghost use Rattle.segment_split.specs.TurnLaws.{CutsInTurn};
 ghost use Rattle.segment_split.specs.declared.solver.Precision.{Precision};
 
 /// A pass leaves a map, strictly sorted and without empty counts, that is balanced where it was, and for which no box
@@ -65,6 +66,12 @@ pub fn old_pairs_are_parted()
 /// Where the edges of a map cross at whole points alone, the map after a pass meets in ends alone, and is the redrawn one.
 pub fn one_pass_is_enough<C>()
     ensures { (kind : Counting C) (precision : Precision) → OnePassIsEnough kind precision }
+{}
+
+/// Edges that cross all others at whole points alone may be cut in turn: at the others first, and their pieces then at each other,
+/// though others of the map cross off the grid. Pieces of two such edges are parted.
+pub fn cuts_in_turn<C>()
+    ensures { (kind : Counting C) (precision : Precision) → CutsInTurn kind precision }
 {}
 
 /// Groups of edges, in boxes no two of which share a point, are redrawn each as if alone, though passes are shared and others

@@ -1,4 +1,4 @@
-//! Level and upright edges redrawn by one sweep over the points at which they end or cross, from the last of these stops to the first.
+//! Level and upright edges redrawn by a plane sweep over the points at which they end or cross, from the last of these stops to the first.
 //!
 //! Such edges cross at whole points alone, so that one pass cuts them to rest, and the redrawn map has a closed form: from each stop
 //! the step up and the step along to the next stops on its lines, each with the sum of the counts of the keys that run along it,
@@ -27,19 +27,20 @@ ghost use Rattle.std.specs.Prelude.{true, false, cond, All, Contains, IfOk, IfEr
 ghost use Rattle.std.specs.Ordering.{int_eq};
 ghost use Rattle.plane_base.specs.Plane.{Point, is_before};
 ghost use Rattle.plane_base.specs.Counts.{Count, Entry, boolean, normal, IsNormal};
+ghost use Rattle.plane_base.specs.Crossing.{late_marks};
 ghost use Rattle.plane_base.specs.SegmentViews.{edge_of};
 ghost use Rattle.plane_base.specs.Views.{point_of};
-ghost use Rattle.segment_split.specs.Passes.{edges_of};
+ghost use Rattle.segment_split.specs.Passes.{edges_of, all_cut, pass_by};
 ghost use Rattle.segment_split.specs.Redrawing.{redrawn, MarksInPass};
 ghost use Rattle.segment_split.specs.Kinds.{count_fits};
 ghost use Rattle.segment_split.specs.LineLaws.{is_level_or_upright, AllLevelOrUpright};
-ghost use Rattle.segment_split.specs.Refusals.{steps_in, IsOverfull, PassesTooMuch, LaysTooMany, IsRefusal};
+ghost use Rattle.segment_split.specs.Refusals.{steps_in, IsOverfull, PassesTooMuch, LaysTooMany, IsRefusal, IsRefusalOf};
 ghost use Rattle.segment_split.specs.Rows.{CountsPairsUpTo};
 ghost use Rattle.segment_split.specs.SegmentViews.{entries_of};
 ghost use Rattle.segment_split.specs.StepBounds.{most_pairs};
 ghost use Rattle.segment_split.specs.SecondEnds.{ended, CanBeSwept, AreLeft, AreFewer, IsSweptTo};
 ghost use Rattle.segment_split.specs.Stops.{line_of, rows_of, lines_of, heights_in, AreRising, AreSeen, IsPlaceOf, IsPlaceAbove, bare, line_at};
-ghost use Rattle.segment_split.specs.Sweeps.{is_met, Ticked, Crosses, CrossesSome, CrossesOnce, IsPlaced, IsDone, IsSwept};
+ghost use Rattle.segment_split.specs.Sweeps.{AreInOrder, is_met, Ticked, Crosses, CrossesSome, CrossesOnce, IsPlaced, IsDone, IsSwept};
 ghost use Rattle.segment_split.specs.declared.solver.Precision.{Precision};
 ghost use Rattle.segment_split.specs.declared.solver.Strategy.TheVariants as strategy;
 
@@ -47,6 +48,7 @@ pub(crate) mod bare;
 mod cut;
 mod ends;
 mod lines;
+pub(crate) mod marked;
 pub mod ranks;
 
 // No map may hold so many segments.
@@ -456,8 +458,58 @@ fn redraw_where_cut<I: OverlayInt, L: Ledger>(
     if !is_cut(alloc, &lines, keys, &ends)? {
         return Ok(false);
     }
+    lay_by_sweep(laid, &mut lines, keys, &ends, steps)
+}
+
+// Lays what level and upright segments in order become where each is cut at the ends of others and where they cross it. Equal ones may
+// stand there. Each crossing of two lines that is met is counted as a pair.
+pub(crate) fn lay_lines<I: OverlayInt, L: Ledger>(
+    alloc: Global,
+    laid: &mut Vec<Key<I>>,
+    keys: &[Key<I>],
+    steps: &mut Steps<L>,
+) -> Result<(), Fault>
+    requires order { AreInOrder (entries_of I.value keys.now) }
+    requires level { AllLevelOrUpright (edges_of (entries_of I.value keys.now)) }
+    requires few { length keys.now < 2 ^ 31 }
+    ensures laid { OnOk result (entries_of I.value laid.new.items ≡ pass_by boolean late_marks (entries_of I.value keys.now)) }
+    ensures few { OnOk result (length laid.new.items < 2 ^ 31) }
+    ensures refused { IfErr result (IsRefusalOf boolean count_fits
+        (all_cut boolean late_marks (edges_of (entries_of I.value keys.now)) (entries_of I.value keys.now))) }
+    ensures ticked { (ps : List Point) × Ticked (entries_of I.value keys.now) ps steps.old.pairs steps.new.pairs }
+    ensures compared { steps.new.comparisons ≡ steps.old.comparisons }
+{
+    laid.clear();
+    let mut lines = lines_over(alloc, keys)?;
+    let ends = by_second_ends(alloc, keys)?;
+    lay_by_sweep(laid, &mut lines, keys, &ends, steps)?;
+    Ok(())
+}
+
+// The same by a sweep that is at its beginning. Answers whether a stop lies strictly inside a key.
+fn lay_by_sweep<I: OverlayInt, L: Ledger>(
+    laid: &mut Vec<Key<I>>,
+    lines: &mut Lines<I>,
+    keys: &[Key<I>],
+    ends: &[SecondEnd<I>],
+    steps: &mut Steps<L>,
+) -> Result<bool, Fault>
+    requires sound { CanBeSwept I.value (entries_of I.value keys.now) ends.now }
+    requires rising { AreRising (rows_of I.value lines.old.rows.items) }
+    requires seen { AreSeen I.value lines.old }
+    requires begins { IsSwept (entries_of I.value keys.now) (entries_of I.value keys.now) (ended (entries_of I.value keys.now) ends.now)
+        (lines_of I.value lines.old) (entries_of I.value laid.old.items) false steps.old.pairs steps.old.pairs }
+    ensures laid { OnOk result (entries_of I.value laid.new.items ≡ pass_by boolean late_marks (entries_of I.value keys.now)) }
+    ensures marked { IfOk result (λ is_marked. (precision : Precision) → IsNormal boolean (entries_of I.value keys.now) →
+        (is_marked ≡ true) ↔ ((k : ℕ) × MarksInPass boolean precision (entries_of I.value keys.now) k)) }
+    ensures few { OnOk result (length laid.new.items < 2 ^ 31) }
+    ensures refused { IfErr result (IsRefusalOf boolean count_fits
+        (all_cut boolean late_marks (edges_of (entries_of I.value keys.now)) (entries_of I.value keys.now))) }
+    ensures ticked { (ps : List Point) × Ticked (entries_of I.value keys.now) ps steps.old.pairs steps.new.pairs }
+    ensures compared { steps.new.comparisons ≡ steps.old.comparisons }
+{
     laid.reserve(keys.len())?;
-    let is_marked = sweep(laid, &mut lines, keys, &ends, steps)?;
+    let is_marked = sweep(laid, lines, keys, ends, steps)?;
     if laid.len() >= TOO_MANY {
         return Err(Fault::Edges);
     }
@@ -477,7 +529,7 @@ pub fn are_level_or_upright<C, I: OverlayInt, D>(segments: &[Segment<C, I, D>]) 
     true
 }
 
-fn is_level_or_upright<I: OverlayInt>(s: XSegment<I>) -> bool
+pub(crate) fn is_level_or_upright<I: OverlayInt>(s: XSegment<I>) -> bool
     ensures { result ≡ is_level_or_upright (edge_of I.value s) }
 {
     let XSegment { a, b } = s;

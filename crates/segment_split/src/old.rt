@@ -6,7 +6,7 @@
 
 ghost use Rattle.std.specs.Prelude.{◌≡◌, ◌≤◌, ◌<◌, ℕ, List, length, slice_index_or, OnOk, IsOkUnless};
 ghost use Rattle.plane_base.specs.Plane.{Edge};
-ghost use Rattle.segment_split.specs.MarkLists.{SkipsTo};
+ghost use Rattle.segment_split.specs.MarkLists.{IsFilled, SkipsTo};
 
 use plane_base::fault::Fault;
 
@@ -28,6 +28,7 @@ pub(crate) fn tell_new(next_new: &mut Vec<usize>, from: usize, to: usize) -> Res
 pub(crate) fn fill(next_new: &mut Vec<usize>, number: usize) -> Result<(), Fault>
     ensures filled { OnOk result ((es old : List Edge) → SkipsTo es old next_new.old.items number → SkipsTo es old next_new.new.items number) }
     ensures len { OnOk result (length next_new.old.items ≤ number → length next_new.new.items ≡ number) }
+    ensures is { OnOk result (IsFilled number next_new.old.items next_new.new.items) }
     ensures memory { IsOkUnless result Fault.Memory }
 {
     while next_new.len() < number {

@@ -6,14 +6,16 @@
 //! says. Two segments are tested against each other in `look` alone, and in `list` where a scan ends, and both count it; that nothing
 //! else tests two uncounted no clause says: it is seen by reading alone.
 
-ghost use Rattle.std.specs.Prelude.{◌≡◌, false, IfOk, OnOk, IsOkUnless};
+ghost use Rattle.std.specs.Prelude.{◌≡◌, ◌||◌, [], Bool, false, IfOk, OnOk, IsOkUnless};
+ghost use Rattle.plane_base.specs.Plane.{Edge};
 ghost use Rattle.plane_base.specs.Crossing.{marks_by};
 ghost use Rattle.segment_split.specs.Passes.{edges_of, marks_in};
-ghost use Rattle.segment_split.specs.SeenPasses.{IsPass};
+ghost use Rattle.segment_split.specs.SeenPasses.{CanBePassed, IsPass};
 ghost use Rattle.segment_split.specs.SegmentViews.{entries_of};
 ghost use Rattle.segment_split.specs.MarkLists.{laid_marks, AreMarks};
-ghost use Rattle.segment_split.specs.Rows.{CountsPairsUpTo};
-ghost use Rattle.segment_split.specs.StepBounds.{most_pairs};
+ghost use Rattle.segment_split.specs.Rows.{CountsPairsUpTo, Finds, IsNewPair, MeetNewWhole, TakesNew};
+ghost use Rattle.segment_split.specs.Mixed.{AreBothNew, TakesBothNew};
+ghost use Rattle.segment_split.specs.StepBounds.{most_pairs, pairs_by};
 ghost use Rattle.segment_split.specs.WholeLaws.{AllMeetWhole};
 
 use crate::count::WindingCount;
@@ -32,6 +34,7 @@ mod look;
 mod rows;
 
 use look::Pass;
+pub(crate) use rows::OffGrid;
 
 // Below so many segments `Auto` takes the list's road.
 const FEW: usize = 64;
@@ -63,6 +66,57 @@ pub(crate) fn find_marks<'a, C: WindingCount, I: OverlayInt, D, L: Ledger>(
         Strategy::Auto if segments.len() >= FEW => rows::find_marks(marks, &pass, steps),
         Strategy::Auto | Strategy::List => list::find_marks(marks, &pass, steps),
     }
+}
+
+// The marks that pairs of a sorted list lay in a pass, if one of the two is new. Whatever segments may be told to be old, and no two of
+// those are looked at. Answers which cross off the grid.
+pub(crate) fn find_marks_of_new<'a, C: WindingCount, I: OverlayInt, D, L: Ledger>(
+    marks: &mut Vec<Mark<I, I::Wide>>,
+    segments: &'a [Segment<C, I, D>],
+    next_new: &'a [usize],
+    precision: Precision,
+    number: usize,
+    steps: &mut Steps<L>,
+) -> Result<OffGrid, Fault>
+    requires { CanBePassed I.least I.greatest C.counting (entries_of I.value segments.now) }
+    ensures found { IfOk result (λ off. Finds I.stride I.least I.greatest (marks_in precision number) (edges_of (entries_of I.value segments.now))
+        (IsNewPair next_new.now) [] (laid_marks I.value I.Wide.number marks.new.items) (off.among_new || off.with_old)) }
+    ensures whole { IfOk result (λ off. off.with_old ≡ false → MeetNewWhole (edges_of (entries_of I.value segments.now)) next_new.now) }
+    ensures memory { IsOkUnless result Fault.Memory }
+    ensures steps { (test : Edge → Edge → Bool) → TakesNew (edges_of (entries_of I.value segments.now)) next_new.now test →
+        CountsPairsUpTo steps.old steps.new (pairs_by test (edges_of (entries_of I.value segments.now))) }
+{
+    marks.clear();
+    let pass = Pass {
+        segments,
+        next_new,
+        rounding: rounding_in(precision, number),
+    };
+    rows::find_marks_of_new(marks, &pass, steps)
+}
+
+// Adds the marks of the pairs of which both are new. Answers whether any of them cross off the grid.
+pub(crate) fn find_marks_among_new<'a, C: WindingCount, I: OverlayInt, D, L: Ledger>(
+    marks: &mut Vec<Mark<I, I::Wide>>,
+    segments: &'a [Segment<C, I, D>],
+    next_new: &'a [usize],
+    precision: Precision,
+    number: usize,
+    steps: &mut Steps<L>,
+) -> Result<bool, Fault>
+    requires { CanBePassed I.least I.greatest C.counting (entries_of I.value segments.now) }
+    ensures found { IfOk result (λ off. Finds I.stride I.least I.greatest (marks_in precision number) (edges_of (entries_of I.value segments.now))
+        (AreBothNew next_new.now) (laid_marks I.value I.Wide.number marks.old.items) (laid_marks I.value I.Wide.number marks.new.items) off) }
+    ensures memory { IsOkUnless result Fault.Memory }
+    ensures steps { (test : Edge → Edge → Bool) → TakesBothNew (edges_of (entries_of I.value segments.now)) next_new.now test →
+        CountsPairsUpTo steps.old steps.new (pairs_by test (edges_of (entries_of I.value segments.now))) }
+{
+    let pass = Pass {
+        segments,
+        next_new,
+        rounding: rounding_in(precision, number),
+    };
+    rows::find_marks_among_new(marks, &pass, steps)
 }
 
 // How a pass rounds crossings.

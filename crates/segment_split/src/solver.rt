@@ -18,7 +18,8 @@ pub enum Strategy {
     /// would.
     Frag,
     /// As `List` in a pass of fewer than 64 segments, else as `Frag`. From 64 segments on a map of horizontal and vertical ones alone
-    /// may be redrawn by one sweep over the lines on which they run, in the place of passes.
+    /// may be redrawn by one sweep over the lines on which they run, in the place of passes. Where a few slanted ones stand among them,
+    /// that sweep may be part of the first pass.
     Auto,
 }
 

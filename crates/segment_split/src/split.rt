@@ -1,5 +1,5 @@
-//! Redrawing: noding on the grid, in passes until one marks nothing, or by a sweep over lines that comes to the same (`level`). A pass
-//! marks (`roads`), cuts (`cutting`) and joins (`merge`).
+//! Redrawing: noding on the grid, in passes until one marks nothing, or by a sweep over lines that comes to the same (`level`), which may
+//! be part of the first pass, too (`mixed`). A pass marks (`roads`), cuts (`cutting`) and joins (`merge`).
 //!
 //! Unlike Hobby's snap rounding it bends a segment only where it cuts it, not to every point near it; what then crosses anew the next
 //! pass cuts. In the first 256 passes a crossing off the grid may go to a near end; each later one that marks anything lowers the sum
@@ -8,17 +8,21 @@
 //! Degenerate cases: equal segments, one line, ends inside of segments, counts that cancel, crossings rounded to an end. A pass takes
 //! the time of its pairs, n log n for what it cut, and a copy of the rest.
 
-ghost use Rattle.std.specs.Prelude.{◌≡◌, ◌<◌, ◌^◌, true, ◌↔◌, [], length, IfOk, IfErr, OnOk, OnErr, IsTrue};
+ghost use Rattle.std.specs.Prelude.{◌≡◌, ◌<◌, ◌^◌, true, false, ◌↔◌, [], length, IfOk, IfErr, OnOk, OnErr, IsTrue};
+ghost use Rattle.i_tree.specs.Steps.{Counts};
 ghost use Rattle.plane_base.specs.Counts.{normal};
 ghost use Rattle.segment_split.specs.Redrawing.{redrawn, IsChanged};
-ghost use Rattle.segment_split.specs.Redraws.{Work, listed, CanBeRedrawn, Redraws, RedrawsGiven, Passes};
+ghost use Rattle.segment_split.specs.Redraws.{Work, Listed, listed, CanBeRedrawn, Redraws, RedrawsGiven, Passes, IsPassedTo};
 ghost use Rattle.segment_split.specs.Groups.{IsRedrawnAlone};
 ghost use Rattle.segment_split.specs.Refusals.{CountsTooMuch, LaysTooMany, IsRefusal};
 ghost use Rattle.segment_split.specs.SeenPasses.{IsPass};
 ghost use Rattle.segment_split.specs.SegmentViews.{entries_of, AreWithin, AreCounted};
 ghost use Rattle.segment_split.specs.Data.{normal_with_data, redrawn_with_data, data_entries_of};
-ghost use Rattle.segment_split.specs.MarkLists.{CountsPairs};
-ghost use Rattle.segment_split.specs.StepBounds.{LooksAtFew};
+ghost use Rattle.segment_split.specs.MarkLists.{laid_marks, AreMarks, CountsPairs};
+ghost use Rattle.segment_split.specs.Passes.{edges_of, marks_in};
+ghost use Rattle.segment_split.specs.Rows.{CountsPairsUpTo};
+ghost use Rattle.segment_split.specs.StepBounds.{most_pairs, LooksAtFew};
+ghost use Rattle.segment_split.specs.WholeLaws.{AllMeetWhole};
 ghost use Rattle.plane_base.specs.Segments.{IsEdgeWithin};
 ghost use Rattle.plane_base.specs.SegmentViews.{edge_of};
 
@@ -35,12 +39,15 @@ use crate::roads::find_marks;
 use crate::segment::Segment;
 use crate::solver::{EARLY_PASSES, Solver};
 use i_tree::Steps;
+use mixed::cross_mixed;
 use plane_base::fault::Fault;
 use plane_base::int::OverlayInt;
 use plane_base::range::is_in_range;
 use plane_base::segment::XSegment;
 use std::alloc::Global;
 use std::sync::ledger::Ledger;
+
+mod mixed;
 
 // No pass may hold so many segments.
 const TOO_MANY: usize = 1 << 31;
@@ -251,26 +258,41 @@ fn redraw_map<C: WindingCount, I: OverlayInt, D: OverlayEdgeData<C>, L: Ledger>(
         room.passes = u64::from(is_marked);
         return Ok(is_marked);
     }
-    redraw_by_passes(segments, pieces, kept, room, solver, store, steps)
+    room.passes = 0;
+    let crossed = cross_mixed(segments, pieces, kept, room, solver, store, steps)?;
+    let Some(passed) = crossed else {
+        room.next_new.clear();
+        let first = NumberedPass { solver, number: 0 };
+        return redraw_by_passes(segments, pieces, kept, room, first, store, steps);
+    };
+    if !passed.is_marked {
+        return Ok(false);
+    }
+    if passed.is_last {
+        return Ok(true);
+    }
+    let second = NumberedPass { solver, number: 1 };
+    redraw_by_passes(segments, pieces, kept, room, second, store, steps)
 }
 
-// Passes until one marks nothing, or the next would not. Answers whether any did.
+// Passes from this one on until one marks nothing, or the next would not. Answers whether any did, those before it among them.
 fn redraw_by_passes<C: WindingCount, I: OverlayInt, D: OverlayEdgeData<C>, L: Ledger>(
     segments: &mut Vec<Segment<C, I, D>>,
     pieces: &mut Vec<Segment<C, I, D>>,
     kept: &mut Vec<Segment<C, I, D>>,
     room: &mut Room<I>,
-    solver: Solver,
+    from: NumberedPass,
     store: &mut D::Store,
     steps: &mut Steps<L>,
 ) -> Result<bool, Fault>
-    requires { CanBeRedrawn I.least I.greatest C.counting (entries_of I.value segments.old.items) }
-    ensures { let work : Work C D = record { kind = C.counting; fits = C.fits; joins = D.JOINS; join = D.join; solver = solver } in
-        Redraws work (listed I.value D.JOINS segments.old.items) (listed I.value D.JOINS segments.new.items) steps.old steps.new result }
+    requires { IsPass I.least I.greatest C.counting (entries_of I.value segments.old.items) room.old.next_new.items }
+    ensures { let work : Work C D = record { kind = C.counting; fits = C.fits; joins = D.JOINS; join = D.join; solver = from.solver } in
+        (given : Listed C D D.JOINS) (first : Counts) →
+        IsPassedTo I.least I.greatest work given (listed I.value D.JOINS segments.old.items) from.number first steps.old →
+        Redraws work given (listed I.value D.JOINS segments.new.items) first steps.new result }
 {
-    room.next_new.clear();
-    room.passes = 0;
-    for k in 0..EARLY_PASSES {
+    let solver = from.solver;
+    for k in from.number..EARLY_PASSES {
         let this = NumberedPass { solver, number: k };
         let passed = pass_once(segments, pieces, kept, room, this, store, steps)?;
         if !passed.is_marked {
@@ -325,6 +347,28 @@ fn pass_once<C: WindingCount, I: OverlayInt, D: OverlayEdgeData<C>, L: Ledger>(
         this.number,
         steps,
     )?;
+    cut_at_marks(segments, pieces, kept, room, this, is_off_grid, store)
+}
+
+// A pass from the marks that all pairs lay.
+fn cut_at_marks<C: WindingCount, I: OverlayInt, D: OverlayEdgeData<C>>(
+    segments: &mut Vec<Segment<C, I, D>>,
+    pieces: &mut Vec<Segment<C, I, D>>,
+    kept: &mut Vec<Segment<C, I, D>>,
+    room: &mut Room<I>,
+    this: NumberedPass,
+    is_off_grid: bool,
+    store: &mut D::Store,
+) -> Result<Passed, Fault>
+    requires can { CanBeRedrawn I.least I.greatest C.counting (entries_of I.value segments.old.items) }
+    requires found { AreMarks I.stride I.least I.greatest (marks_in this.solver.precision this.number) (edges_of (entries_of I.value segments.old.items))
+        (laid_marks I.value I.Wide.number room.old.marks.items) }
+    requires whole { is_off_grid ≡ false → AllMeetWhole (edges_of (entries_of I.value segments.old.items)) }
+    ensures { let work : Work C D = record { kind = C.counting; fits = C.fits; joins = D.JOINS; join = D.join; solver = this.solver } in
+        (before after : Counts) → CountsPairsUpTo before after (most_pairs this.solver.strategy (edges_of (entries_of I.value segments.old.items))) →
+        Passes work this.number (listed I.value D.JOINS segments.old.items) (listed I.value D.JOINS segments.new.items) room.new.next_new.items
+        before after result }
+{
     let is_last = !is_off_grid;
     if room.marks.is_empty() {
         return Ok(Passed {

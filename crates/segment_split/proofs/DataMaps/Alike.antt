@@ -1,14 +1,15 @@
 -- Where data are all alike, a map with data is known by its counts.
-use Rattle.std.proofs.Common.{◌≡◌, Bool, true, false, List, [], ◌∷◌, drop, get_or, ℤ, refl, sym, ap, ap₂, ◌∙◌}
+use Rattle.std.proofs.Common.{◌≡◌, ℕ, Bool, true, false, List, [], ◌∷◌, drop, get_or, ℤ, refl, sym, ap, ap₂, ◌∙◌}
 use Rattle.plane_base.specs.Counts.{Counting, Entry}
 use Rattle.plane_base.proofs.Facts.Maps.Normal.{IsCounting}
-use Rattle.segment_split.specs.Data.{without_data, redrawn_with_data}
+use Rattle.segment_split.specs.Data.{without_data, pass_with_data, redrawn_with_data}
+use Rattle.segment_split.specs.Passes.{pass}
 use Rattle.segment_split.specs.Redrawing.{redrawn}
 use Rattle.segment_split.specs.SegmentViews.{entries_of}
 use Rattle.segment_split.specs.Seen.{Seen, seen_join, seen_entries_of}
 use Rattle.segment_split.specs.declared.segment.Segment.{Segment}
 use Rattle.segment_split.specs.declared.solver.Precision.{Precision}
-use Rattle.segment_split.proofs.DataMaps.Forgets.{forget_redrawn}
+use Rattle.segment_split.proofs.DataMaps.Forgets.{forget_pass, forget_redrawn}
 use Rattle.segment_split.proofs.Seen.{seen_without}
 
 abbrev bare_entry : {C D : Type 0} → Entry (C × D) → Entry C
@@ -45,3 +46,12 @@ module _ {D : Type 0} (alike : (d e : D) → d ≡ e) where
       same_with_data joins (seen_entries_of value joins rs) (redrawn_with_data kind (seen_join joins join) precision (seen_entries_of value joins ss))
       (seen_without value joins rs
       ∙ (h ∙ (ap (redrawn kind precision) (sym (seen_without value joins ss)) ∙ sym (forget_redrawn laws (seen_join joins join) precision (seen_entries_of value joins ss)))))
+
+  -- and so those of the map after a pass
+  pub pass_alike : {C I : Type 0} {order equality part : _} {kind : Counting C} (laws : IsCounting kind) (join : D → D → D) (joins : Bool) (precision : Precision) (value : I → ℤ)
+      (ss rs : List (Segment C I D order equality part)) (k : ℕ) → entries_of value rs ≡ pass kind precision (entries_of value ss) k
+      → seen_entries_of value joins rs ≡ pass_with_data kind (seen_join joins join) precision (seen_entries_of value joins ss) k
+  pass_alike {kind = kind} laws join joins precision value ss rs k h =
+      same_with_data joins (seen_entries_of value joins rs) (pass_with_data kind (seen_join joins join) precision (seen_entries_of value joins ss) k)
+      (seen_without value joins rs
+      ∙ (h ∙ (ap (λ l. pass kind precision l k) (sym (seen_without value joins ss)) ∙ sym (forget_pass laws (seen_join joins join) precision (seen_entries_of value joins ss) k))))

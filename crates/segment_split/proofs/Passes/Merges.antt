@@ -113,7 +113,7 @@ module _ {C : Type 0} where
       (greater_from_less edge_total s e.edge (All-head (IsAbove s) e es h))
       ∙ none_on s es (All-tail (IsAbove s) e es h)
 
-  one_on : (s : Edge) (c : C) (es : List (Entry C)) → IsRising es → count_at es s ≡ Some c → counts_on s es ≡ c ∷ []
+  pub one_on : (s : Edge) (c : C) (es : List (Entry C)) → IsRising es → count_at es s ≡ Some c → counts_on s es ≡ c ∷ []
   one_on s c [] rising h = absurd (cc)
   one_on s c (e ∷ es) rising h = by (is_eq (edge_order e.edge s)) refl h (one_on s c es (rising_rest e es rising))
     where
@@ -126,7 +126,7 @@ module _ {C : Type 0} where
 
 module _ {C : Type 0} {kind : Counting C} (laws : IsCounting kind) where
   -- a count, and what there is beside it
-  abbrev with_total : C → Option C → C
+  abbrev pub with_total : C → Option C → C
   with_total c None = c
   with_total c (Some d) = kind.join c d
 
@@ -141,7 +141,7 @@ module _ {C : Type 0} {kind : Counting C} (laws : IsCounting kind) where
   total_more c d None = sym (total_of c d)
   total_more c d (Some x) = laws.join_assoc c d x ∙ sym (total_of c (kind.join d x))
 
-  all_joined_at : (s : Edge) (c : C) (es : List (Entry C)) → all_joined kind c (counts_on s es) ≡ with_total c (joined_at kind es s)
+  pub all_joined_at : (s : Edge) (c : C) (es : List (Entry C)) → all_joined kind c (counts_on s es) ≡ with_total c (joined_at kind es s)
   all_joined_at s c [] = refl
   all_joined_at s c (e ∷ es) = by (is_eq (edge_order e.edge s)) (all_joined_at s c es) (all_joined_at s (kind.join c e.count) es)
     where

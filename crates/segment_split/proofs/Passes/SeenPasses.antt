@@ -8,9 +8,9 @@ use Rattle.plane_base.specs.Plane.{Edge, is_before, edge_order}
 use Rattle.plane_base.specs.Counts.{Counting, Entry}
 use Rattle.plane_base.specs.Segments.{IsEdgeWithin}
 use Rattle.plane_base.specs.declared.rounding.Rounding.{Rounding}
-use Rattle.segment_split.specs.MarkLists.{IsAt, SkipsOld}
+use Rattle.segment_split.specs.MarkLists.{IsAt}
 use Rattle.segment_split.specs.Passes.{edges_of}
-use Rattle.segment_split.specs.SeenPasses.{SeenPass, seen_pass, IsPass}
+use Rattle.segment_split.specs.SeenPasses.{SeenPass, seen_pass, CanBePassed}
 use Rattle.segment_split.proofs.Passes.MarkLists.{edges_rising, edges_directed, edge_read}
 
 -- The pass is seen so, over these entries.
@@ -23,10 +23,9 @@ pub record IsSeen (least greatest : ℤ) {C : Type 0} (entries : List (Entry C))
   pub within : All (IsEdgeWithin least greatest) pass.edges
   pub rising : AllPairs (λ s t. edge_order s t ≡ Less) pass.edges
   pub directed : All (λ s. is_before s.a s.b ≡ true) pass.edges
-  pub skips : SkipsOld pass.edges pass.next_new
 
 pub pass_seen : {C : Type 0} {kind : Counting C} {least greatest : ℤ} {entries : List (Entry C)} {next_new : List ℕ} {rounding : Rounding} {pass : SeenPass}
-    → IsPass least greatest kind entries next_new → seen_pass entries next_new rounding ≡ pass → IsSeen least greatest entries next_new rounding pass
+    → CanBePassed least greatest kind entries → seen_pass entries next_new rounding ≡ pass → IsSeen least greatest entries next_new rounding pass
 pass_seen {C} {kind} {least} {greatest} {entries} {next_new} {rounding} {pass} h is = subst (IsSeen least greatest entries next_new rounding) is (record {
   edges = refl;
   told = refl;
@@ -36,7 +35,6 @@ pass_seen {C} {kind} {least} {greatest} {entries} {next_new} {rounding} {pass} h
   within = All-map (IsEdgeWithin least greatest) (λ e. e.edge) entries h.within;
   rising = edges_rising entries h.normal;
   directed = edges_directed entries h.normal;
-  skips = h.skips;
 })
 
 -- ---- as its segments are read

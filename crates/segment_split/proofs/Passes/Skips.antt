@@ -1,12 +1,12 @@
 -- Which edges are old, told by the next new one of each.
 use Rattle.std.specs.Prelude.{◌≡◌, ◌⊎◌, ℕ, zero, suc, ◌+◌, ◌<◌, ◌≤◌, List, [], ◌∷◌, ◌++◌, length, slice_index_or, Contains, All}
 use Rattle.std.proofs.Common.{refl, sym, ap, ◌∙◌, subst, inl, inr, ⊎_elim, append_assoc, append-nil, arith}
-use Rattle.std.proofs.lemmas.List.{get_or_at, length-append}
-use Rattle.std.proofs.lemmas.Bool.{cases_order}
+use Rattle.std.proofs.lemmas.List.{get_or_at, get_or_append_left, get_or_push, length-append}
+use Rattle.std.proofs.lemmas.Bool.{cases_lt, cases_order}
 use Rattle.std.proofs.lemmas.List.Elements.{All-head, All-tail, All-contains}
 use Rattle.plane_base.specs.Plane.{Edge}
 use Rattle.segment_split.specs.Passes.{marks_in, marks_on}
-use Rattle.segment_split.specs.MarkLists.{IsAt, AreUnmarked, AllParted, SkipsOld, SkipsTo, IsTold}
+use Rattle.segment_split.specs.MarkLists.{IsAt, IsFilled, AreUnmarked, AllParted, SkipsOld, SkipsTo, IsTold}
 use Rattle.segment_split.specs.declared.solver.Precision.{Precision}
 use Rattle.segment_split.proofs.Passes.OldPairs.{old_pairs_parted}
 use Rattle.segment_split.proofs.Passes.MarkLists.{at_same}
@@ -28,6 +28,28 @@ none_old es = record {
   parted = λ s t at. let l : at.0 < 0 = at.1 in absurd (omega (arith, l));
   passed = λ j n t l m. absurd (omega (arith, l, m));
 }
+
+-- ---- lists that are filled
+
+pub filled_none : (number : ℕ) (ns : List ℕ) → IsFilled number ns ns
+filled_none number ns = record { kept = λ n d l. refl; filled = λ n d l m. absurd (omega (arith, l, m)); longer = omega arith }
+
+pub filled_more : (number : ℕ) (old now more : List ℕ) → more ≡ now ++ number ∷ [] → IsFilled number old now → IsFilled number old more
+filled_more number old now more is h = record {
+  kept = λ n d l. ap (λ ns. slice_index_or ns n d) is ∙ (get_or_append_left now (number ∷ []) d n (omega (arith, l, h.longer)) ∙ h.kept n d l);
+  filled = λ n d l m. ap (λ ns. slice_index_or ns n d) is ∙ by n d l (omega (arith, m, more_by)) (read_pushed now number n d) (cases_lt n (length now));
+  longer = let l = h.longer in omega (arith, l, more_by);
+}
+  where
+    more_by : length more ≡ length now + 1
+    more_by = ap length is ∙ length_pushed now number
+
+    by : (n d : ℕ) → length old ≤ n → n < length now + 1
+        → (slice_index_or (now ++ number ∷ []) n d ≡ slice_index_or now n d) ⊎ ((n ≡ length now) × (slice_index_or (now ++ number ∷ []) n d ≡ number))
+        → (n < length now) ⊎ (length now ≤ n) → slice_index_or (now ++ number ∷ []) n d ≡ number
+    by n d l m (inr e) side = e.1
+    by n d l m (inl e) (inl c) = e ∙ h.filled n d l c
+    by n d l m (inl e) (inr c) = get_or_push now number d n (omega (arith, m, c))
 
 -- edges that a pass left unmarked
 pub unmarked_parted : (precision : Precision) (k : ℕ) (es kept : List Edge) → AreUnmarked (marks_in precision k) es kept → AllParted kept

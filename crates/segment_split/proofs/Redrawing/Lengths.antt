@@ -7,12 +7,14 @@ use Rattle.std.proofs.lemmas.List.{length-append}
 use Rattle.std.proofs.lemmas.List.Concat.{length-flat_map}
 use Rattle.std.proofs.lemmas.List.Sums.{sum_by-cons}
 use Rattle.std.proofs.lemmas.List.Elements.{All-head, All-tail, All-weaker}
-use Rattle.plane_base.specs.Plane.{Point, is_before, point_order}
+use Rattle.plane_base.specs.Plane.{Point, Edge, is_before, point_order}
 use Rattle.plane_base.specs.Counts.{Counting, Entry, IsNormal, lay}
 use Rattle.plane_base.specs.Given.{laid_path}
+use Rattle.plane_base.specs.Crossing.{Marks}
+use Rattle.plane_base.proofs.Facts.Maps.Laying.{IsDirected}
 use Rattle.plane_base.proofs.Facts.Points.Orders.{point_equal, point_itself, before_is_less}
 use Rattle.segment_split.specs.Paths.{along}
-use Rattle.segment_split.specs.Passes.{edges_of, marks_in, marks_on, cut}
+use Rattle.segment_split.specs.Passes.{edges_of, marks_in, marks_on, cut, all_cut}
 use Rattle.segment_split.specs.Refusals.{steps_in, LaysTooMany}
 use Rattle.segment_split.specs.declared.solver.Precision.{Precision}
 
@@ -62,13 +64,16 @@ module _ {C : Type 0} (kind : Counting C) where
       let parts = sum_by-cons (λ e. length (f e)) e es in
       omega (arith, own, rest, parts)
 
-  pub no_fewer_steps : (precision : Precision) (k : ℕ) (es : List (Entry C)) → IsNormal kind es → length es ≤ length (steps_in kind precision es k)
-  no_fewer_steps precision k es h =
-      let f = cut kind (marks_in precision k) (edges_of es) in
+  pub no_fewer_cuts : (marks : Edge → Edge → Marks) (ss : List Edge) (es : List (Entry C)) → IsDirected es → length es ≤ length (all_cut kind marks ss es)
+  no_fewer_cuts marks ss es directed =
+      let f = cut kind marks ss in
       let all = length-flat_map f es in
       let each = each_lays f es (All-weaker (λ e. is_before e.edge.a e.edge.b ≡ true) (λ e. 1 ≤ length (f e))
-      (λ e ahead. path_lays e.count (along e.edge (marks_on (marks_in precision k) (edges_of es) e.edge)) e.edge.a e.edge.b (ends_differ e.edge.a e.edge.b ahead)) es h.directed) in
+      (λ e ahead. path_lays e.count (along e.edge (marks_on marks ss e.edge)) e.edge.a e.edge.b (ends_differ e.edge.a e.edge.b ahead)) es directed) in
       omega (arith, all, each)
+
+  pub no_fewer_steps : (precision : Precision) (k : ℕ) (es : List (Entry C)) → IsNormal kind es → length es ≤ length (steps_in kind precision es k)
+  no_fewer_steps precision k es h = no_fewer_cuts (marks_in precision k) (edges_of es) es h.directed
 
   pub too_many_given : (precision : Precision) (es : List (Entry C)) → IsNormal kind es → 2 ^ 31 ≤ length es → LaysTooMany kind precision es
   too_many_given precision es h many = let steps = no_fewer_steps precision 0 es h in (0, omega (arith, many, steps))

@@ -5,7 +5,7 @@ use Rattle.std.proofs.lemmas.Bool.{cases_lt}
 use Rattle.i_tree.specs.Steps.{Counts}
 use Rattle.plane_base.specs.Counts.{Counting, Entry}
 use Rattle.segment_split.specs.Passes.{early_passes, edges_of, marks_in, MarksSome}
-use Rattle.segment_split.specs.Redrawing.{iterate, MarksInPass}
+use Rattle.segment_split.specs.Redrawing.{iterate, MarksInPass, AllMarkedBefore}
 use Rattle.segment_split.specs.MarkLists.{CountsPairs}
 use Rattle.segment_split.specs.Rows.{CountsPairsUpTo}
 use Rattle.segment_split.specs.StepBounds.{most_pairs, pairs_in_passes, looks_in_passes, LooksAtFew}
@@ -17,14 +17,10 @@ pub counted : (old new : Counts) (n : ℕ) → CountsPairsUpTo old new n → Cou
 counted old new n h = record { comparisons = h.comparisons; pairs = h.pairs }
 
 module _ {C : Type 0} (by : Strategy) (kind : Counting C) (precision : Precision) (es : List (Entry C)) where
-  -- each pass that marks nothing is this one or a later one
-  abbrev pub AllMarkedBefore : ℕ → Type 0
-  AllMarkedBefore k = (n : ℕ) → (MarksInPass kind precision es n → ⊥) → k ≤ n
-
-  pub none_before : AllMarkedBefore 0
+  pub none_before : AllMarkedBefore kind precision es 0
   none_before n none = omega arith
 
-  pub one_marked_more : (k : ℕ) → MarksInPass kind precision es k → AllMarkedBefore k → AllMarkedBefore (k + 1)
+  pub one_marked_more : (k : ℕ) → MarksInPass kind precision es k → AllMarkedBefore kind precision es k → AllMarkedBefore kind precision es (k + 1)
   one_marked_more k marks before n none = at (cases_lt k n)
     where
       at : (k < n) ⊎ (n ≤ k) → k + 1 ≤ n
@@ -73,7 +69,7 @@ module _ {C : Type 0} (by : Strategy) (kind : Counting C) (precision : Precision
     looked_further m e = subst (λ m. CountsPairsUpTo first next (pairs_in_passes by kind precision es m)) (sym e) through
 
     -- in pass k or after it
-    pub looks_few : AllMarkedBefore k → LooksAtFew by kind precision es first next
+    pub looks_few : AllMarkedBefore kind precision es k → LooksAtFew by kind precision es first next
     looks_few before =
         let many = next.pairs - first.pairs in
         record {

@@ -16,7 +16,7 @@ use Rattle.segment_split.specs.Redrawing.{iterate, redrawn, spread, MarksInPass}
 use Rattle.segment_split.specs.RedrawLaws.{marks_some, Bounds, LiesWithin, EndsLieWithin}
 use Rattle.segment_split.specs.SegmentViews.{AreWithin}
 use Rattle.segment_split.specs.declared.solver.Precision.{Precision}
-use Rattle.segment_split.proofs.Redrawing.Iterates.{iterate_normal, leaves_as_it_is}
+use Rattle.segment_split.proofs.Redrawing.Iterates.{leaves_as_it_is}
 use Rattle.segment_split.proofs.Passes.Laws.{pass_rearranges}
 use Rattle.segment_split.proofs.Passes.Unmarked.{unmarked_meets, meets_unmarked, unless_parted, flat_map_none, marks_known, some_by_test}
 use Rattle.segment_split.proofs.Passes.OldPairs.{old_pairs_parted}
@@ -30,9 +30,9 @@ All-of_map P f [] h = All-nil (λ y. P (f y))
 All-of_map P f (y ∷ ys) h = All-cons (λ y. P (f y)) y ys (All-head P (f y) (map f ys) h) (All-of_map P f ys (All-tail P (f y) (map f ys) h))
 
 module _ {C : Type 0} (kind : Counting C) (precision : Precision) where
-  -- the map before a pass is a map
-  pub normal_now : (es now : List (Entry C)) (n : ℕ) → IsNormal kind es → now ≡ iterate kind precision es n → IsNormal kind now
-  normal_now es now n h here = subst (IsNormal kind) (sym here) (iterate_normal kind precision es n h)
+  -- the map after a pass is a map
+  pub next_normal : (now next : List (Entry C)) (k : ℕ) → IsNormal kind now → next ≡ pass kind precision now k → IsNormal kind next
+  next_normal now next k h passed = subst (IsNormal kind) (sym passed) ((pass_rearranges kind precision k).is_normal now h)
 
   -- where a pass marks nothing, the map before it is the redrawn one
   pub redrawn_before : (es now : List (Entry C)) (n : ℕ) → IsNormal kind es → now ≡ iterate kind precision es n
@@ -56,12 +56,10 @@ module _ {C : Type 0} (kind : Counting C) (precision : Precision) where
       passed ∙ (ap (λ m. pass_by kind m now) (sym (late_alike n late)) ∙ ap (λ l. pass kind precision l n) here)
 
   -- a late pass that marks lowers the spread
-  pub late_lower : (es now next : List (Entry C)) (n : ℕ) → IsNormal kind es → now ≡ iterate kind precision es n
-      → MarksSome (marks_in precision early_passes) (edges_of now) → next ≡ pass kind precision now early_passes
-      → spread (edges_of next) < spread (edges_of now)
-  late_lower es now next n h here some passed =
-      let normal_now : IsNormal kind now = subst (λ l. IsNormal kind l) (sym here) (iterate_normal kind precision es n h) in
-      let less : spread (edges_of (pass kind precision now early_passes)) + 2 ≤ spread (edges_of now) = (late_passes_lower kind).by_two precision now early_passes normal_now (omega arith) some in
+  pub late_lower : (now next : List (Entry C)) → IsNormal kind now → MarksSome (marks_in precision early_passes) (edges_of now)
+      → next ≡ pass kind precision now early_passes → spread (edges_of next) < spread (edges_of now)
+  late_lower now next h some passed =
+      let less : spread (edges_of (pass kind precision now early_passes)) + 2 ≤ spread (edges_of now) = (late_passes_lower kind).by_two precision now early_passes h (omega arith) some in
       let same : spread (edges_of next) ≡ spread (edges_of (pass kind precision now early_passes)) = ap (λ l. spread (edges_of l)) passed in
       omega (arith, less, same)
 

@@ -1,33 +1,39 @@
 -- Pass after pass: what is known before each, and how the last one ends it.
-use Rattle.std.specs.Prelude.{◌≡◌, ◌<◌, ◌≤◌, ◌^◌, ◌↔◌, ◌+◌, ℕ, suc, Bool, true, List, length, flat_map, Ok, Err}
+use Rattle.std.specs.Prelude.{◌≡◌, ◌<◌, ◌≤◌, ◌^◌, ◌↔◌, ◌+◌, ℕ, suc, Bool, true, false, List, length, flat_map, Ok, Err}
 use Rattle.std.proofs.Common.{refl, sym, ap, ◌∙◌, subst, arith}
+use Rattle.std.proofs.lemmas.Bool.{false≢true}
 use Rattle.i_tree.specs.Steps.{Counts}
 use Rattle.plane_base.proofs.Facts.Maps.Normal.{IsCounting}
-use Rattle.plane_base.specs.Counts.{IsNormal}
+use Rattle.plane_base.specs.Counts.{Counting, Entry, IsNormal}
 use Rattle.plane_base.specs.declared.fault.Fault.{Fault}
 use Rattle.segment_split.specs.Data.{carried, without_data, normal_with_data, pass_with_data, iterate_with_data}
 use Rattle.segment_split.specs.Passes.{edges_of, marks_in, MarksSome, cut, pass_by, pass}
-use Rattle.segment_split.specs.Redrawing.{iterate, MarksInPass}
-use Rattle.segment_split.specs.Redraws.{Work, Listed, Redraws}
+use Rattle.segment_split.specs.Redrawing.{iterate, MarksInPass, AllMarkedBefore}
+use Rattle.segment_split.specs.RedrawLaws.{marks_some}
+use Rattle.segment_split.specs.Redraws.{Work, Listed, Redraws, IsBefore}
 use Rattle.segment_split.specs.Refusals.{steps_in, IsOverfull, IsRefusal}
 use Rattle.segment_split.specs.Rows.{CountsPairsUpTo}
 use Rattle.segment_split.specs.Seen.{seen_join}
 use Rattle.segment_split.specs.StepBounds.{most_pairs, pairs_in_passes, LooksAtFew}
 use Rattle.segment_split.specs.WholeLaws.{AllMeetWhole}
 use Rattle.segment_split.specs.MarkLists.{CountsPairs}
+use Rattle.segment_split.specs.declared.solver.Precision.{Precision}
 use Rattle.segment_split.proofs.DataMaps.Rests.{redrawn_data_before, redrawn_data_after, early_data_further}
 use Rattle.segment_split.proofs.Passes.MarkLists.{counts_more}
+use Rattle.segment_split.proofs.Passes.Unmarked.{some_by_test}
 use Rattle.segment_split.proofs.Redrawing.Loops.{redrawn_before, redrawn_after, early_further}
-use Rattle.segment_split.proofs.Redrawing.Looks.{counted, AllMarkedBefore, one_marked_more, marks_here, looked_further, looks_few}
+use Rattle.segment_split.proofs.Redrawing.Looks.{counted, one_marked_more, marks_here, looked_further, looks_few}
 use Rattle.segment_split.proofs.Redrawing.Redraws.{refuses}
 use Rattle.segment_split.proofs.Redrawing.Refusals.{handed_on}
 
--- The list is that before pass n, each pass before it marked, and so many pairs were looked at as these may.
-pub record IsBefore {C D : Type 0} (work : Work C D) (old now : Listed C D work.joins) (n : ℕ) (first last : Counts) : Type 0 where
-  pub entries : now.entries ≡ iterate work.kind work.solver.precision old.entries n
-  pub seen : now.seen ≡ iterate_with_data work.kind (seen_join work.joins work.join) work.solver.precision old.seen n
-  pub looks : CountsPairsUpTo first last (pairs_in_passes work.solver.strategy work.kind work.solver.precision old.entries n)
-  pub marked : AllMarkedBefore work.solver.strategy work.kind work.solver.precision old.entries n
+-- Where passes were made before this one, the first marks.
+pub first_before : {C : Type 0} (kind : Counting C) (precision : Precision) (es : List (Entry C)) (n : ℕ) → AllMarkedBefore kind precision es n → 0 < n
+    → MarksInPass kind precision es 0
+first_before kind precision es n before some = by (marks_some (marks_in precision 0) (edges_of es)) refl
+  where
+    by : (b : Bool) → marks_some (marks_in precision 0) (edges_of es) ≡ b → MarksInPass kind precision es 0
+    by true e = (some_by_test (marks_in precision 0) (edges_of es)).0 e
+    by false e = let none = before 0 (λ m. false≢true (sym e ∙ (some_by_test (marks_in precision 0) (edges_of es)).1 m)) in absurd (omega (arith, some, none))
 
 -- A pass is made as that of the number k, which marks as pass n does.
 module _ {C D : Type 0} (work : Work C D) (laws : IsCounting work.kind) (old now next : Listed C D work.joins) (n k : ℕ)
@@ -94,7 +100,7 @@ module _ {C D : Type 0} (work : Work C D) (laws : IsCounting work.kind) (old now
           seen = early_data_further laws join work.solver.precision old.seen now.seen n next.seen m e before.seen
               (passed_seen ∙ ap (λ marks. normal_with_data work.kind join (flat_map (cut (carried work.kind join) marks (edges_of now.seen)) now.seen)) number);
           looks = looked_further work.solver.strategy work.kind work.solver.precision old.entries now.entries n before.entries first last after before.looks own m e;
-          marked = subst (AllMarkedBefore work.solver.strategy work.kind work.solver.precision old.entries) one
+          marked = subst (AllMarkedBefore work.kind work.solver.precision old.entries) one
               (one_marked_more work.solver.strategy work.kind work.solver.precision old.entries n marks_then before.marked);
         }
 

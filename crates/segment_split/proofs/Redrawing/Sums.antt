@@ -77,7 +77,7 @@ module _ {C : Type 0} {kind : Counting C} {fits : C → Bool} {of : ℤ → ℤ 
   joined_read c [] = refl
   joined_read c (d ∷ ds) = joined_read (boolean.join c d) ds ∙ ap (λ x. all_joined kind x (map (of_count of) ds)) (added.map.of_join c d)
 
-  overfull_read : (fs : List (Entry Count)) → IsOverfull boolean count_fits fs → IsOverfull kind fits (counted fs)
+  pub overfull_read : (fs : List (Entry Count)) → IsOverfull boolean count_fits fs → IsOverfull kind fits (counted fs)
   overfull_read fs over = record {
     edge = over.edge;
     ordered = counted over.ordered;

@@ -1,5 +1,5 @@
 -- What is found by holding pairs against each other, in any order.
-use Rattle.std.specs.Prelude.{◌≡◌, ◌||◌, ◌⊎◌, ℕ, ◌<◌, ◌≤◌, ℤ, Bool, true, false, List, [], ◌∷◌, ◌++◌, length, slice_index_or, All, AllPairs, Contains}
+use Rattle.std.specs.Prelude.{◌≡◌, ◌||◌, ◌⊎◌, ℕ, ◌<◌, ◌≤◌, ℤ, Bool, true, false, not, List, [], ◌∷◌, ◌++◌, length, slice_index_or, All, AllPairs, Contains}
 use Rattle.std.specs.declared.cmp.Ordering.TheVariants.{Less}
 use Rattle.std.proofs.Common.{refl, sym, ap, ap₂, ◌∙◌, subst, inl, inr, arith}
 use Rattle.std.proofs.lemmas.Bool.{cases_order}
@@ -16,7 +16,7 @@ use Rattle.plane_base.proofs.Facts.Crossings.Steps.{parted_on_grid}
 use Rattle.plane_base.proofs.Facts.Crossings.Whole.{whole_marks_stay}
 use Rattle.segment_split.specs.Passes.{marks_on}
 use Rattle.segment_split.specs.MarkLists.{LaidMark, laid_on, IsAt, IsLaid, HasMark, HasPair, IsFound, AreMarks, SkipsOld}
-use Rattle.segment_split.specs.Rows.{Finds}
+use Rattle.segment_split.specs.Rows.{is_old, Finds, CrossWhole, MeetNewWhole}
 use Rattle.segment_split.specs.WholeLaws.{AllMeetWhole}
 use Rattle.segment_split.proofs.Passes.Unmarked.{parted_itself}
 use Rattle.segment_split.proofs.Passes.MarkLists.{flat_map_has, at_same, at_contains, contains_at, rises, turned, has_more, laid_in, laid_only, none_found, told_first, told_second, on_grid_whole}
@@ -69,7 +69,42 @@ module _ (stride least greatest : ℤ) (rounding : Rounding) (es : List Edge) wh
       by i j s t (inl p) at there = first i j s t (h.found i j s t p at there)
       by i j s t (inr p) at there = let f = more.found i j s t p at there in record { has = f.has; whole = λ e. f.whole (told_second off own (sym tells ∙ e)) }
 
+-- in either order
+pub kinds_whole : (es : List Edge) (next_new : List ℕ) → ((i j : ℕ) (s t : Edge) → i < j → IsAt es i s → IsAt es j t → is_old next_new i ≡ not (is_old next_new j) → MeetsWhole s t) → MeetNewWhole es next_new
+kinds_whole es next_new ordered i j s t at there differ = by (cases_order i j)
+  where
+    turned_round : (a b : Bool) → a ≡ not b → b ≡ not a
+    turned_round a true e = sym (ap not e)
+    turned_round a false e = sym (ap not e)
+
+    unlike : (b : Bool) → b ≡ not b → ⊥
+    unlike true e = absurd (cc)
+    unlike false e = absurd (cc)
+
+    by : (i ≡ j) ⊎ ((i < j) ⊎ (j < i)) → MeetsWhole s t
+    by (inl e) = absurd (unlike (is_old next_new i) (differ ∙ ap (λ n. not (is_old next_new n)) (sym e)))
+    by (inr (inl l)) = ordered i j s t l at there differ
+    by (inr (inr l)) = whole_marks_stay.swapped t s (ordered j i t s l there at (turned_round (is_old next_new i) (is_old next_new j) differ))
+
 module _ (stride least greatest : ℤ) (rounding : Rounding) (es : List Edge) (rising : AllPairs (λ s t. edge_order s t ≡ Less) es) where
+  -- the same of more pairs, where what wasn't looked at lays nothing
+  pub finds_more : (pairs more : ℕ → ℕ → Type 0) → ((i j : ℕ) (s t : Edge) → more i j → IsAt es i s → IsAt es j t → pairs i j ⊎ (marks_by rounding s t ≡ no_marks))
+      → (old new : List LaidMark) (off : Bool) → Found stride least greatest rounding es pairs old new off → Found stride least greatest rounding es more old new off
+  finds_more pairs more each old new off h = record {
+    only = h.only;
+    keeps = h.keeps;
+    found = λ i j s t p at there. by i j s t at there (each i j s t p at there);
+  }
+    where
+      by : (i j : ℕ) (s t : Edge) → IsAt es i s → IsAt es j t → pairs i j ⊎ (marks_by rounding s t ≡ no_marks) → IsFound (marks_by rounding) new off i s j t
+      by i j s t at there (inl p) = h.found i j s t p at there
+      by i j s t at there (inr none) = none_found stride least greatest rounding es rising new off i s j t none
+
+  -- pairs that were looked at, or lay nothing, meet whole where none was told to cross off the grid
+  pub whole_or_none : (pairs : ℕ → ℕ → Type 0) → CrossWhole es pairs → (i j : ℕ) (s t : Edge) → IsAt es i s → IsAt es j t → pairs i j ⊎ (marks_by rounding s t ≡ no_marks) → MeetsWhole s t
+  whole_or_none pairs whole i j s t at there (inl p) = on_grid_whole s t (whole i j s t p at there)
+  whole_or_none pairs whole i j s t at there (inr none) = on_grid_whole s t ((none_found stride least greatest rounding es rising [] false i s j t none).whole refl)
+
   -- a parted pair lays nothing
   pub finds_parted : (i j : ℕ) (s t : Edge) → IsAt es i s → IsAt es j t → (laid : List LaidMark) → parted s t ≡ true
       → Found stride least greatest rounding es (λ i' j'. (i' ≡ i) × (j' ≡ j)) laid laid false

@@ -1,5 +1,5 @@
 -- Rows of y, and the places of segments in them.
-use Rattle.std.specs.Prelude.{◌≡◌, ◌⊎◌, ℕ, zero, suc, cond, ◌+◌, ◌-◌, ◌*◌, ◌/◌, ◌%◌, ◌<◌, ◌≤◌, ℤ, pos, negsuc, ◌-ℤ◌, ◌≤ℤ◌, ◌<ℤ◌, List, [], ◌∷◌, ◌++◌, length, All, AllPairs, Contains, IsPermutation, slice_index_or, true, false, Bool, not, ⊤, count_by, int_le}
+use Rattle.std.specs.Prelude.{◌≡◌, ◌&&◌, ◌⊎◌, ℕ, zero, suc, cond, ◌+◌, ◌-◌, ◌*◌, ◌/◌, ◌%◌, ◌<◌, ◌≤◌, ℤ, pos, negsuc, ◌-ℤ◌, ◌≤ℤ◌, ◌<ℤ◌, List, [], ◌∷◌, ◌++◌, length, All, AllPairs, Contains, IsPermutation, slice_index_or, true, false, Bool, not, ⊤, count_by, int_le}
 use Rattle.std.specs.Int.{int_min, int_max, int_gap}
 use Rattle.std.specs.List.Sorted.{IsNonDecreasing}
 use Rattle.std.specs.declared.cmp.Ordering.TheVariants.{Less}
@@ -17,7 +17,7 @@ use Rattle.plane_base.proofs.Facts.Points.Orders.{less_then, point_less_x, point
 use Rattle.plane_base.specs.Crossing.{no_marks, marks_by}
 use Rattle.plane_base.proofs.Facts.Crossings.Place.{min_first, max_first}
 use Rattle.segment_split.specs.MarkLists.{IsAt, SkipsOld}
-use Rattle.segment_split.specs.Rows.{row_of, lowest_row, highest_row, place_in, places_from, IsNumbered, ArePlaces, AreRows, IsPlaced, AddsPart, AddsNear, ComesTo, is_old, MeetsNew, ArePlaced, IsFirstAfter, AreReaches, LiesOnward, reach_of, reaches_of, Follows, FollowsInRows, FollowsIn, FollowsAmong}
+use Rattle.segment_split.specs.Rows.{row_of, lowest_row, highest_row, place_in, places_from, IsNumbered, ArePlaces, AreRows, IsPlaced, AddsPart, AddsNear, ComesTo, is_old, MeetsNew, ArePlaced, IsFirstAfter, AreReaches, LiesOnward, reach_of, reaches_of, Follows, FollowsInRows, FollowsIn, FollowsBetween, FollowsAmong, IsNewPair}
 use Rattle.plane_base.specs.declared.rounding.Rounding.{Rounding}
 use Rattle.plane_base.proofs.Facts.Crossings.Roundings.{unmarked_apart, unless_parted}
 use Rattle.plane_base.proofs.Facts.Crossings.Onward.{onward_parted}
@@ -423,8 +423,8 @@ module _ (stride first last : ℤ) (rounding : Rounding) (es : List Edge) (risin
     pass = λ r l m n. h.pass r l m (fewer r n);
   }
 
-  -- old ones among themselves lay nothing
-  module _ (next_new : List ℕ) (skips : SkipsOld es next_new) (begins passes old_begins old_passes : List ℕ) (placed : ArePlaced least width es next_new (length es) begins passes old_begins old_passes) where
+  -- two of which one is new at least
+  module _ (next_new : List ℕ) (begins passes old_begins old_passes : List ℕ) (placed : ArePlaced least width es next_new (length es) begins passes old_begins old_passes) where
     fresh : (i : ℕ) (s : Edge) → IsAt es i s → is_old next_new i ≡ false → (t : Edge) → IsPlaced (Reached t) least width begins passes i s
     fresh i s at new t = nearer (Reached t) (λ r. ⊤) (λ r h. tt) begins passes i s (placed.fresh.placed i s at.0 at (ap not new))
 
@@ -451,13 +451,41 @@ module _ (stride first last : ℤ) (rounding : Rounding) (es : List Edge) (risin
           nearer (Reached s) (MeetsNew least width es next_new t) (λ r h. record { number = i; edge = s; at = at; new = new; low = h.0; high = h.1; left = left; right = right near }) old_begins old_passes j t
           (placed.old.placed j t there.0 there old)
 
-      pub pairs_met : FollowsAmong reaches begins passes old_begins old_passes i j ⊎ (marks_by rounding s t ≡ no_marks)
-      pairs_met = by (cases_Bool (is_old next_new i)) (cases_Bool (is_old next_new j))
+      pub both_new : is_old next_new i ≡ false → is_old next_new j ≡ false → FollowsInRows reaches begins passes begins passes i j ⊎ (marks_by rounding s t ≡ no_marks)
+      both_new own other = met_in_rows i j s t before at there begins passes begins passes (λ _. fresh i s at own t) (λ _. fresh j t there other s)
+
+      new_and_old : is_old next_new i ≡ false → is_old next_new j ≡ true → FollowsInRows reaches begins passes old_begins old_passes i j ⊎ (marks_by rounding s t ≡ no_marks)
+      new_and_old own other = met_in_rows i j s t before at there begins passes old_begins old_passes (λ _. fresh i s at own t) (old_second own other)
+
+      old_and_new : is_old next_new i ≡ true → is_old next_new j ≡ false → FollowsInRows reaches old_begins old_passes begins passes i j ⊎ (marks_by rounding s t ≡ no_marks)
+      old_and_new own other = met_in_rows i j s t before at there old_begins old_passes begins passes (old_first own other) (λ _. fresh j t there other s)
+
+      -- one of the two is new, and the other old
+      pub kinds_met : is_old next_new i ≡ not (is_old next_new j) → FollowsBetween reaches begins passes old_begins old_passes i j ⊎ (marks_by rounding s t ≡ no_marks)
+      kinds_met differ = by (is_old next_new i) (is_old next_new j) refl refl differ
         where
-          by : (is_old next_new i ≡ true) ⊎ (is_old next_new i ≡ false) → (is_old next_new j ≡ true) ⊎ (is_old next_new j ≡ false)
-              → FollowsAmong reaches begins passes old_begins old_passes i j ⊎ (marks_by rounding s t ≡ no_marks)
-          by (inr own) (inr other) = ⊎_elim (λ h. inl (inl (inl h))) inr (met_in_rows i j s t before at there begins passes begins passes (λ _. fresh i s at own t) (λ _. fresh j t there other s))
-          by (inr own) (inl other) = ⊎_elim (λ h. inl (inl (inr h))) inr (met_in_rows i j s t before at there begins passes old_begins old_passes (λ _. fresh i s at own t) (old_second own other))
-          by (inl own) (inr other) = ⊎_elim (λ h. inl (inr h)) inr (met_in_rows i j s t before at there old_begins old_passes begins passes (old_first own other) (λ _. fresh j t there other s))
-          by (inl own) (inl other) =
-              inr (old_none stride first last rounding es rising next_new skips i s at (ltb-true i (slice_index_or next_new i i) own) j j t (omega arith) (ltb-true j (slice_index_or next_new j j) other) there)
+          by : (a b : Bool) → is_old next_new i ≡ a → is_old next_new j ≡ b → a ≡ not b → FollowsBetween reaches begins passes old_begins old_passes i j ⊎ (marks_by rounding s t ≡ no_marks)
+          by false true own other e = ⊎_elim (λ h. inl (inl h)) inr (new_and_old own other)
+          by true false own other e = ⊎_elim (λ h. inl (inr h)) inr (old_and_new own other)
+          by true true own other e = absurd (cc)
+          by false false own other e = absurd (cc)
+
+      pub new_pairs_met : (is_old next_new i && is_old next_new j) ≡ false → FollowsAmong reaches begins passes old_begins old_passes i j ⊎ (marks_by rounding s t ≡ no_marks)
+      new_pairs_met new = by (is_old next_new i) (is_old next_new j) refl refl new
+        where
+          by : (a b : Bool) → is_old next_new i ≡ a → is_old next_new j ≡ b → (a && b) ≡ false → FollowsAmong reaches begins passes old_begins old_passes i j ⊎ (marks_by rounding s t ≡ no_marks)
+          by false false own other e = ⊎_elim (λ h. inl (inl (inl h))) inr (both_new own other)
+          by false true own other e = ⊎_elim (λ h. inl (inl (inr h))) inr (new_and_old own other)
+          by true false own other e = ⊎_elim (λ h. inl (inr h)) inr (old_and_new own other)
+          by true true own other e = absurd (cc)
+
+-- two of which none is new lay nothing, where old ones are parted
+module _ (stride first last : ℤ) (rounding : Rounding) (es : List Edge) (rising : AllPairs (λ s t. edge_order s t ≡ Less) es) where
+  pub new_or_parted : (next_new : List ℕ) → SkipsOld es next_new → (i j : ℕ) (s t : Edge) → i < j → IsAt es i s → IsAt es j t → IsNewPair next_new i j ⊎ (marks_by rounding s t ≡ no_marks)
+  new_or_parted next_new skips i j s t before at there = by (is_old next_new i) (is_old next_new j) refl refl
+    where
+      by : (a b : Bool) → is_old next_new i ≡ a → is_old next_new j ≡ b → IsNewPair next_new i j ⊎ (marks_by rounding s t ≡ no_marks)
+      by true true own other =
+          inr (old_none stride first last rounding es rising next_new skips i s at (ltb-true i (slice_index_or next_new i i) own) j j t (omega arith) (ltb-true j (slice_index_or next_new j j) other) there)
+      by false b own other = inl (before, ap (λ a. a && is_old next_new j) own)
+      by true false own other = inl (before, ap₂ (λ a b. a && b) own other)

@@ -1,36 +1,26 @@
 -- How many rows there are, and who shares a column of x.
-use Rattle.std.specs.Prelude.{◌≡◌, ◌⊎◌, ℕ, ◌++◌, ◌+◌, ◌-◌, ◌/◌, ◌^◌, ◌<◌, ◌≤◌, ℤ, pos, negsuc, ◌≤ℤ◌, ◌<ℤ◌, Bool, true, false, ◌&&◌, cond, nat_le, int_lt, unsigned_abs, List, [], ◌∷◌, map, fold, All, Contains}
+use Rattle.std.specs.Prelude.{◌≡◌, ◌⊎◌, ℕ, ◌++◌, ◌+◌, ◌-◌, ◌/◌, ◌^◌, ◌<◌, ◌≤◌, ℤ, pos, negsuc, ◌≤ℤ◌, ◌<ℤ◌, Bool, true, false, cond, int_lt, unsigned_abs, List, [], ◌∷◌, map, fold, All, Contains}
 use Rattle.std.specs.Int.{int_min, int_max, int_gap}
 use Rattle.std.proofs.Common.{refl, sym, ap, ◌∙◌, subst, inl, inr, arith}
 use Rattle.std.proofs.lemmas.Int.{ints, fold-int_min_reached}
 use Rattle.std.proofs.lemmas.Bool.{cases_Bool}
 use Rattle.std.proofs.lemmas.List.Elements.{All-nil, All-head, All-tail, All-map, All-contains, All-weaker}
 use Rattle.i_tree.specs.Layout.{offset_of}
-use Rattle.plane_base.specs.Plane.{Edge, is_before}
+use Rattle.plane_base.specs.Plane.{Edge}
 use Rattle.plane_base.specs.Counts.{Entry}
 use Rattle.plane_base.specs.Segments.{IsEdgeWithin}
 use Rattle.segment_split.specs.Passes.{edges_of}
 use Rattle.plane_base.proofs.Facts.Crossings.Place.{min_first, max_first}
-use Rattle.segment_split.specs.Rows.{row_of, lowest_row, highest_row, HasFewRows}
-use Rattle.segment_split.specs.StepBounds.{x_range, y_range, share_point, all_values, pairs_by, most_by_columns}
-use Rattle.segment_split.proofs.Passes.PairCounts.{pairs_rise}
-use Rattle.segment_split.proofs.Passes.Columns.{LiesAmong, all_among, quotient_rises, pairs_in_columns}
-use Rattle.segment_split.proofs.Rows.Bounds.{share_x_and_row}
+use Rattle.segment_split.specs.Rows.{row_of, HasFewRows}
+use Rattle.segment_split.specs.StepBounds.{y_range, all_values}
+use Rattle.segment_split.proofs.Passes.Columns.{LiesAmong, all_among, quotient_rises}
 use Rattle.segment_split.proofs.Rows.Laws.{gap_above}
-use Rattle.segment_split.proofs.BucketTrees.Met.{both_of}
 
 through : (x y z : ℤ) → x ≤ℤ y → y ≤ℤ z → x ≤ℤ z
 through x y z a b = omega (arith, ints)
 
 pub min_to_max : (x y : ℤ) → int_min x y ≤ℤ int_max x y
 min_to_max x y = through (int_min x y) x (int_max x y) (min_first x y) (max_first x y)
-
-pub rows_in_columns : (least : ℤ) (width : ℕ) (es : List Edge) → All (λ s. is_before s.a s.b ≡ true) es → pairs_by (share_x_and_row least width) es ≤ most_by_columns es
-rows_in_columns least width es ahead =
-    let fewer = pairs_rise (λ s. is_before s.a s.b ≡ true) (share_x_and_row least width) (λ s t. share_point (x_range s) (x_range t))
-    (λ s t p q e. (both_of (share_point (x_range s) (x_range t)) (nat_le (lowest_row least width s) (highest_row least width t) && nat_le (lowest_row least width t) (highest_row least width s)) e).0) es ahead in
-    let columns = pairs_in_columns es ahead in
-    omega (arith, fewer, columns)
 
 -- ---- what is measured
 

@@ -341,25 +341,41 @@ module _ (reaches : List ℕ) (near : (i : ℕ) → slice_index_or reaches i 0 �
     abbrev pub old_passes : List ℕ
     old_passes = all_passes old low high n
 
-    abbrev pub all_met : ℕ → ℕ
-    all_met i = sum_to (λ j. cond (may i (reach i) j && rows_meet i j) 1 0) n
+    -- those that the segment i may meet: all of them if it is new, else the new ones
+    abbrev met_as : Bool → ℕ → ℕ
+    met_as is_old i = sum_to (λ j. cond ((may i (reach i) j && rows_meet i j) && not (is_old && old j)) 1 0) n
 
-    either_kind : (b m : Bool) → cond (not b && m) 1 0 + cond (b && m) 1 0 ≤ cond m 1 0
-    either_kind true m = omega arith
+    abbrev pub all_met : ℕ → ℕ
+    all_met i = met_as (old i) i
+
+    either_kind : (b m : Bool) → cond (not b && m) 1 0 + cond (b && m) 1 0 ≤ cond (m && not (false && b)) 1 0
+    either_kind true true = omega arith
+    either_kind true false = omega arith
     either_kind false true = omega arith
     either_kind false false = omega arith
 
-    met_by : (i : ℕ) → i < 4294967296 → meets fresh_begins fresh_passes i + meets old_begins old_passes i ≤ all_met i
-    met_by i small =
+    new_kind : (b m : Bool) → cond (not b && m) 1 0 ≤ cond (m && not (true && b)) 1 0
+    new_kind true m = omega arith
+    new_kind false true = omega arith
+    new_kind false false = omega arith
+
+    met_by_new : (i : ℕ) → i < 4294967296 → meets fresh_begins fresh_passes i + meets old_begins old_passes i ≤ met_as false i
+    met_by_new i small =
         let new = meets_all i small (λ j. not (old j)) n few in
         let those = meets_all i small old n few in
         let both = sum_to_both (λ j. cond (not (old j) && (may i (reach i) j && rows_meet i j)) 1 0) (λ j. cond (old j && (may i (reach i) j && rows_meet i j)) 1 0) n in
-        let rises = sum_to_rises (λ j. cond (not (old j) && (may i (reach i) j && rows_meet i j)) 1 0 + cond (old j && (may i (reach i) j && rows_meet i j)) 1 0) (λ j. cond (may i (reach i) j && rows_meet i j) 1 0) n (λ j l. either_kind (old j) (may i (reach i) j && rows_meet i j)) in
+        let rises = sum_to_rises (λ j. cond (not (old j) && (may i (reach i) j && rows_meet i j)) 1 0 + cond (old j && (may i (reach i) j && rows_meet i j)) 1 0) (λ j. cond ((may i (reach i) j && rows_meet i j) && not (false && old j)) 1 0) n (λ j l. either_kind (old j) (may i (reach i) j && rows_meet i j)) in
         omega (arith, new, those, both, rises)
 
-    by_kind : (b : Bool) (x y t : ℕ) → x + y ≤ t → (cond (not b) x 0 + cond (not b) y 0) + cond b x 0 ≤ t
-    by_kind true x y t h = omega (arith, h)
-    by_kind false x y t h = omega (arith, h)
+    met_by_old : (i : ℕ) → i < 4294967296 → meets fresh_begins fresh_passes i ≤ met_as true i
+    met_by_old i small =
+        let new = meets_all i small (λ j. not (old j)) n few in
+        let rises = sum_to_rises (λ j. cond (not (old j) && (may i (reach i) j && rows_meet i j)) 1 0) (λ j. cond ((may i (reach i) j && rows_meet i j) && not (true && old j)) 1 0) n (λ j l. new_kind (old j) (may i (reach i) j && rows_meet i j)) in
+        omega (arith, new, rises)
+
+    by_kind : (b : Bool) (x y : ℕ) (most : Bool → ℕ) → x + y ≤ most false → x ≤ most true → (cond (not b) x 0 + cond (not b) y 0) + cond b x 0 ≤ most b
+    by_kind true x y most h k = omega (arith, k)
+    by_kind false x y most h k = omega (arith, h)
 
     pub meetings :
         (row_followers reaches fresh_begins fresh_passes fresh_begins fresh_passes + row_followers reaches fresh_begins fresh_passes old_begins old_passes)
@@ -372,5 +388,28 @@ module _ (reaches : List ℕ) (near : (i : ℕ) → slice_index_or reaches i 0 �
         let three = rows_are fresh_begins fresh_passes old n in
         let first = sum_to_both (λ i. cond (not (old i)) (x i) 0) (λ i. cond (not (old i)) (y i) 0) n in
         let second = sum_to_both (λ i. cond (not (old i)) (x i) 0 + cond (not (old i)) (y i) 0) (λ i. cond (old i) (x i) 0) n in
-        let rises = sum_to_rises (λ i. (cond (not (old i)) (x i) 0 + cond (not (old i)) (y i) 0) + cond (old i) (x i) 0) all_met n (λ i l. by_kind (old i) (x i) (y i) (all_met i) (met_by i (omega (arith, l, few)))) in
+        let rises = sum_to_rises (λ i. (cond (not (old i)) (x i) 0 + cond (not (old i)) (y i) 0) + cond (old i) (x i) 0) all_met n (λ i l. by_kind (old i) (x i) (y i) (λ b. met_as b i) (met_by_new i (omega (arith, l, few))) (met_by_old i (omega (arith, l, few)))) in
         omega (arith, one, two, three, first, second, rises)
+
+    -- new ones among themselves alone
+    abbrev pub new_met : ℕ → ℕ
+    new_met i = sum_to (λ j. cond ((may i (reach i) j && rows_meet i j) && (not (old i) && not (old j))) 1 0) n
+
+    met_if_new : (b : Bool) (i : ℕ) → i < 4294967296 → cond (not b) (meets fresh_begins fresh_passes i) 0
+        ≤ sum_to (λ j. cond ((may i (reach i) j && rows_meet i j) && (not b && not (old j))) 1 0) n
+    met_if_new true i small = omega arith
+    met_if_new false i small =
+        let new = meets_all i small (λ j. not (old j)) n few in
+        let rises = sum_to_rises (λ j. cond (not (old j) && (may i (reach i) j && rows_meet i j)) 1 0) (λ j. cond ((may i (reach i) j && rows_meet i j) && not (old j)) 1 0) n (λ j l. turned (not (old j)) (may i (reach i) j && rows_meet i j)) in
+        omega (arith, new, rises)
+      where
+        turned : (b m : Bool) → cond (b && m) 1 0 ≤ cond (m && b) 1 0
+        turned true true = omega arith
+        turned true false = omega arith
+        turned false m = omega arith
+
+    pub new_meetings : row_followers reaches fresh_begins fresh_passes fresh_begins fresh_passes ≤ sum_to new_met n
+    new_meetings =
+        let all = rows_are fresh_begins fresh_passes (λ i. not (old i)) n in
+        let rises = sum_to_rises (λ i. cond (not (old i)) (meets fresh_begins fresh_passes i) 0) new_met n (λ i l. met_if_new (old i) i (omega (arith, l, few))) in
+        omega (arith, all, rises)

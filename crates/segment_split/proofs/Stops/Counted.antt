@@ -1,20 +1,18 @@
 -- A sweep that knows how many entries run along each line, and nothing else of it.
-use Rattle.std.proofs.Common.{◌≡◌, ◌↔◌, ℕ, zero, suc, ◌+◌, ◌-◌, ◌<◌, ◌≤◌, ◌^◌, Bool, true, false, not, cond, ◌||◌, nat_lt, List, [], ◌∷◌, ◌++◌, length, take, drop, map, set, replicate, get_or, All, AllPairs, Contains, IsPermutation, Option, Some, None, ℤ, ◌<ℤ◌, ◌≤ℤ◌, int_eq, inl, inr, ⊎_elim, refl, sym, ap, ap₂, subst, ◌∙◌, arith}
+use Rattle.std.proofs.Common.{◌≡◌, ℕ, zero, suc, ◌+◌, ◌-◌, ◌<◌, ◌≤◌, Bool, true, false, cond, ◌||◌, nat_lt, List, [], ◌∷◌, ◌++◌, length, take, drop, map, set, replicate, get_or, All, Contains, Some, None, ℤ, ◌<ℤ◌, ◌≤ℤ◌, int_eq, ⊎_elim, refl, sym, ap, ap₂, subst, ◌∙◌, arith}
 use Rattle.std.proofs.lemmas.Int.{ints}
 use Rattle.std.proofs.lemmas.Bool.{false≢true, lt-ltb}
 use Rattle.std.proofs.lemmas.Option.{same_Some}
 use Rattle.std.proofs.lemmas.List.{take_all, get_or_default, get_or-take, get_or-drop, get_or-map, length-map, length-take, length-drop, map-set}
-use Rattle.std.proofs.lemmas.List.Elements.{All-head, All-tail, All-contains}
+use Rattle.std.proofs.lemmas.List.Elements.{All-head, All-tail}
 use Rattle.plane_base.specs.Plane.{Point, Edge}
 use Rattle.plane_base.specs.Counts.{Count, Entry, boolean, IsNormal}
 use Rattle.plane_base.proofs.Facts.Maps.Normal.{AllPairs-head, AllPairs-tail}
-use Rattle.segment_split.specs.Passes.{edges_of}
-use Rattle.segment_split.specs.LineLaws.{AllLevelOrUpright}
 use Rattle.segment_split.specs.Ranks.{is_member}
 use Rattle.segment_split.specs.Redrawing.{MarksInPass}
-use Rattle.segment_split.specs.SecondEnds.{nowhere, ended, CanBeSwept, AreLeft, AreAllAt, HaveRows, AreRunning, IsCounted}
-use Rattle.segment_split.specs.Stops.{LineView, RowView, LinesView, AreRising, heights_in, IsPlaceOf, IsAt, IsPlaceAbove, changed, count_of, stopped, at_height, at_line, all_changed, visited, bare, line_at, steps_from}
-use Rattle.segment_split.specs.Sweeps.{is_met, first_of, Swept, IsNextEnd, Crosses, IsSwept, IsGreatestEnd}
+use Rattle.segment_split.specs.SecondEnds.{nowhere, ended, CanBeSwept, AreAllAt, HaveRows, AreRunning, IsCounted}
+use Rattle.segment_split.specs.Stops.{LineView, RowView, LinesView, AreRising, heights_in, IsPlaceOf, IsAt, IsPlaceAbove, changed, stopped, at_height, at_line, all_changed, visited, bare, line_at, steps_from}
+use Rattle.segment_split.specs.Sweeps.{is_met, first_of, Swept, Crosses, IsSwept, IsGreatestEnd}
 use Rattle.segment_split.specs.declared.level.cut.Running.{Running}
 use Rattle.segment_split.specs.declared.level.ends.Left.{Left}
 use Rattle.segment_split.specs.declared.level.ends.SecondEnd.{SecondEnd}
@@ -22,7 +20,7 @@ use Rattle.segment_split.specs.declared.solver.Precision.{Precision}
 use Rattle.segment_split.proofs.Stops.Counting.{met_key}
 use Rattle.segment_split.proofs.Stops.Crossings.{key_row}
 use Rattle.segment_split.proofs.Stops.Ends.{begins, ends_marked}
-use Rattle.segment_split.proofs.Stops.Events.{all_heights, all_next, all_rising, at_line_heights}
+use Rattle.segment_split.proofs.Stops.Events.{all_heights, all_next, all_rising}
 use Rattle.segment_split.proofs.Stops.Heights.{stands_there, stands_nowhere}
 use Rattle.segment_split.proofs.Stops.Ordered.{taken_apart}
 use Rattle.segment_split.proofs.Stops.Onward.{onward}
@@ -305,7 +303,7 @@ module _ {I : Type 0} (value : I → ℤ) (es : List (Entry Count)) (ends : List
     lines = lines_come;
     laid = is.laid ++ steps_from p full;
     swept =
-        onward es (take left.starts es) (take left.ends (ended es ends)) full is.laid false 0 0 is.swept p greatest full is.laid 0 false (counted_crosses es ends heights left old is p low above free) sound.normal sound.level sound.few
+        onward es (take left.starts es) (take left.ends (ended es ends)) full is.laid false 0 0 is.swept p greatest full is.laid 0 false (counted_crosses es ends heights left old is p low above free) sound.order sound.level sound.few
         (take starts es) (drop starts (take left.starts es)) (take ends_left (ended es ends)) (drop ends_left (take left.ends (ended es ends)))
         (taken_apart es starts left.starts gone.within) gone.at gone.none
         (taken_apart (ended es ends) ends_left left.ends come.within) come.at come.none
@@ -344,8 +342,8 @@ module _ {I : Type 0} (value : I → ℤ) (es : List (Entry Count)) (ends : List
       none : (q : Point) → None ≡ Some q → ⊥
       none q e = absurd (cc)
 
-  pub counted_last : left.starts ≡ 0 → IsCounted es ends (heights_in lines.rows) left running → (precision : Precision) → ((k : ℕ) × MarksInPass boolean precision es k) → ⊥
-  counted_last none is precision some =
+  pub counted_last : IsNormal boolean es → left.starts ≡ 0 → IsCounted es ends (heights_in lines.rows) left running → (precision : Precision) → ((k : ℕ) × MarksInPass boolean precision es k) → ⊥
+  counted_last h none is precision some =
       false≢true
-      ((ends_marked es (take left.ends (ended es ends)) is.lines is.laid false 0 0 sound.normal sound.level
+      ((ends_marked es (take left.ends (ended es ends)) is.lines is.laid false 0 0 h sound.level
       (subst (λ n. IsSwept es (take n es) (take left.ends (ended es ends)) is.lines is.laid false 0 0) none is.swept) precision).1 some)

@@ -7,13 +7,13 @@ use Rattle.std.proofs.lemmas.Bool.{false≢true, ltb-true, lt-ltb}
 use Rattle.std.proofs.lemmas.Bool.Decides.{Decides-int_eq}
 use Rattle.std.proofs.lemmas.List.Elements.{All-contains, All-weaker}
 use Rattle.plane_base.specs.Plane.{Point, Edge, is_before, point_order}
-use Rattle.plane_base.specs.Counts.{Count, Entry, boolean, IsNormal}
+use Rattle.plane_base.specs.Counts.{Count, Entry, boolean}
 use Rattle.plane_base.specs.Totals.{total}
 use Rattle.plane_base.proofs.Facts.Points.Orders.{point_less_x, point_less_by_x, point_less_by_y}
 use Rattle.segment_split.specs.Passes.{edges_of}
 use Rattle.segment_split.specs.LineLaws.{AllLevelOrUpright, is_part, count_along, sum_along, SpansLevel, SpansUp, IsEndOfSome, IsCrossing, right_of, above, CountsFrom}
 use Rattle.segment_split.specs.Stops.{RowView, LinesView}
-use Rattle.segment_split.specs.Sweeps.{in_column, in_row, subject_if, clip_if, Runs, is_met, reached, IsBefore, Swept}
+use Rattle.segment_split.specs.Sweeps.{AreInOrder, in_column, in_row, subject_if, clip_if, Runs, is_met, reached, IsBefore, Swept}
 use Rattle.segment_split.proofs.Spread.Lists.{edges_contain}
 use Rattle.segment_split.proofs.Whole.LevelEdges.{IsLevel}
 use Rattle.segment_split.proofs.Whole.Coordinates.{less_by_x, less_by_y, cut_by_coordinates}
@@ -79,7 +79,7 @@ nothing_along es t test u both parts c none subject clip = adds_along es u ∙ a
     sum : c ≡ sum_along es u
     sum = let m = sum_is es t test u both parts (λ e. e.count.subject) c.subject subject in let n = sum_is es t test u both parts (λ e. e.count.clip) c.clip clip in λ i. record { subject = m i; clip = n i }
 
-module _ (es : List (Entry Count)) (h : IsNormal boolean es) (all : AllLevelOrUpright (edges_of es)) (t : Option Point) (ps : List Point) (before gone ahead come : List (Entry Count))
+module _ (es : List (Entry Count)) (h : AreInOrder es) (all : AllLevelOrUpright (edges_of es)) (t : Option Point) (ps : List Point) (before gone ahead come : List (Entry Count))
     (lines : LinesView) (laid : List (Entry Count)) (marked : Bool) (swept : Swept es t ps before gone ahead come lines laid marked)
     (p : Point) (last : (r : Point) → IsEndOfSome (edges_of es) r → reached t r ≡ false → is_le (point_order r p) ≡ true) where
   both : All (λ e. reached t e.edge.a ≡ true → reached t e.edge.b ≡ true) es

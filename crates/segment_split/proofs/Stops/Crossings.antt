@@ -4,12 +4,12 @@ use Rattle.std.specs.Ordering.{is_le}
 use Rattle.std.proofs.lemmas.Int.{ints}
 use Rattle.std.proofs.lemmas.List.Elements.{All-contains}
 use Rattle.plane_base.specs.Plane.{Point, Edge, point_order}
-use Rattle.plane_base.specs.Counts.{Count, Entry, boolean, IsNormal}
+use Rattle.plane_base.specs.Counts.{Count, Entry}
 use Rattle.plane_base.proofs.Facts.Points.Orders.{point_total, point_less_x, point_less_by_x, point_less_by_y}
 use Rattle.segment_split.specs.Passes.{edges_of}
 use Rattle.segment_split.specs.LineLaws.{AllLevelOrUpright, PassesUpThrough, PassesLevelThrough, IsEndOfSome}
 use Rattle.segment_split.specs.Stops.{RowView, LinesView}
-use Rattle.segment_split.specs.Sweeps.{in_column, in_row, Runs, IsStop, reached, IsBefore, Swept}
+use Rattle.segment_split.specs.Sweeps.{AreInOrder, in_column, in_row, Runs, IsStop, reached, IsBefore, Swept}
 use Rattle.segment_split.proofs.Stops.Rows.{other_height, same_height}
 use Rattle.segment_split.proofs.Stops.Reached.{by_reach, RunsOn, some_runs, is_running}
 use Rattle.segment_split.proofs.Stops.Steps.{le_tells, le_x, behind_is, reached_end, both_reached}
@@ -36,7 +36,7 @@ pub record IsBetween (lines : LinesView) (p r : Point) : Type 0 where
   pub place : r.x ≡ p.x
   pub above : p.y <ℤ r.y
 
-module _ (es : List (Entry Count)) (h : IsNormal boolean es) (all : AllLevelOrUpright (edges_of es)) (t : Option Point) (ps : List Point) (before gone ahead come : List (Entry Count))
+module _ (es : List (Entry Count)) (h : AreInOrder es) (all : AllLevelOrUpright (edges_of es)) (t : Option Point) (ps : List Point) (before gone ahead come : List (Entry Count))
     (lines : LinesView) (laid : List (Entry Count)) (marked : Bool) (swept : Swept es t ps before gone ahead come lines laid marked)
     (p : Point) (last : (r : Point) → IsEndOfSome (edges_of es) r → reached t r ≡ false → is_le (point_order r p) ≡ true) where
   pub row_runs : (r : RowView) → Contains lines.rows r → Runs (in_row r.y) gone come r.line

@@ -1,5 +1,5 @@
 -- The sweep comes to crossings, and to the next end.
-use Rattle.std.proofs.Common.{◌≡◌, ◌≢◌, ℕ, ◌+◌, ◌<◌, ◌^◌, Bool, true, false, cond, ◌||◌, nat_lt, List, [], ◌∷◌, ◌++◌, length, length-append, get_or, map, All, AllPairs, Contains, IsPermutation, Option, Some, None, ◌⊎◌, inl, inr, ⊎_elim, ℤ, pos, ◌+ℤ◌, ◌≤ℤ◌, ◌<ℤ◌, int_eq, Ordering, Less, Equal, Greater, refl, sym, ap, subst, ◌∙◌, append_assoc, arith}
+use Rattle.std.proofs.Common.{◌≡◌, ◌≢◌, ℕ, ◌+◌, ◌<◌, ◌^◌, Bool, true, false, cond, ◌||◌, nat_lt, List, [], ◌∷◌, ◌++◌, length, length-append, map, All, AllPairs, Contains, IsPermutation, Option, Some, None, ◌⊎◌, inl, inr, ⊎_elim, ℤ, pos, ◌+ℤ◌, ◌≤ℤ◌, ◌<ℤ◌, int_eq, Ordering, Less, Equal, Greater, refl, sym, ap, subst, ◌∙◌, append_assoc, arith}
 use Rattle.std.specs.Ordering.{is_le}
 use Rattle.std.proofs.lemmas.Int.{ints}
 use Rattle.std.proofs.lemmas.Bool.{false≢true, ltb-true, lt-ltb}
@@ -7,18 +7,18 @@ use Rattle.std.proofs.lemmas.Bool.Decides.{Decides-int_eq}
 use Rattle.std.proofs.lemmas.Option.{same_Some}
 use Rattle.std.proofs.lemmas.List.Elements.{All-nil, All-cons, All-append, All-contains, All-contains_itself, All-weaker, All-head, All-tail}
 use Rattle.std.proofs.lemmas.List.Sorted.{All-permutation}
-use Rattle.plane_base.specs.Plane.{Point, Edge, turn, is_before, point_order, edge_order}
+use Rattle.plane_base.specs.Plane.{Point, Edge, turn, is_before, point_order}
 use Rattle.plane_base.specs.Segments.{strictly_inside}
-use Rattle.plane_base.specs.Counts.{Count, Entry, boolean, IsNormal}
+use Rattle.plane_base.specs.Counts.{Count, Entry, boolean}
 use Rattle.plane_base.specs.Totals.{total}
 use Rattle.plane_base.proofs.Facts.Lists.Totals.{total_monotone_on}
 use Rattle.plane_base.proofs.Facts.Lists.Cycles.{All-front, All-back}
 use Rattle.plane_base.proofs.Facts.Maps.Normal.{AllPairs-nil, AllPairs-cons, AllPairs-head, AllPairs-tail}
-use Rattle.plane_base.proofs.Facts.Points.Orders.{point_total, point_equal, point_itself, point_less, point_less_x, point_less_by_y, before_is_less, less_from_greater, less_then}
+use Rattle.plane_base.proofs.Facts.Points.Orders.{point_total, point_equal, point_itself, point_less, point_less_x, point_less_by_y, before_is_less, less_from_greater}
 use Rattle.segment_split.specs.Passes.{edges_of}
 use Rattle.segment_split.specs.LineLaws.{AllLevelOrUpright, PassesUpThrough, PassesLevelThrough, IsEndOfSome, IsCrossing, CountsFrom, first_by}
 use Rattle.segment_split.specs.Stops.{LineView, RowView, LinesView, AreRising, changed, count_of, stopped, at_height, at_line, all_changed, visited, bare, line_at, steps_from}
-use Rattle.segment_split.specs.Sweeps.{in_column, in_row, one_if, Runs, AllRun, IsStop, is_met, reached, IsBefore, Cut, first_of, same_y, IsSomeInside, Swept, IsNextEnd, IsClear}
+use Rattle.segment_split.specs.Sweeps.{AreInOrder, in_column, in_row, one_if, Runs, AllRun, IsStop, is_met, reached, IsBefore, Cut, first_of, same_y, IsSomeInside, Swept, IsNextEnd, IsClear}
 use Rattle.segment_split.proofs.Spread.Lists.{edges_contain}
 use Rattle.segment_split.proofs.Stops.Rows.{IsApart, same_height, other_height, heights_kept, rising_kept, rising_line}
 use Rattle.segment_split.proofs.Stops.Changes.{changed_rows, come_all, go_all}
@@ -58,7 +58,7 @@ before_first (p ∷ ps) q c e rising l =
     All-cons (λ r. point_order c r ≡ Less) p ps to
     (All-weaker (λ r. point_order p r ≡ Less) (λ r. point_order c r ≡ Less) (λ r m. point_total.trans c p r to m) ps (AllPairs-head (λ p q. point_order p q ≡ Less) p ps rising))
 
-module _ (es : List (Entry Count)) (h : IsNormal boolean es) (all : AllLevelOrUpright (edges_of es)) (t : Option Point) (ps : List Point) (before gone ahead come : List (Entry Count))
+module _ (es : List (Entry Count)) (h : AreInOrder es) (all : AllLevelOrUpright (edges_of es)) (t : Option Point) (ps : List Point) (before gone ahead come : List (Entry Count))
     (lines : LinesView) (laid : List (Entry Count)) (marked : Bool) (swept : Swept es t ps before gone ahead come lines laid marked) (p : Point) (next : IsNextEnd es t p) where
   pub p_before : IsBefore ps p
   p_before = end_ahead es h all t ps swept.stops p next.own next.ahead
@@ -302,7 +302,7 @@ module _ (g : Entry Count → Point) (p : Point) where
 
 -- ---- the next end
 
-module _ (es : List (Entry Count)) (h : IsNormal boolean es) (all : AllLevelOrUpright (edges_of es)) (t : Option Point) (ps : List Point) (before left mid gone ahead left_ends mid_ends come : List (Entry Count))
+module _ (es : List (Entry Count)) (h : AreInOrder es) (all : AllLevelOrUpright (edges_of es)) (t : Option Point) (ps : List Point) (before left mid gone ahead left_ends mid_ends come : List (Entry Count))
     (lines : LinesView) (laid : List (Entry Count)) (marked : Bool) (swept : Swept es t ps before gone ahead come lines laid marked) (p : Point) (next : IsNextEnd es t p) (clear : IsClear p lines ps)
     (starts : before ≡ left ++ mid) (start_here : All (λ e. e.edge.a ≡ p) mid) (start_last : (front : List (Entry Count)) (e : Entry Count) → left ≡ front ++ e ∷ [] → e.edge.a ≢ p)
     (ends : ahead ≡ left_ends ++ mid_ends) (end_here : All (λ e. e.edge.b ≡ p) mid_ends) (end_last : (front : List (Entry Count)) (e : Entry Count) → left_ends ≡ front ++ e ∷ [] → e.edge.b ≢ p)
@@ -321,19 +321,10 @@ module _ (es : List (Entry Count)) (h : IsNormal boolean es) (all : AllLevelOrUp
   behind_p : (r : Point) → Contains ps r → is_le (point_order p r) ≡ true
   behind_p r at = ap is_le (behind_is ps p r p_first at)
 
-  first_order : (e f : Entry Count) → edge_order e.edge f.edge ≡ Less → point_order e.edge.a f.edge.a ≢ Greater
-  first_order e f l = ⊎_elim (λ m g. clash (sym m ∙ g)) (λ m g. clash_equal (sym m.0 ∙ g)) (less_then (point_order e.edge.a f.edge.a) (point_order e.edge.b f.edge.b) l)
-    where
-      clash : Less ≡ Greater → ⊥
-      clash e = absurd (cc)
-
-      clash_equal : Equal ≡ Greater → ⊥
-      clash_equal e = absurd (cc)
-
   firsts_sorted : AllPairs (λ e f. point_order e.edge.a f.edge.a ≢ Greater) left
   firsts_sorted =
       pairs_front (λ e f. point_order e.edge.a f.edge.a ≢ Greater) left mid (subst (AllPairs (λ e f. point_order e.edge.a f.edge.a ≢ Greater)) starts
-      (pairs_front (λ e f. point_order e.edge.a f.edge.a ≢ Greater) before gone (subst (AllPairs (λ e f. point_order e.edge.a f.edge.a ≢ Greater)) swept.cut.firsts (λ i j d k l. first_order (get_or es i d) (get_or es j d) (h.rising i j d k l)))))
+      (pairs_front (λ e f. point_order e.edge.a f.edge.a ≢ Greater) before gone (subst (AllPairs (λ e f. point_order e.edge.a f.edge.a ≢ Greater)) swept.cut.firsts h.firsts)))
 
   seconds_sorted : AllPairs (λ e f. point_order e.edge.b f.edge.b ≢ Greater) left_ends
   seconds_sorted =

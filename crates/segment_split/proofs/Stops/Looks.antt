@@ -5,13 +5,13 @@ use Rattle.std.proofs.lemmas.Bool.Decides.{Decides-int_eq}
 use Rattle.std.proofs.lemmas.List.Elements.{All-head, All-tail, All-weaker, All-map}
 use Rattle.std.proofs.lemmas.List.Sums.{sum_by-cons, sum_by-le-sum_by, get_or-le-sum_by}
 use Rattle.plane_base.specs.Plane.{Point, Edge, is_before, point_order}
-use Rattle.plane_base.specs.Counts.{Count, Entry, boolean, IsNormal}
+use Rattle.plane_base.specs.Counts.{Count, Entry}
 use Rattle.plane_base.proofs.Facts.Crossings.Tests.{both_true}
 use Rattle.plane_base.proofs.Facts.Maps.Normal.{AllPairs-head, AllPairs-tail}
 use Rattle.segment_split.specs.Passes.{edges_of}
 use Rattle.segment_split.specs.LineLaws.{PassesUpThrough, PassesLevelThrough, IsCrossing}
 use Rattle.segment_split.specs.StepBounds.{x_range, share_point, pairs_by, all_pairs, most_by_columns, most_pairs}
-use Rattle.segment_split.specs.Sweeps.{Ticked}
+use Rattle.segment_split.specs.Sweeps.{AreInOrder, Ticked}
 use Rattle.segment_split.specs.declared.solver.Strategy.TheVariants as strategy
 use Rattle.segment_split.proofs.Passes.PairCounts.{pairs_among_all}
 use Rattle.segment_split.proofs.Passes.Columns.{pairs_in_columns}
@@ -215,7 +215,7 @@ module _ (es : List Edge) where
       (λ s t. let parts = sum_by-cons (λ c. cond (cross_at s t c) 1 0) c cs in omega (arith, parts)) in
       omega (arith, one, summed, rest, sums, whole)
 
-  share_pairs : (cs : List Point) → AllPairs (λ p q. point_order p q ≡ Less) cs → All (IsCrossing es) cs → length cs ≤ pairs_by (λ s t. share_point (x_range s) (x_range t)) es
+  pub share_pairs : (cs : List Point) → AllPairs (λ p q. point_order p q ≡ Less) cs → All (IsCrossing es) cs → length cs ≤ pairs_by (λ s t. share_point (x_range s) (x_range t)) es
   share_pairs cs rising h =
       let all = covered cs h in
       let each = pairs_no_more (λ s t. count_by (cross_at s t) cs) (λ s t. cond (share_point (x_range s) (x_range t)) 1 0) es (λ s t. one_of_points s t cs rising) in
@@ -230,7 +230,7 @@ module _ (es : List Edge) where
       by false = let shared = share_pairs cs rising h in let most = pairs_in_columns es directed in omega (arith, shared, most)
 
 -- So many pairs may be counted.
-pub ticks_few : (es : List (Entry Count)) → IsNormal boolean es → (ps : List Point) (first now : ℕ) → Ticked es ps first now → (first ≤ now) × (now ≤ first + most_pairs strategy.Auto (edges_of es))
+pub ticks_few : (es : List (Entry Count)) → AreInOrder es → (ps : List Point) (first now : ℕ) → Ticked es ps first now → (first ≤ now) × (now ≤ first + most_pairs strategy.Auto (edges_of es))
 ticks_few es h ps first now ticked =
     let most = crossings_few (edges_of es) (All-map (λ s. is_before s.a s.b ≡ true) (λ (e : Entry Count). e.edge) es h.directed) ticked.crossings ticked.rising ticked.only in
     let number = ticked.number in

@@ -6,7 +6,7 @@ use Rattle.std.proofs.lemmas.Bool.{false≢true}
 use Rattle.std.proofs.lemmas.List.Elements.{All-nil, All-cons, All-head, All-tail, All-weaker, All-contains}
 use Rattle.plane_base.specs.Plane.{Point, Edge, is_before, point_order, edge_order}
 use Rattle.plane_base.specs.Segments.{strictly_inside}
-use Rattle.plane_base.specs.Counts.{Count, Counting, Entry, boolean, IsNormal}
+use Rattle.plane_base.specs.Counts.{Count, Counting, Entry, boolean}
 use Rattle.plane_base.specs.Totals.{total}
 use Rattle.plane_base.specs.Given.{laid_path}
 use Rattle.plane_base.specs.Crossing.{late_marks}
@@ -15,8 +15,9 @@ use Rattle.plane_base.proofs.Facts.Maps.Laying.{lay_by}
 use Rattle.plane_base.proofs.Facts.Points.Orders.{point_less_x, edge_equal, edge_itself, is_equal, before_is_less}
 use Rattle.segment_split.specs.Kinds.{number_fits, count_fits}
 use Rattle.segment_split.specs.Paths.{along, path}
+use Rattle.segment_split.specs.Sweeps.{AreInOrder}
 use Rattle.segment_split.specs.Passes.{edges_of, marks_in, marks_on, cut}
-use Rattle.segment_split.specs.WholeLaws.{AllMeetWhole}
+use Rattle.segment_split.specs.WholeLaws.{AllMeetWhole, MeetsAllWhole}
 use Rattle.segment_split.specs.LineLaws.{AllLevelOrUpright, IsCutPoint, is_part, JoinsNeighbours}
 use Rattle.segment_split.specs.Refusals.{steps_in, counts_on, all_joined, IsOverfull}
 use Rattle.segment_split.specs.declared.solver.Precision.{Precision}
@@ -26,7 +27,7 @@ use Rattle.segment_split.proofs.Passes.Steps.{IsRisingPath, IsStep, path_rises, 
 use Rattle.segment_split.proofs.Whole.Marks.{whole_marks_on}
 use Rattle.segment_split.proofs.Whole.Pieces.{directed_edges}
 use Rattle.segment_split.proofs.Whole.CutPoints.{marked_inside, step_is_piece, step_joins, joins_step}
-use Rattle.segment_split.proofs.Whole.Coordinates.{less_by_x, less_by_y, upright_inside, level_inside, cut_by_coordinates}
+use Rattle.segment_split.proofs.Whole.Coordinates.{less_by_x, less_by_y, upright_inside, level_inside, level_line, upright_line, cut_by_coordinates}
 use Rattle.segment_split.proofs.Whole.Neighbours.{contained, contains_no, not_itself, behind_at, further, first_step, later_step, step_cases}
 use Rattle.segment_split.proofs.Stops.Permuted.{flat_map_permuted, flat_map_parted}
 
@@ -101,42 +102,45 @@ same_fit c d e f = ap₂ (λ m n. number_fits m && number_fits n) e f
 
 -- ---- keys along one pair
 
-module _ (es : List (Entry Count)) (h : IsNormal boolean es) (whole : AllMeetWhole (edges_of es)) (precision : Precision) where
+module _ (es : List (Entry Count)) (h : AreInOrder es) (whole : AllMeetWhole (edges_of es)) (precision : Precision) where
   directed : All IsDirectedEdge (edges_of es)
-  directed = directed_edges boolean es h whole
+  directed = directed_edges boolean es h.directed whole
 
   abbrev cuts : Entry Count → List (Entry Count)
   cuts e = cut boolean late_marks (edges_of es) e
 
-  steps_late : steps_in boolean precision es 0 ≡ flat_map cuts es
+  pub steps_late : steps_in boolean precision es 0 ≡ flat_map cuts es
   steps_late =
       flat_map_same (cut boolean (marks_in precision 0) (edges_of es)) cuts es
       (All-weaker (λ (e : Entry Count). Contains (edges_of es) e.edge) (λ e. cut boolean (marks_in precision 0) (edges_of es) e ≡ cuts e)
-      (λ e at. ap (λ ms. laid_path boolean e.count (path e.edge ms)) (whole_marks_on precision 0 (edges_of es) e.edge whole at)) es (edges_contain es))
+      (λ e at. ap (λ ms. laid_path boolean e.count (path e.edge ms)) (whole_marks_on precision 0 (edges_of es) e.edge (λ t. whole e.edge t at))) es (edges_contain es))
 
   listed : (e : Entry Count) → Contains es e → Contains (edges_of es) e.edge
   listed e at = All-contains (λ e. Contains (edges_of es) e.edge) es e (edges_contain es) at
+
+  meets : (e : Entry Count) → Contains es e → MeetsAllWhole (edges_of es) e.edge
+  meets e at t = whole e.edge t (listed e at)
 
   forward : (e : Entry Count) → Contains es e → is_before e.edge.a e.edge.b ≡ true
   forward e at = All-contains (λ e. is_before e.edge.a e.edge.b ≡ true) es e h.directed at
 
   rises : (e : Entry Count) → Contains es e → IsRisingPath (path e.edge (marks_on late_marks (edges_of es) e.edge))
-  rises e at = path_rises e.edge (forward e at) (marks_on late_marks (edges_of es) e.edge) (marked_inside (edges_of es) directed whole e.edge (listed e at))
+  rises e at = path_rises e.edge (forward e at) (marks_on late_marks (edges_of es) e.edge) (marked_inside (edges_of es) directed e.edge (listed e at) (meets e at))
 
   -- from the first end of a key to the next cut point, and from the last one before its second end
   pub first_pair : (e : Entry Count) → Contains es e → (q : Point) × JoinsNeighbours (edges_of es) (record { a = e.edge.a; b = q }) × IsPiece (record { a = e.edge.a; b = q }) e.edge
   first_pair e at =
       let k = step_from_first e.edge.a (along e.edge (marks_on late_marks (edges_of es) e.edge)) e.edge.b (rises e at) in
-      (k.0, step_joins (edges_of es) directed whole e.edge (listed e at) (record { a = e.edge.a; b = k.0 }) k.1, step_is_piece (edges_of es) directed whole e.edge (listed e at) (record { a = e.edge.a; b = k.0 }) k.1)
+      (k.0, step_joins (edges_of es) directed e.edge (listed e at) (meets e at) (record { a = e.edge.a; b = k.0 }) k.1, step_is_piece (edges_of es) directed e.edge (listed e at) (meets e at) (record { a = e.edge.a; b = k.0 }) k.1)
 
   pub last_pair : (e : Entry Count) → Contains es e → (q : Point) × JoinsNeighbours (edges_of es) (record { a = q; b = e.edge.b }) × IsPiece (record { a = q; b = e.edge.b }) e.edge
   last_pair e at =
       let k = step_to_last e.edge.a (along e.edge (marks_on late_marks (edges_of es) e.edge)) e.edge.b (rises e at) in
-      (k.0, step_joins (edges_of es) directed whole e.edge (listed e at) (record { a = k.0; b = e.edge.b }) k.1, step_is_piece (edges_of es) directed whole e.edge (listed e at) (record { a = k.0; b = e.edge.b }) k.1)
+      (k.0, step_joins (edges_of es) directed e.edge (listed e at) (meets e at) (record { a = k.0; b = e.edge.b }) k.1, step_is_piece (edges_of es) directed e.edge (listed e at) (meets e at) (record { a = k.0; b = e.edge.b }) k.1)
 
   module _ (u : Edge) (joins : JoinsNeighbours (edges_of es) u) where
     lays_one : (e : Entry Count) → Contains es e → is_part u e.edge ≡ true → counts_on u (cuts e) ≡ e.count ∷ []
-    lays_one e at part = path_lays boolean u e.count (path e.edge (marks_on late_marks (edges_of es) e.edge)) (rises e at) (joins_step (edges_of es) directed whole e.edge (listed e at) u joins part)
+    lays_one e at part = path_lays boolean u e.count (path e.edge (marks_on late_marks (edges_of es) e.edge)) (rises e at) (joins_step (edges_of es) directed e.edge (listed e at) (meets e at) u joins part)
 
     lay_all : (ss : List (Entry Count)) → All (Contains es) ss → All (λ e. is_part u e.edge ≡ true) ss → counts_on u (flat_map cuts ss) ≡ map (λ e. e.count) ss
     lay_all [] there parts = refl
@@ -167,7 +171,7 @@ module _ (es : List (Entry Count)) (h : IsNormal boolean es) (whole : AllMeetWho
 
 -- ---- what runs past a pair of neighbours on their line runs along the whole of it
 
-module _ (es : List (Entry Count)) (h : IsNormal boolean es) (all : AllLevelOrUpright (edges_of es)) (u : Edge) (joins : JoinsNeighbours (edges_of es) u)
+module _ (es : List (Entry Count)) (h : AreInOrder es) (all : AllLevelOrUpright (edges_of es)) (u : Edge) (joins : JoinsNeighbours (edges_of es) u)
     (s : Edge) (at : Contains (edges_of es) s) (forward : is_before s.a s.b ≡ true) (begins : point_order s.a u.b ≡ Less) (ends : point_order u.a s.b ≡ Less) where
   next : point_order u.a u.b ≡ Less
   next = before_is_less u.a u.b joins.forward
@@ -192,7 +196,7 @@ module _ (es : List (Entry Count)) (h : IsNormal boolean es) (all : AllLevelOrUp
       })
     where
       cut_at : (p : Point) → p.y ≡ u.a.y → ((p ≡ s.a) ⊎ (p ≡ s.b)) → IsCutPoint (edges_of es) u p
-      cut_at p e end = ((cut_by_coordinates boolean).level_line es u p h all joins.forward v).1 (e, (s, at, inl end))
+      cut_at p e end = (level_line es u p h.directed all joins.forward v).1 (e, (s, at, inl end))
 
       inside : (p : Point) → p.y ≡ u.a.y → u.a.x <ℤ p.x → p.x <ℤ u.b.x → strictly_inside p u ≡ true
       inside p e l m = level_inside u p joins.forward (record { first = sym e; second = sym v ∙ sym e; left = l; right = m })
@@ -216,7 +220,7 @@ module _ (es : List (Entry Count)) (h : IsNormal boolean es) (all : AllLevelOrUp
       second = sym w ∙ first
 
       cut_at : (p : Point) → p.x ≡ u.a.x → ((p ≡ s.a) ⊎ (p ≡ s.b)) → IsCutPoint (edges_of es) u p
-      cut_at p e end = ((cut_by_coordinates boolean).upright_line es u p h all joins.forward v).1 (e, (s, at, inl end))
+      cut_at p e end = (upright_line es u p h.directed all joins.forward v).1 (e, (s, at, inl end))
 
       inside : (p : Point) → p.x ≡ u.a.x → u.a.y <ℤ p.y → p.y <ℤ u.b.y → strictly_inside p u ≡ true
       inside p e l m = upright_inside u p joins.forward (record { first = sym e; second = sym v ∙ sym e; below = l; above = m })

@@ -24,7 +24,7 @@ module _ {X : Type 0} (R : List X → List X → Type 0) (same : (xs : List X) �
   swapped [] i j h k = same []
   swapped (x ∷ l) i j h k = exchanged (x ∷ l) i j x h k
 
-  along_permutation : (xs ys : List X) → IsPermutation xs ys → R xs ys
+  pub along_permutation : (xs ys : List X) → IsPermutation xs ys → R xs ys
   along_permutation xs ys h = IsPermutation-keeps xs (R xs) (same xs) (λ l i j p q k. chain xs l (swap l i j) k (swapped l i j p q)) ys h
 
 pub flat_map_permuted : {X Y : Type 0} (f : X → List Y) (xs ys : List X) → IsPermutation xs ys → IsPermutation (flat_map f xs) (flat_map f ys)

@@ -7,7 +7,7 @@ use Rattle.std.proofs.lemmas.Bool.Decides.{Decides-int_eq}
 use Rattle.std.proofs.lemmas.List.Elements.{All-nil, All-cons, All-head, All-append, All-filter, filter_passes, All-weaker, All-contains, All-contains_itself}
 use Rattle.std.proofs.lemmas.List.Sorted.{All-permutation, length_permutation, IsPermutation-trans, IsPermutation-append_comm, IsPermutation-append_left, IsPermutation-filter_both}
 use Rattle.plane_base.specs.Plane.{Point, Edge, is_before, point_order}
-use Rattle.plane_base.specs.Counts.{Count, Entry, boolean, IsNormal}
+use Rattle.plane_base.specs.Counts.{Count, Entry, boolean}
 use Rattle.plane_base.specs.Totals.{total}
 use Rattle.plane_base.specs.WholeLaws.{IsPiece}
 use Rattle.plane_base.proofs.Facts.Crossings.Tests.{both_true}
@@ -20,9 +20,9 @@ use Rattle.segment_split.specs.WholeLaws.{AllMeetWhole}
 use Rattle.segment_split.specs.LineLaws.{AllLevelOrUpright, is_part, JoinsNeighbours}
 use Rattle.segment_split.specs.Refusals.{steps_in, IsOverfull}
 use Rattle.segment_split.specs.Stops.{LinesView, all_changed, visited, bare, line_at}
-use Rattle.segment_split.specs.Sweeps.{in_column, in_row, one_if, Runs, AllRun, reached, Cut, Swept, IsNextEnd, IsClear, AreBySeconds, Crosses, IsSwept, IsGreatestEnd, line_on, LeavesRange}
+use Rattle.segment_split.specs.Sweeps.{AreInOrder, in_column, in_row, one_if, Runs, AllRun, reached, Cut, Swept, IsNextEnd, IsClear, AreBySeconds, Crosses, IsSwept, IsGreatestEnd, line_on, LeavesRange}
 use Rattle.segment_split.specs.declared.solver.Precision.{Precision}
-use Rattle.segment_split.proofs.Whole.LevelEdges.{IsLevel, level_and_upright_meet_whole}
+use Rattle.segment_split.proofs.Whole.LevelEdges.{IsLevel, level_meet_whole}
 use Rattle.segment_split.proofs.Whole.Coordinates.{level_flat, upright_flat}
 use Rattle.segment_split.proofs.Stops.Rows.{IsApart, same_height, same_point, other_point, heights_kept}
 use Rattle.segment_split.proofs.Stops.Changes.{come_all, go_all}
@@ -108,10 +108,10 @@ own_line e = by (int_eq e.edge.a.x e.edge.b.x) refl
     by true f = f
     by false f = ap (λ (b : Bool). cond b false (int_eq e.edge.a.y e.edge.a.y)) f ∙ same_height e.edge.a.y e.edge.a.y refl
 
-module _ (es : List (Entry Count)) (h : IsNormal boolean es) (all : AllLevelOrUpright (edges_of es)) (t : Option Point) (ps : List Point) (before gone ahead come : List (Entry Count))
+module _ (es : List (Entry Count)) (h : AreInOrder es) (all : AllLevelOrUpright (edges_of es)) (t : Option Point) (ps : List Point) (before gone ahead come : List (Entry Count))
     (lines : LinesView) (laid : List (Entry Count)) (marked : Bool) (swept : Swept es t ps before gone ahead come lines laid marked) (p : Point) (next : IsNextEnd es t p) where
   whole : AllMeetWhole (edges_of es)
-  whole = level_and_upright_meet_whole boolean es h all
+  whole = level_meet_whole es h.directed all
 
   forward : (e : Entry Count) → Contains es e → is_before e.edge.a e.edge.b ≡ true
   forward e at = directed es h all t ps swept.stops e.edge (listed_edge es e at)
@@ -469,7 +469,7 @@ module _ (es : List (Entry Count)) (h : IsNormal boolean es) (all : AllLevelOrUp
 
 module _ (es before ahead : List (Entry Count)) (lines : LinesView) (laid : List (Entry Count)) (marked : Bool) (origin ticks : ℕ) (is : IsSwept es before ahead lines laid marked origin ticks)
     (p : Point) (greatest : IsGreatestEnd before ahead p) (crossed_lines : LinesView) (crossed_laid : List (Entry Count)) (new_ticks : ℕ) (crossed : Bool)
-    (crosses : Crosses p lines laid ticks crossed_lines crossed_laid new_ticks crossed) (h : IsNormal boolean es) (all : AllLevelOrUpright (edges_of es)) (few : length es < 2 ^ 64) (precision : Precision) where
+    (crosses : Crosses p lines laid ticks crossed_lines crossed_laid new_ticks crossed) (h : AreInOrder es) (all : AllLevelOrUpright (edges_of es)) (few : length es < 2 ^ 64) (precision : Precision) where
   ahead_next : IsNextEnd es is.last p
   ahead_next = next_end_is es before ahead lines laid marked origin ticks is p greatest
 

@@ -7,7 +7,7 @@ use Rattle.std.proofs.lemmas.Bool.{false≢true}
 use Rattle.std.proofs.lemmas.Bool.Decides.{Decides-int_eq}
 use Rattle.std.proofs.lemmas.List.Elements.{All-map, All-contains, All-weaker, All-head, All-tail}
 use Rattle.plane_base.specs.Plane.{Point, Edge, is_before, point_order}
-use Rattle.plane_base.specs.Counts.{Count, Entry, boolean, IsNormal, lay}
+use Rattle.plane_base.specs.Counts.{Count, Entry, boolean, lay}
 use Rattle.plane_base.specs.Totals.{total}
 use Rattle.plane_base.proofs.Facts.Lists.Totals.{total_filter, total_sum, total_pointwise_on}
 use Rattle.plane_base.proofs.Facts.Maps.Laying.{lay_by}
@@ -17,7 +17,7 @@ use Rattle.segment_split.specs.Passes.{edges_of}
 use Rattle.segment_split.specs.LineLaws.{is_level_or_upright, AllLevelOrUpright, is_part, entries_along, sum_along, count_along, SpansLevel, SpansUp, IsEndOfSome, first_by, counted_step, step_to}
 use Rattle.segment_split.specs.Stops.{LineView, step_with, step_from, above_it}
 use Rattle.segment_split.proofs.Spread.Lists.{IsDirectedEdge, edges_contain}
-use Rattle.segment_split.specs.Sweeps.{in_column, in_row, subject_if, clip_if, reached, IsBefore, Stops, first_of, same_y}
+use Rattle.segment_split.specs.Sweeps.{AreInOrder, in_column, in_row, subject_if, clip_if, reached, IsBefore, Stops, first_of, same_y}
 use Rattle.segment_split.proofs.Stops.Rows.{other_height, same_height}
 use Rattle.segment_split.proofs.Stops.Reached.{kept, gone_of, come_of}
 use Rattle.segment_split.proofs.Passes.Steps.{contains_head}
@@ -129,7 +129,7 @@ module _ (es : List (Entry Count)) (t : Option Point) (test : Entry Count → Bo
 
 -- ---- the steps from the next stop
 
-module _ (es : List (Entry Count)) (h : IsNormal boolean es) (all : AllLevelOrUpright (edges_of es)) (t : Option Point) (ps : List Point) (stops : Stops es t ps) where
+module _ (es : List (Entry Count)) (h : AreInOrder es) (all : AllLevelOrUpright (edges_of es)) (t : Option Point) (ps : List Point) (stops : Stops es t ps) where
   pub directed : (s : Edge) → Contains (edges_of es) s → is_before s.a s.b ≡ true
   directed s at = All-contains IsDirectedEdge (edges_of es) s (All-map IsDirectedEdge (λ (e : Entry Count). e.edge) es h.directed) at
 

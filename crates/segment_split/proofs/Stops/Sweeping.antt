@@ -1,25 +1,26 @@
 -- A sweep from the last stop to the first.
-use Rattle.std.proofs.Common.{◌≡◌, ◌↔◌, ℕ, zero, suc, Bool, true, false, ◌||◌, List, [], ◌∷◌, map, reverse, All, Contains, IsPermutation, Option, None, inl, inr, ⊎_elim, int_eq, refl, sym, ap, subst, ◌∙◌, append-nil, Less, arith}
+use Rattle.std.proofs.Common.{◌≡◌, ◌≢◌, ◌↔◌, ℕ, zero, suc, Bool, true, false, ◌||◌, List, [], ◌∷◌, map, reverse, All, Contains, IsPermutation, Option, None, inl, inr, ⊎_elim, int_eq, refl, sym, ap, subst, ◌∙◌, append-nil, get_or, Less, Equal, Greater, arith}
 use Rattle.std.specs.List.{list_any}
 use Rattle.std.proofs.lemmas.Bool.{false≢true}
 use Rattle.std.proofs.lemmas.List.{reverse-reverse}
 use Rattle.std.proofs.lemmas.List.Elements.{All-nil, All-contains, All-weaker}
-use Rattle.plane_base.specs.Plane.{Point, Edge, point_order}
+use Rattle.plane_base.specs.Plane.{Point, Edge, point_order, edge_order}
 use Rattle.plane_base.specs.Segments.{strictly_inside}
 use Rattle.plane_base.specs.Counts.{Count, Entry, boolean, IsNormal}
+use Rattle.plane_base.specs.Crossing.{late_marks}
 use Rattle.plane_base.proofs.Facts.Maps.Normal.{AllPairs-nil}
-use Rattle.plane_base.proofs.Facts.Points.Orders.{before_is_less, point_less_by_y}
-use Rattle.segment_split.specs.Passes.{edges_of}
-use Rattle.segment_split.specs.Redrawing.{redrawn, MarksInPass}
+use Rattle.plane_base.proofs.Facts.Points.Orders.{less_then, before_is_less, point_less_by_y}
+use Rattle.segment_split.specs.Passes.{edges_of, pass_by}
+use Rattle.segment_split.specs.Redrawing.{MarksInPass}
 use Rattle.segment_split.specs.LineLaws.{AllLevelOrUpright, IsEndOfSome, ArePoints, steps_between, has_inside}
 use Rattle.segment_split.specs.Stops.{LinesView, AreRising, bare}
-use Rattle.segment_split.specs.Sweeps.{in_column, in_row, Runs, reached, IsStop, IsBefore, IsSomeInside, Swept}
+use Rattle.segment_split.specs.Sweeps.{AreInOrder, in_column, in_row, Runs, reached, IsStop, IsBefore, IsSomeInside, Swept}
 use Rattle.segment_split.specs.declared.solver.Precision.{Precision}
 use Rattle.segment_split.proofs.Stops.Crossings.{mapped_from}
 use Rattle.segment_split.proofs.Stops.Steps.{behind_is, directed, reached_end}
 use Rattle.segment_split.proofs.Whole.Inside.{inside_from_point, inside_is_marked}
 use Rattle.segment_split.proofs.Whole.Neighbours.{contains_no, not_there_and_back}
-use Rattle.segment_split.proofs.Whole.StepLists.{steps_of_points}
+use Rattle.segment_split.proofs.Whole.StepLists.{steps_of_pass}
 
 -- ---- at first
 
@@ -66,7 +67,20 @@ any_tells {X} test (x ∷ xs) e = by (test x) refl e (any_tells test xs)
     by true f g rest = (x, (zero, omega arith, refl), f)
     by false f g rest = let k = rest g in (k.0, (suc k.1.0, omega (arith, k.1.1), k.1.2), k.2)
 
-module _ (es : List (Entry Count)) (h : IsNormal boolean es) (all : AllLevelOrUpright (edges_of es)) (t : Option Point) (ps : List Point) (gone ahead come : List (Entry Count))
+by_first : (e f : Entry Count) → edge_order e.edge f.edge ≡ Less → point_order e.edge.a f.edge.a ≢ Greater
+by_first e f l = ⊎_elim (λ m g. less_not (sym m ∙ g)) (λ m g. equal_not (sym m.0 ∙ g)) (less_then (point_order e.edge.a f.edge.a) (point_order e.edge.b f.edge.b) l)
+  where
+    less_not : Less ≡ Greater → ⊥
+    less_not e = absurd (cc)
+
+    equal_not : Equal ≡ Greater → ⊥
+    equal_not e = absurd (cc)
+
+-- a map is in order
+pub normal_in_order : (es : List (Entry Count)) → IsNormal boolean es → AreInOrder es
+normal_in_order es h = record { directed = h.directed; firsts = λ i j d k l. by_first (get_or es i d) (get_or es j d) (h.rising i j d k l) }
+
+module _ (es : List (Entry Count)) (h : AreInOrder es) (all : AllLevelOrUpright (edges_of es)) (t : Option Point) (ps : List Point) (gone ahead come : List (Entry Count))
     (lines : LinesView) (laid : List (Entry Count)) (marked : Bool) (swept : Swept es t ps [] gone ahead come lines laid marked) where
   first_there : (s : Edge) → Contains (edges_of es) s → Contains ps s.a
   first_there s at =
@@ -94,12 +108,18 @@ module _ (es : List (Entry Count)) (h : IsNormal boolean es) (all : AllLevelOrUp
               (λ k. absurd (not_before end.0 p end.1 (ap (point_order end.0.a) e ∙ before_is_less end.0.a end.0.b (directed es h all t ps swept.stops end.0 end.1)) k.1))
               (swept.stops.ends p end)
 
-  pub is_redrawn : (precision : Precision) → reverse laid ≡ redrawn boolean precision es
-  is_redrawn precision = ap reverse swept.steps ∙ (reverse-reverse (steps_between boolean es ps) ∙ sym (steps_of_points boolean precision es ps h all are_points))
+  pub is_laid : reverse laid ≡ pass_by boolean late_marks es
+  is_laid = ap reverse swept.steps ∙ (reverse-reverse (steps_between boolean es ps) ∙ sym (steps_of_pass boolean es ps h.directed all are_points))
+
+-- the same of a map
+module _ (es : List (Entry Count)) (h : IsNormal boolean es) (all : AllLevelOrUpright (edges_of es)) (t : Option Point) (ps : List Point) (gone ahead come : List (Entry Count))
+    (lines : LinesView) (laid : List (Entry Count)) (marked : Bool) (swept : Swept es t ps [] gone ahead come lines laid marked) where
+  map_points : ArePoints boolean es ps
+  map_points = are_points es (normal_in_order es h) all t ps gone ahead come lines laid marked swept
 
   pub is_marked : (precision : Precision) → (marked ≡ true) ↔ ((k : ℕ) × MarksInPass boolean precision es k)
   is_marked precision =
-      let told = inside_is_marked boolean precision es h all ps are_points in (
+      let told = inside_is_marked boolean precision es h all ps map_points in (
         (λ e. let k = swept.marks.0 e in told.0 (inside_from_point (edges_of es) ps k.2.0 k.0 k.2.1 k.1 k.2.2)),
         (λ m. swept.marks.1 (some (told.1 m))),
       )

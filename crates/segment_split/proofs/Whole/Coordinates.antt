@@ -7,8 +7,9 @@ use Rattle.std.proofs.lemmas.List.Elements.{All-map, All-contains}
 use Rattle.std.proofs.Math.IntN.{*ℤ-zero}
 use Rattle.plane_base.specs.Plane.{Point, Edge, turn, is_before, point_order}
 use Rattle.plane_base.specs.Segments.{strictly_inside, on_one_line}
-use Rattle.plane_base.specs.Counts.{Counting, Entry, IsNormal}
+use Rattle.plane_base.specs.Counts.{Counting, Entry}
 use Rattle.plane_base.specs.WholeLaws.{IsPiece}
+use Rattle.plane_base.proofs.Facts.Maps.Laying.{IsDirected}
 use Rattle.plane_base.proofs.Facts.Points.Orders.{point_less, point_equal, point_itself, point_less_by_x, point_less_by_y, point_less_x}
 use Rattle.plane_base.proofs.Facts.Points.Turns.{turn_there_and_back, turn_end_twice}
 use Rattle.segment_split.specs.Passes.{edges_of}
@@ -81,12 +82,12 @@ level_inside s p forward h =
 collinear_is : (u s : Edge) → is_before u.a u.b ≡ true → AreCollinear u s → on_one_line u s ≡ true
 collinear_is u s forward h = one_line_from u s h (collinear_swapped u s forward h)
 
-module _ {C : Type 0} (kind : Counting C) (es : List (Entry C)) (u : Edge) (p : Point) (h : IsNormal kind es) (all : AllLevelOrUpright (edges_of es)) (forward : is_before u.a u.b ≡ true) where
+module _ {C : Type 0} (es : List (Entry C)) (u : Edge) (p : Point) (h : IsDirected es) (all : AllLevelOrUpright (edges_of es)) (forward : is_before u.a u.b ≡ true) where
   way : (s : Edge) → Contains (edges_of es) s → IsLevel s ⊎ IsUpright s
   way s at = level_or_upright s (All-contains (λ s. is_level_or_upright s ≡ true) (edges_of es) s all at)
 
   directed : (s : Edge) → Contains (edges_of es) s → is_before s.a s.b ≡ true
-  directed s at = All-contains IsDirectedEdge (edges_of es) s (All-map IsDirectedEdge (λ (e : Entry C). e.edge) es h.directed) at
+  directed s at = All-contains IsDirectedEdge (edges_of es) s (All-map IsDirectedEdge (λ (e : Entry C). e.edge) es h) at
 
   level_cut : IsLevel u → IsCutPoint (edges_of es) u p → (p.y ≡ u.a.y) × IsMetAt PassesUpThrough (edges_of es) p
   level_cut level cut = (height, (cut.of, cut.listed, ⊎_elim inl (λ k. inr (passes (way cut.of cut.listed) k.0 k.1)) cut.meets))
@@ -139,6 +140,12 @@ module _ {C : Type 0} (kind : Counting C) (es : List (Entry C)) (u : Edge) (p : 
         where
           clash : (x y z : ℤ) → x ≡ z → y ≡ z → (m : ℤ) → x <ℤ m → m <ℤ y → ⊥
           clash x y z e f m h k = omega (arith, ints)
+
+  pub level_line : IsLevel u → IsCutPoint (edges_of es) u p ↔ ((p.y ≡ u.a.y) × IsMetAt PassesUpThrough (edges_of es) p)
+  level_line level = (level_cut level, (λ k. cut_level level k.0 k.1))
+
+  pub upright_line : IsUpright u → IsCutPoint (edges_of es) u p ↔ ((p.x ≡ u.a.x) × IsMetAt PassesLevelThrough (edges_of es) p)
+  upright_line upright = (upright_cut upright, (λ k. cut_upright upright k.0 k.1))
 
 -- ---- parts
 
@@ -231,8 +238,8 @@ module _ (u s : Edge) (forward : is_before u.a u.b ≡ true) (other : is_before 
 
 pub cut_by_coordinates : {C : Type 0} (kind : Counting C) → CutByCoordinates kind
 cut_by_coordinates kind = record {
-  level_line = λ es u p h all forward level. (level_cut kind es u p h all forward level, (λ k. cut_level kind es u p h all forward level k.0 k.1));
-  upright_line = λ es u p h all forward upright. (upright_cut kind es u p h all forward upright, (λ k. cut_upright kind es u p h all forward upright k.0 k.1));
+  level_line = λ es u p h all forward level. level_line es u p h.directed all forward level;
+  upright_line = λ es u p h all forward upright. upright_line es u p h.directed all forward upright;
   level_part = λ u s forward other level. (level_spans u s forward other level, spans_level u s forward other level);
   upright_part = λ u s forward other upright. (upright_spans u s forward other upright, spans_upright u s forward other upright);
 }

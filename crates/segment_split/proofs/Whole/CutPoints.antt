@@ -1,5 +1,5 @@
 -- Where edges cross at whole points alone, the points of an edge's path are the cut points of its line on it, and its steps join neighbours.
-use Rattle.std.proofs.Common.{◌≡◌, ◌↔◌, ◌<◌, Bool, true, false, List, [], ◌∷◌, ◌++◌, All, Contains, ◌⊎◌, inl, inr, ⊎_elim, subst, pos, ◌&&◌, Ordering, Less, Equal, Greater, is_lt, int_eq, refl, sym, ap, ◌∙◌, arith}
+use Rattle.std.proofs.Common.{◌≡◌, ◌↔◌, ◌<◌, ℕ, Bool, true, false, List, [], ◌∷◌, ◌++◌, All, Contains, ◌⊎◌, inl, inr, ⊎_elim, subst, pos, ◌&&◌, Ordering, Less, Equal, Greater, int_eq, refl, sym, ap, ◌∙◌, arith}
 use Rattle.std.specs.Prelude.{unsigned_abs}
 use Rattle.std.specs.Ordering.{is_le}
 use Rattle.std.proofs.lemmas.Bool.{false≢true}
@@ -15,12 +15,13 @@ use Rattle.plane_base.proofs.Facts.Crossings.Tests.{both_true}
 use Rattle.plane_base.proofs.Facts.Crossings.Place.{other_apart}
 use Rattle.plane_base.proofs.Facts.Crossings.Pieces.{three_on_line, le_then_less, less_then_le}
 use Rattle.segment_split.specs.Paths.{along, path}
-use Rattle.segment_split.specs.Passes.{marks_on}
-use Rattle.segment_split.specs.WholeLaws.{AllMeetWhole}
+use Rattle.segment_split.specs.Passes.{marks_in, marks_on}
+use Rattle.segment_split.specs.WholeLaws.{MeetsAllWhole}
 use Rattle.segment_split.specs.LineLaws.{IsCutPoint, is_part, JoinsNeighbours}
+use Rattle.segment_split.specs.declared.solver.Precision.{Precision}
 use Rattle.segment_split.proofs.Spread.Lists.{IsDirectedEdge}
-use Rattle.segment_split.proofs.Whole.Marks.{whole_marks_inside}
-use Rattle.segment_split.proofs.Whole.Pieces.{IsOnEdge, path_on}
+use Rattle.segment_split.proofs.Whole.Marks.{whole_marks_on, whole_marks_inside}
+use Rattle.segment_split.proofs.Whole.Pieces.{step_of_path}
 use Rattle.segment_split.proofs.Passes.Steps.{contains_head, contains_tail, along_holds, IsStep, inside_is, inside_from, path_tells}
 use Rattle.segment_split.proofs.Passes.Common.{AreCollinear, collinear_swapped, one_line_from, end_marked, common_marked, mark_tells}
 use Rattle.segment_split.proofs.Passes.Last.{joined_from, joined_tells, inside_piece}
@@ -86,12 +87,12 @@ cut_point_moved es u s p forward same h = record {
 
 -- ---- marks are cut points
 
-module _ (es : List Edge) (directed : All IsDirectedEdge es) (whole : AllMeetWhole es) (s : Edge) (at : Contains es s) where
+module _ (es : List Edge) (directed : All IsDirectedEdge es) (s : Edge) (at : Contains es s) (meets : MeetsAllWhole es s) where
   pub directed_at : (r : Edge) → Contains es r → is_before r.a r.b ≡ true
   directed_at r there = All-contains IsDirectedEdge es r directed there
 
   pub marked_inside : All (λ m. strictly_inside m s ≡ true) (marks_on late_marks es s)
-  marked_inside = whole_marks_inside es s directed whole at (directed_at s at)
+  marked_inside = whole_marks_inside es s directed meets (directed_at s at)
 
   flat_inside : (p : Point) → strictly_inside p s ≡ true → turn s.a s.b p ≡ pos 0
   flat_inside p e = (inside_is p s e).0
@@ -105,7 +106,7 @@ module _ (es : List Edge) (directed : All IsDirectedEdge es) (whole : AllMeetWho
         listed = found.1;
         meets =
             ⊎_elim inl (λ k. inr (k.1, not_one_line s found.0 (apart found.0 k.0)))
-            (mark_tells s found.0 p (directed_at s at) (directed_at found.0 found.1) (whole s found.0 at found.1) found.2);
+            (mark_tells s found.0 p (directed_at s at) (directed_at found.0 found.1) (meets found.0 found.1) found.2);
       }
     where
       apart : (r : Edge) → cross_properly s r ≡ true → AreCollinear s r → ⊥
@@ -120,7 +121,7 @@ module _ (es : List Edge) (directed : All IsDirectedEdge es) (whole : AllMeetWho
       passed : (strictly_inside p h.of ≡ true) × (on_one_line s h.of ≡ false) → Contains (late_marks s h.of).first p
       passed k =
           ⊎_elim (λ m. m) (λ c. absurd (false≢true (sym k.1 ∙ one_line_from s h.of c (collinear_swapped s h.of (directed_at s at) c))))
-          (common_marked s h.of p (directed_at s at) (directed_at h.of h.listed) (whole s h.of at h.listed) e k.0)
+          (common_marked s h.of p (directed_at s at) (directed_at h.of h.listed) (meets h.of h.listed) e k.0)
 
   -- ---- the points of the path
 
@@ -157,11 +158,7 @@ module _ (es : List Edge) (directed : All IsDirectedEdge es) (whole : AllMeetWho
   -- ---- its steps
 
   pub step_is_piece : (u : Edge) → IsStep points u → IsPiece u s
-  step_is_piece u step =
-      let on = path_on s (marks_on late_marks es s) (directed_at s at) marked_inside in
-      let first = All-contains (IsOnEdge s) points u.a on step.first in
-      let second = All-contains (IsOnEdge s) points u.b on step.second in
-      record { first_on = first.flat; second_on = second.flat; from = first.from; forward = ap is_lt step.forward; to = second.to }
+  step_is_piece = step_of_path s (marks_on late_marks es s) (directed_at s at) marked_inside
 
   line_of : (u : Edge) → IsPiece u s → (p : Point) → (turn s.a s.b p ≡ pos 0) ↔ (turn u.a u.b p ≡ pos 0)
   line_of u piece = same_line u s (directed_at s at) piece
@@ -213,3 +210,19 @@ module _ (es : List Edge) (directed : All IsDirectedEdge es) (whole : AllMeetWho
           false≢true
           (sym (h.free p (cut_point_moved es s u p (directed_at s at) (λ q. ((line_of u piece q).1, (line_of u piece q).0)) k))
           ∙ inside_from p u ((line_of u piece p).0 k.flat) l m)
+
+-- ---- marks of any pass
+
+-- an edge that meets all others whole is marked at the cut points strictly inside it
+pub marks_are_cut_points : (precision : Precision) (k : ℕ) (es : List Edge) (s : Edge) (p : Point) → All IsDirectedEdge es → Contains es s → MeetsAllWhole es s
+    → Contains (marks_on (marks_in precision k) es s) p ↔ (IsCutPoint es s p × (strictly_inside p s ≡ true))
+marks_are_cut_points precision k es s p directed at meets = (
+  (λ m. let l = subst (λ ms. Contains ms p) same m in (
+    mark_is_cut_point es directed s at meets p l,
+    All-contains (λ m. strictly_inside m s ≡ true) (marks_on late_marks es s) p (marked_inside es directed s at meets) l,
+  )),
+  (λ m. subst (λ ms. Contains ms p) (sym same) (cut_point_is_mark es directed s at meets p m.0 m.1)),
+)
+  where
+    same : marks_on (marks_in precision k) es s ≡ marks_on late_marks es s
+    same = whole_marks_on precision k es s meets

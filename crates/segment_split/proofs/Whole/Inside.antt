@@ -1,5 +1,5 @@
 -- Which edges of a level and upright map are marked: those that some point lies strictly inside.
-use Rattle.std.proofs.Common.{◌≡◌, ◌↔◌, ℕ, suc, Bool, true, false, cond, List, [], ◌∷◌, map, filter, Option, Some, None, All, AllPairs, Contains, ◌⊎◌, inl, inr, ⊎_elim, subst, ℤ, pos, ◌+ℤ◌, ◌<ℤ◌, ◌≤ℤ◌, Less, Equal, is_eq, refl, sym, ap, ◌∙◌, arith}
+use Rattle.std.proofs.Common.{◌≡◌, ◌↔◌, ℕ, suc, Bool, true, false, cond, List, [], ◌∷◌, map, Option, Some, None, All, AllPairs, Contains, ◌⊎◌, inl, inr, ⊎_elim, subst, ℤ, pos, ◌+ℤ◌, ◌<ℤ◌, ◌≤ℤ◌, Less, Equal, is_eq, refl, sym, ap, ◌∙◌, arith}
 use Rattle.std.specs.List.{list_any}
 use Rattle.std.proofs.lemmas.Int.{ints}
 use Rattle.std.proofs.lemmas.Bool.{false≢true}
@@ -84,18 +84,18 @@ module _ {C : Type 0} (kind : Counting C) (precision : Precision) (es : List (En
   whole = level_and_upright_meet_whole kind es h all
 
   forward : (s : Edge) → Contains (edges_of es) s → is_before s.a s.b ≡ true
-  forward s at = directed_entry kind es h all ps points s at
+  forward s at = directed_entry kind es h.directed all ps points s at
 
   -- ---- a point inside an edge is marked
 
   point_cuts : (s : Edge) → Contains (edges_of es) s → (p : Point) → Contains ps p → strictly_inside p s ≡ true → IsCutPoint (edges_of es) s p
-  point_cuts s at p there e = ⊎_elim level upright (way_of kind es h all ps points s at)
+  point_cuts s at p there e = ⊎_elim level upright (way_of kind es h.directed all ps points s at)
     where
       level : IsLevel s → IsCutPoint (edges_of es) s p
-      level k = point_cuts_level kind es h all ps points s (forward s at) k p there (sym (inside_level s p (forward s at) k e).first)
+      level k = point_cuts_level kind es h.directed all ps points s (forward s at) k p there (sym (inside_level s p (forward s at) k e).first)
 
       upright : IsUpright s → IsCutPoint (edges_of es) s p
-      upright k = point_cuts_upright kind es h all ps points s (forward s at) k p there (sym (inside_upright s p (forward s at) k e).first)
+      upright k = point_cuts_upright kind es h.directed all ps points s (forward s at) k p there (sym (inside_upright s p (forward s at) k e).first)
 
   shown : has_inside (edges_of es) ps ≡ true → (k : ℕ) × MarksInPass kind precision es k
   shown e =
@@ -111,7 +111,7 @@ module _ {C : Type 0} (kind : Counting C) (precision : Precision) (es : List (En
     absent s at p there e = false≢true (sym none ∙ inside_from_point (edges_of es) ps s p at there e)
 
     end_absent : (s r : Edge) → Contains (edges_of es) s → Contains (edges_of es) r → (p : Point) → (p ≡ r.a) ⊎ (p ≡ r.b) → strictly_inside p s ≡ true → ⊥
-    end_absent s r at there p end e = absent s at p (an_end kind es h all ps points r there p end) e
+    end_absent s r at there p end e = absent s at p (an_end kind es h.directed all ps points r there p end) e
 
     -- two edges on one level line overlap, so an end of one lies inside the other
     level_apart : (s r : Edge) → Contains (edges_of es) s → Contains (edges_of es) r → edge_order s r ≡ Less → (y z : ℤ) → s.a.y ≡ y → s.b.y ≡ y → r.a.y ≡ y → r.b.y ≡ y
@@ -135,10 +135,10 @@ module _ {C : Type 0} (kind : Counting C) (precision : Precision) (es : List (En
     level_counts s at p passes e = by (entries_along es (record { a = p; b = right_of p })) refl
       where
         short_before : is_before p (right_of p) ≡ true
-        short_before = short_level_before kind es h all ps points s (forward s at) (passes.first ∙ sym passes.second) p
+        short_before = short_level_before kind es h.directed all ps points s (forward s at) (passes.first ∙ sym passes.second) p
 
         spans : (r : Edge) → Contains (edges_of es) r → (is_part (record { a = p; b = right_of p }) r ≡ true) ↔ SpansLevel r (record { a = p; b = right_of p })
-        spans r there = level_parts kind es h all ps points s (forward s at) (passes.first ∙ sym passes.second) (record { a = p; b = right_of p }) r short_before refl there
+        spans r there = level_parts kind es h.directed all ps points s (forward s at) (passes.first ∙ sym passes.second) (record { a = p; b = right_of p }) r short_before refl there
 
         entry : (f : Entry C) × Contains es f × (f.edge ≡ s)
         entry = entry_of_edge es s at
@@ -181,7 +181,7 @@ module _ {C : Type 0} (kind : Counting C) (precision : Precision) (es : List (En
     level_none s at way p cut e = ⊎_elim (λ end. end_absent s k.1.0 at k.1.1 p end e) crossed k.1.2
       where
         k : (p.y ≡ s.a.y) × IsMetAt PassesUpThrough (edges_of es) p
-        k = (level_cut_is kind es h all ps points s (forward s at) way p).0 cut
+        k = (level_cut_is kind es h.directed all ps points s (forward s at) way p).0 cut
 
         passes : PassesLevelThrough s p
         passes = inside_level s p (forward s at) way e
@@ -215,10 +215,10 @@ module _ {C : Type 0} (kind : Counting C) (precision : Precision) (es : List (En
     upright_counts s at p passes e = by (entries_along es (record { a = p; b = above p })) refl
       where
         short_before : is_before p (above p) ≡ true
-        short_before = short_upright_before kind es h all ps points s (forward s at) (passes.first ∙ sym passes.second) p
+        short_before = short_upright_before kind es h.directed all ps points s (forward s at) (passes.first ∙ sym passes.second) p
 
         spans : (r : Edge) → Contains (edges_of es) r → (is_part (record { a = p; b = above p }) r ≡ true) ↔ SpansUp r (record { a = p; b = above p })
-        spans r there = upright_parts kind es h all ps points s (forward s at) (passes.first ∙ sym passes.second) (record { a = p; b = above p }) r short_before refl there
+        spans r there = upright_parts kind es h.directed all ps points s (forward s at) (passes.first ∙ sym passes.second) (record { a = p; b = above p }) r short_before refl there
 
         entry : (f : Entry C) × Contains es f × (f.edge ≡ s)
         entry = entry_of_edge es s at
@@ -261,7 +261,7 @@ module _ {C : Type 0} (kind : Counting C) (precision : Precision) (es : List (En
     upright_none s at way p cut e = ⊎_elim (λ end. end_absent s k.1.0 at k.1.1 p end e) crossed k.1.2
       where
         k : (p.x ≡ s.a.x) × IsMetAt PassesLevelThrough (edges_of es) p
-        k = (upright_cut_is kind es h all ps points s (forward s at) way p).0 cut
+        k = (upright_cut_is kind es h.directed all ps points s (forward s at) way p).0 cut
 
         passes : PassesUpThrough s p
         passes = inside_upright s p (forward s at) way e
@@ -284,7 +284,7 @@ module _ {C : Type 0} (kind : Counting C) (precision : Precision) (es : List (En
             by (p ∷ l) e =
                 let mark : Contains (marks_on (marks_in precision k) (edges_of es) s) p = subst (λ ms. Contains ms p) (sym e) (0, omega arith, refl) in
                 let cut = ((redraws_by_lines kind precision).marks es k s p h whole at).0 mark in
-                absurd (⊎_elim (λ way. level_none s at way p cut.0 cut.1) (λ way. upright_none s at way p cut.0 cut.1) (way_of kind es h all ps points s at))
+                absurd (⊎_elim (λ way. level_none s at way p cut.0 cut.1) (λ way. upright_none s at way p cut.0 cut.1) (way_of kind es h.directed all ps points s at))
 
     hidden : (k : ℕ) → MarksInPass kind precision es k → ⊥
     hidden k some =

@@ -1,5 +1,5 @@
 -- Level and upright edges cross at whole points alone.
-use Rattle.std.proofs.Common.{◌≡◌, true, ℤ, pos, ◌-ℤ◌, ◌*ℤ◌, ◌<ℤ◌, Contains, ◌⊎◌, inl, inr, ⊎_elim, int_eq, sym, ap, ◌∙◌, arith}
+use Rattle.std.proofs.Common.{◌≡◌, true, List, ℤ, pos, ◌-ℤ◌, ◌*ℤ◌, ◌<ℤ◌, Contains, ◌⊎◌, inl, inr, ⊎_elim, int_eq, sym, ap, ◌∙◌, arith}
 use Rattle.std.proofs.lemmas.Int.{ints}
 use Rattle.std.proofs.lemmas.Bool.Decides.{Decides-int_eq}
 use Rattle.std.proofs.lemmas.List.Elements.{All-map, All-contains}
@@ -8,13 +8,15 @@ use Rattle.plane_base.specs.Segments.{cross_properly, opposite}
 use Rattle.plane_base.specs.Crossing.{crossing}
 use Rattle.plane_base.specs.Counts.{Counting, Entry}
 use Rattle.plane_base.specs.WholeLaws.{MeetsWhole}
+use Rattle.plane_base.proofs.Facts.Maps.Laying.{IsDirected}
 use Rattle.plane_base.proofs.Facts.Numbers.Products.{factor_zero}
 use Rattle.plane_base.proofs.Facts.Points.Orders.{point_less, before_is_less}
 use Rattle.plane_base.proofs.Facts.Crossings.Tests.{opposite_tells, both_true, one_true}
 use Rattle.plane_base.proofs.Facts.Crossings.Place.{crossing_is_common}
 use Rattle.plane_base.proofs.Facts.Crossings.Whole.{whole_is_point, whole_marks_stay}
 use Rattle.segment_split.specs.Passes.{edges_of}
-use Rattle.segment_split.specs.LineLaws.{is_level_or_upright, LevelAndUprightMeetWhole}
+use Rattle.segment_split.specs.WholeLaws.{AllMeetWhole}
+use Rattle.segment_split.specs.LineLaws.{is_level_or_upright, AllLevelOrUpright, LevelAndUprightMeetWhole}
 use Rattle.segment_split.proofs.Spread.Lists.{IsDirectedEdge}
 
 abbrev pub IsLevel : Edge → Type 0
@@ -95,19 +97,26 @@ level_meets_upright s t forward other h k e =
     (whole_is_point.point (crossing s t) (crossing_is_common.is_rational s t e)).1
     (record { x = t.a.x; y = s.a.y }, (λ i. record { x = x i; y = y i }))
 
--- ---- the law
-
-pub level_and_upright_meet_whole : {C : Type 0} (kind : Counting C) → LevelAndUprightMeetWhole kind
-level_and_upright_meet_whole {C} kind es h all s t in_s in_t = by (way s in_s) (way t in_t)
+-- any two of them, where both run forward
+pub lines_meet_whole : (s t : Edge) → is_before s.a s.b ≡ true → is_before t.a t.b ≡ true → is_level_or_upright s ≡ true → is_level_or_upright t ≡ true → MeetsWhole s t
+lines_meet_whole s t forward other line own = by (level_or_upright s line) (level_or_upright t own)
   where
-    way : (r : Edge) → Contains (edges_of es) r → IsLevel r ⊎ IsUpright r
-    way r at = level_or_upright r (All-contains (λ s. is_level_or_upright s ≡ true) (edges_of es) r all at)
-
-    forward : (r : Edge) → Contains (edges_of es) r → is_before r.a r.b ≡ true
-    forward r at = All-contains IsDirectedEdge (edges_of es) r (All-map IsDirectedEdge (λ (e : Entry C). e.edge) es h.directed) at
-
     by : IsLevel s ⊎ IsUpright s → IsLevel t ⊎ IsUpright t → MeetsWhole s t
     by (inl f) (inl g) e = absurd (both_level s t f g e)
-    by (inl f) (inr g) e = level_meets_upright s t (forward s in_s) (forward t in_t) f g e
-    by (inr f) (inl g) e = whole_marks_stay.swapped t s (level_meets_upright t s (forward t in_t) (forward s in_s) g f) e
+    by (inl f) (inr g) e = level_meets_upright s t forward other f g e
+    by (inr f) (inl g) e = whole_marks_stay.swapped t s (level_meets_upright t s other forward g f) e
     by (inr f) (inr g) e = absurd (both_upright s t f g e)
+
+-- ---- the law
+
+pub level_meet_whole : {C : Type 0} (es : List (Entry C)) → IsDirected es → AllLevelOrUpright (edges_of es) → AllMeetWhole (edges_of es)
+level_meet_whole {C} es directed all s t in_s in_t = lines_meet_whole s t (forward s in_s) (forward t in_t) (line s in_s) (line t in_t)
+  where
+    line : (r : Edge) → Contains (edges_of es) r → is_level_or_upright r ≡ true
+    line r at = All-contains (λ s. is_level_or_upright s ≡ true) (edges_of es) r all at
+
+    forward : (r : Edge) → Contains (edges_of es) r → is_before r.a r.b ≡ true
+    forward r at = All-contains IsDirectedEdge (edges_of es) r (All-map IsDirectedEdge (λ (e : Entry C). e.edge) es directed) at
+
+pub level_and_upright_meet_whole : {C : Type 0} (kind : Counting C) → LevelAndUprightMeetWhole kind
+level_and_upright_meet_whole kind es h all = level_meet_whole es h.directed all

@@ -3,25 +3,24 @@ use Rattle.std.proofs.Common.{◌≡◌, ◌↔◌, ℕ, zero, suc, ◌<◌, Boo
 use Rattle.std.proofs.lemmas.Bool.{false≢true}
 use Rattle.std.proofs.lemmas.List.Elements.{All-cons, All-head, All-tail, All-map, All-weaker, All-contains, All-contains_itself}
 use Rattle.plane_base.specs.Plane.{Point, Edge, point_order, edge_order}
-use Rattle.plane_base.specs.Segments.{strictly_inside}
 use Rattle.plane_base.specs.Counts.{Counting, Entry, count_at, IsNormal}
 use Rattle.plane_base.specs.Given.{laid_path}
 use Rattle.plane_base.specs.Crossing.{late_marks}
 use Rattle.plane_base.proofs.Facts.Maps.Normal.{AllPairs-head, AllPairs-tail, normal_edges, with_count, joined_at, count_at_normal, same_normal}
-use Rattle.plane_base.proofs.Facts.Maps.Laying.{lay_by}
+use Rattle.plane_base.proofs.Facts.Maps.Laying.{IsDirected, lay_by}
 use Rattle.plane_base.proofs.Facts.Points.Orders.{point_total, edge_itself, edge_equal, is_equal, less_apart}
 use Rattle.segment_split.specs.Paths.{path}
-use Rattle.segment_split.specs.Passes.{edges_of, marks_in, marks_on, cut, pass_by}
+use Rattle.segment_split.specs.Passes.{edges_of, marks_on, cut, pass_by}
 use Rattle.segment_split.specs.Redrawing.{redrawn}
 use Rattle.segment_split.specs.WholeLaws.{AllMeetWhole}
-use Rattle.segment_split.specs.LineLaws.{IsCutPoint, is_part, JoinsNeighbours, entries_along, count_along, IsMapOfNeighbours, RedrawsByLines}
+use Rattle.segment_split.specs.LineLaws.{is_part, JoinsNeighbours, entries_along, count_along, IsMapOfNeighbours, RedrawsByLines}
 use Rattle.segment_split.specs.declared.solver.Precision.{Precision}
 use Rattle.segment_split.proofs.Spread.Lists.{IsDirectedEdge, all_flat_map, edges_contain}
-use Rattle.segment_split.proofs.Whole.Marks.{whole_pass, whole_marks_on}
+use Rattle.segment_split.proofs.Whole.Marks.{whole_pass}
 use Rattle.segment_split.proofs.Whole.Pieces.{directed_edges}
-use Rattle.segment_split.proofs.Whole.Redrawing.{pass_is_normal}
-use Rattle.segment_split.proofs.Whole.CutPoints.{part_from, marked_inside, mark_is_cut_point, cut_point_is_mark, step_is_piece, step_joins, joins_step}
+use Rattle.segment_split.proofs.Whole.CutPoints.{part_from, marked_inside, step_is_piece, step_joins, joins_step, marks_are_cut_points}
 use Rattle.segment_split.proofs.Passes.Steps.{contains_head, contains_tail, IsRisingPath, IsStep, path_rises, cut_steps}
+use Rattle.segment_split.proofs.Passes.Laws.{pass_is_normal}
 use Rattle.segment_split.proofs.Passes.Last.{one_pass_is_enough}
 
 -- ---- steps of rising paths
@@ -183,7 +182,7 @@ count_listed {C} (e ∷ es) u c h = by (is_eq (edge_order e.edge u)) refl h (cou
 
 -- ---- the pass
 
-module _ {C : Type 0} (kind : Counting C) (es : List (Entry C)) (h : IsNormal kind es) (whole : AllMeetWhole (edges_of es)) where
+module _ {C : Type 0} (kind : Counting C) (es : List (Entry C)) (h : IsDirected es) (whole : AllMeetWhole (edges_of es)) where
   directed : All IsDirectedEdge (edges_of es)
   directed = directed_edges kind es h whole
 
@@ -194,42 +193,38 @@ module _ {C : Type 0} (kind : Counting C) (es : List (Entry C)) (h : IsNormal ki
   pass_joins =
       normal_edges kind (JoinsNeighbours (edges_of es)) (flat_map (cut kind late_marks (edges_of es)) es)
       (all_flat_map (λ (f : Entry C). JoinsNeighbours (edges_of es) f.edge) (cut kind late_marks (edges_of es)) es
-      (λ k d l. each (get_or es k d) (edges_contain es k d l) (h.directed k d l)))
+      (λ k d l. each (get_or es k d) (edges_contain es k d l) (h k d l)))
     where
       each : (e : Entry C) → Contains (edges_of es) e.edge → IsDirectedEdge e.edge → All (λ f. JoinsNeighbours (edges_of es) f.edge) (cut kind late_marks (edges_of es) e)
       each e at forward =
           All-weaker (λ (f : Entry C). IsStep (points e) f.edge) (λ f. JoinsNeighbours (edges_of es) f.edge)
-          (λ f step. step_joins (edges_of es) directed whole e.edge at f.edge step) (cut kind late_marks (edges_of es) e)
-          (cut_steps e.edge forward (marks_on late_marks (edges_of es) e.edge) (marked_inside (edges_of es) directed whole e.edge at) kind e.count)
+          (λ f step. step_joins (edges_of es) directed e.edge at (λ t. whole e.edge t at) f.edge step) (cut kind late_marks (edges_of es) e)
+          (cut_steps e.edge forward (marks_on late_marks (edges_of es) e.edge) (marked_inside (edges_of es) directed e.edge at (λ t. whole e.edge t at)) kind e.count)
 
   pass_counts : (u : Edge) → JoinsNeighbours (edges_of es) u → count_at (pass_by kind late_marks es) u ≡ count_along kind es u
   pass_counts u joins =
       count_at_normal kind (flat_map (cut kind late_marks (edges_of es)) es) u
-      ∙ paths_count kind u points es (λ k d l. each (get_or es k d) (edges_contain es k d l) (h.directed k d l))
+      ∙ paths_count kind u points es (λ k d l. each (get_or es k d) (edges_contain es k d l) (h k d l))
       ∙ sym (count_at_normal kind (on_it kind u (entries_along es u)) u)
     where
       each : (e : Entry C) → Contains (edges_of es) e.edge → IsDirectedEdge e.edge → StepsAlong kind u points e
       each e at forward = (
-        path_rises e.edge forward (marks_on late_marks (edges_of es) e.edge) (marked_inside (edges_of es) directed whole e.edge at),
-        (joins_step (edges_of es) directed whole e.edge at u joins, (λ step. part_from u e.edge (step_is_piece (edges_of es) directed whole e.edge at u step))),
+        path_rises e.edge forward (marks_on late_marks (edges_of es) e.edge) (marked_inside (edges_of es) directed e.edge at (λ t. whole e.edge t at)),
+        (joins_step (edges_of es) directed e.edge at (λ t. whole e.edge t at) u joins, (λ step. part_from u e.edge (step_is_piece (edges_of es) directed e.edge at (λ t. whole e.edge t at) u step))),
       )
 
-module _ {C : Type 0} (kind : Counting C) (precision : Precision) where
-  redrawn_by_a_pass : (es : List (Entry C)) → IsNormal kind es → AllMeetWhole (edges_of es) → redrawn kind precision es ≡ pass_by kind late_marks es
-  redrawn_by_a_pass es h whole = (one_pass_is_enough kind precision).is_last es 0 h whole ∙ whole_pass kind precision es 0 whole
+-- a directed list becomes the map of its neighbours in one late pass
+pub pass_is_map : {C : Type 0} (kind : Counting C) (es : List (Entry C)) → IsDirected es → AllMeetWhole (edges_of es) → IsMapOfNeighbours kind es (pass_by kind late_marks es)
+pass_is_map kind es h whole = record {
+  is_normal = pass_is_normal kind late_marks es;
+  joins = λ u.
+      All-contains (JoinsNeighbours (edges_of es)) (edges_of (pass_by kind late_marks es)) u
+      (All-map (JoinsNeighbours (edges_of es)) (λ (e : Entry _). e.edge) (pass_by kind late_marks es) (pass_joins kind es h whole));
+  counts = pass_counts kind es h whole;
+}
 
-  redrawn_is_map : (es : List (Entry C)) → IsNormal kind es → AllMeetWhole (edges_of es) → IsMapOfNeighbours kind es (redrawn kind precision es)
-  redrawn_is_map es h whole =
-      subst (IsMapOfNeighbours kind es) (sym (redrawn_by_a_pass es h whole))
-      (record {
-        is_normal = subst (IsNormal kind) (whole_pass kind precision es 0 whole) (pass_is_normal kind precision es 0);
-        joins = λ u.
-            All-contains (JoinsNeighbours (edges_of es)) (edges_of (pass_by kind late_marks es)) u
-            (All-map (JoinsNeighbours (edges_of es)) (λ (e : Entry C). e.edge) (pass_by kind late_marks es) (pass_joins kind es h whole));
-        counts = pass_counts kind es h whole;
-      })
-
-  one_map : (es fs gs : List (Entry C)) → IsMapOfNeighbours kind es fs → IsMapOfNeighbours kind es gs → fs ≡ gs
+module _ {C : Type 0} (kind : Counting C) where
+  pub one_map : (es fs gs : List (Entry C)) → IsMapOfNeighbours kind es fs → IsMapOfNeighbours kind es gs → fs ≡ gs
   one_map es fs gs f g = same_normal fs gs f.is_normal g.is_normal (λ u. by u (count_at fs u) (count_at gs u) refl refl)
     where
       at : (u : Edge) → JoinsNeighbours (edges_of es) u → count_at fs u ≡ count_at gs u
@@ -240,25 +235,16 @@ module _ {C : Type 0} (kind : Counting C) (precision : Precision) where
       by u None (Some d) e k = at u (g.joins u (count_listed gs u d k))
       by u None None e k = e ∙ sym k
 
-  marks_are_cut_points : (es : List (Entry C)) (k : ℕ) (s : Edge) (p : Point) → IsNormal kind es → AllMeetWhole (edges_of es) → Contains (edges_of es) s
-      → Contains (marks_on (marks_in precision k) (edges_of es) s) p ↔ (IsCutPoint (edges_of es) s p × (strictly_inside p s ≡ true))
-  marks_are_cut_points es k s p h whole at = (
-    (λ m. let l = subst (λ ms. Contains ms p) same m in (
-      mark_is_cut_point (edges_of es) directed_all whole s at p l,
-      All-contains (λ m. strictly_inside m s ≡ true) (marks_on late_marks (edges_of es) s) p (marked_inside (edges_of es) directed_all whole s at) l,
-    )),
-    (λ m. subst (λ ms. Contains ms p) (sym same) (cut_point_is_mark (edges_of es) directed_all whole s at p m.0 m.1)),
-  )
-    where
-      directed_all : All IsDirectedEdge (edges_of es)
-      directed_all = directed_edges kind es h whole
+module _ {C : Type 0} (kind : Counting C) (precision : Precision) where
+  pub redrawn_by_a_pass : (es : List (Entry C)) → IsNormal kind es → AllMeetWhole (edges_of es) → redrawn kind precision es ≡ pass_by kind late_marks es
+  redrawn_by_a_pass es h whole = (one_pass_is_enough kind precision).is_last es 0 h whole ∙ whole_pass kind precision es 0 whole
 
-      same : marks_on (marks_in precision k) (edges_of es) s ≡ marks_on late_marks (edges_of es) s
-      same = whole_marks_on precision k (edges_of es) s whole at
+  redrawn_is_map : (es : List (Entry C)) → IsNormal kind es → AllMeetWhole (edges_of es) → IsMapOfNeighbours kind es (redrawn kind precision es)
+  redrawn_is_map es h whole = subst (IsMapOfNeighbours kind es) (sym (redrawn_by_a_pass es h whole)) (pass_is_map kind es h.directed whole)
 
   pub redraws_by_lines : RedrawsByLines kind precision
   redraws_by_lines = record {
-    marks = marks_are_cut_points;
+    marks = λ es k s p h whole at. marks_are_cut_points precision k (edges_of es) s p (directed_edges kind es h.directed whole) at (λ t. whole s t at);
     is_map = redrawn_is_map;
-    only = λ es fs h whole map. one_map es fs (redrawn kind precision es) map (redrawn_is_map es h whole);
+    only = λ es fs h whole map. one_map kind es fs (redrawn kind precision es) map (redrawn_is_map es h whole);
   }

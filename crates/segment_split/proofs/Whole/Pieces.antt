@@ -3,12 +3,12 @@ use Rattle.std.proofs.Common.{◌≡◌, true, List, [], ◌∷◌, ◌++◌, fl
 use Rattle.std.specs.Ordering.{is_le}
 use Rattle.std.proofs.lemmas.List.Elements.{All-nil, All-cons, All-head, All-tail, All-append, All-push, All-map, All-weaker, All-contains}
 use Rattle.plane_base.specs.Plane.{Point, Edge, turn, point_order, is_before}
-use Rattle.plane_base.specs.Counts.{Counting, Entry, lay, IsNormal}
+use Rattle.plane_base.specs.Counts.{Counting, Entry, lay}
 use Rattle.plane_base.specs.Given.{laid_path}
 use Rattle.plane_base.specs.Segments.{strictly_inside}
 use Rattle.plane_base.specs.Crossing.{late_marks}
 use Rattle.plane_base.specs.WholeLaws.{IsPiece}
-use Rattle.plane_base.proofs.Facts.Maps.Laying.{lay_by}
+use Rattle.plane_base.proofs.Facts.Maps.Laying.{IsDirected, lay_by}
 use Rattle.plane_base.proofs.Facts.Maps.Normal.{normal_edges}
 use Rattle.plane_base.proofs.Facts.Points.Orders.{point_total, point_itself, less_from_greater}
 use Rattle.plane_base.proofs.Facts.Points.Turns.{turn_there_and_back, turn_end_twice}
@@ -19,6 +19,7 @@ use Rattle.segment_split.specs.Passes.{edges_of, marks_on, cut, pass_by}
 use Rattle.segment_split.specs.WholeLaws.{AllMeetWhole}
 use Rattle.segment_split.proofs.Spread.StaircaseMarks.{along_all}
 use Rattle.segment_split.proofs.Spread.Lists.{IsDirectedEdge, all_flat_map, edges_contain}
+use Rattle.segment_split.proofs.Passes.Steps.{IsStep}
 use Rattle.segment_split.proofs.Whole.Marks.{whole_marks_inside}
 
 -- The point lies on the line of the segment, and not outside its ends.
@@ -49,6 +50,14 @@ pub path_on : (s : Edge) (ms : List Point) → IsDirectedEdge s → All (λ m. s
 path_on s ms directed inside =
     All-cons (IsOnEdge s) s.a (along s ms ++ (s.b ∷ [])) (first_on s directed)
     (All-push (IsOnEdge s) (along s ms) s.b (All-weaker (λ m. strictly_inside m s ≡ true) (IsOnEdge s) (inside_on s) (along s ms) (along_all s (λ m. strictly_inside m s ≡ true) ms inside)) (second_on s directed))
+
+-- a step of the path through such marks is a part of the edge
+pub step_of_path : (s : Edge) (ms : List Point) → IsDirectedEdge s → All (λ m. strictly_inside m s ≡ true) ms → (u : Edge) → IsStep (path s ms) u → IsPiece u s
+step_of_path s ms directed inside u step =
+    let on = path_on s ms directed inside in
+    let first = All-contains (IsOnEdge s) (path s ms) u.a on step.first in
+    let second = All-contains (IsOnEdge s) (path s ms) u.b on step.second in
+    record { first_on = first.flat; second_on = second.flat; from = first.from; forward = ap is_lt step.forward; to = second.to }
 
 -- ---- what is laid along an edge
 
@@ -81,18 +90,18 @@ pub record IsPieceOfSome (es : List Edge) (u : Edge) : Type 0 where
   pub listed : Contains es of
   pub piece : IsPiece u of
 
-module _ {C : Type 0} (kind : Counting C) (es : List (Entry C)) (normal_es : IsNormal kind es) (whole : AllMeetWhole (edges_of es)) where
+module _ {C : Type 0} (kind : Counting C) (es : List (Entry C)) (directed : IsDirected es) (whole : AllMeetWhole (edges_of es)) where
   pub directed_edges : All IsDirectedEdge (edges_of es)
-  directed_edges = All-map IsDirectedEdge (λ (e : Entry C). e.edge) es normal_es.directed
+  directed_edges = All-map IsDirectedEdge (λ (e : Entry C). e.edge) es directed
 
   pub cut_inside : All (λ e. All (λ m. strictly_inside m e.edge ≡ true) (marks_on late_marks (edges_of es) e.edge)) es
-  cut_inside k d h = whole_marks_inside (edges_of es) _ directed_edges whole (edges_contain es k d h) (normal_es.directed k d h)
+  cut_inside k d h = whole_marks_inside (edges_of es) _ directed_edges (λ t. whole _ t (edges_contain es k d h)) (directed k d h)
 
   pass_pieces : All (λ e. IsPieceOfSome (edges_of es) e.edge) (pass_by kind late_marks es)
   pass_pieces =
       normal_edges kind (IsPieceOfSome (edges_of es)) (flat_map (cut kind late_marks (edges_of es)) es)
       (all_flat_map (λ (f : Entry C). IsPieceOfSome (edges_of es) f.edge) (cut kind late_marks (edges_of es)) es
-      (λ k d h. all_of (get_or es k d) (edges_contain es k d h) (normal_es.directed k d h) (cut_inside k d h)))
+      (λ k d h. all_of (get_or es k d) (edges_contain es k d h) (directed k d h) (cut_inside k d h)))
     where
       all_of : (e : Entry C) → Contains (edges_of es) e.edge → IsDirectedEdge e.edge → All (λ m. strictly_inside m e.edge ≡ true) (marks_on late_marks (edges_of es) e.edge)
           → All (λ f. IsPieceOfSome (edges_of es) f.edge) (cut kind late_marks (edges_of es) e)

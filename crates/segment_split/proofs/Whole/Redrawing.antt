@@ -20,7 +20,7 @@ use Rattle.segment_split.proofs.Whole.Windings.{winding_pass}
 
 module _ {C : Type 0} (kind : Counting C) where
   after_pass : (precision : Precision) (es : List (Entry C)) (k : ℕ) → IsNormal kind es → AllMeetWhole (edges_of es) → AllMeetWhole (edges_of (pass kind precision es k))
-  after_pass precision es k h whole = subst (λ (fs : List (Entry C)). AllMeetWhole (edges_of fs)) (sym (whole_pass kind precision es k whole)) (pieces_meet_whole kind es h whole)
+  after_pass precision es k h whole = subst (λ (fs : List (Entry C)). AllMeetWhole (edges_of fs)) (sym (whole_pass kind precision es k whole)) (pieces_meet_whole kind es h.directed whole)
 
   pass_alike : (precision other : Precision) (es : List (Entry C)) (k m : ℕ) → AllMeetWhole (edges_of es) → pass kind precision es k ≡ pass kind other es m
   pass_alike precision other es k m whole = whole_pass kind precision es k whole ∙ sym (whole_pass kind other es m whole)

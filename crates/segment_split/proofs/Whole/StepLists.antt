@@ -9,18 +9,20 @@ use Rattle.plane_base.specs.Plane.{Point, Edge, is_before, point_order, edge_ord
 use Rattle.plane_base.specs.Segments.{strictly_inside}
 use Rattle.plane_base.specs.Counts.{Counting, Entry, normal, count_at, IsNormal}
 use Rattle.plane_base.proofs.Facts.Maps.Normal.{AllPairs-nil, AllPairs-head, AllPairs-tail, IsAbove, IsRising, rising_cons, IsCounted, normal_counted, count_at_counted, with_count, joined_at, count_at_normal}
+use Rattle.plane_base.specs.Crossing.{late_marks}
 use Rattle.plane_base.specs.WholeLaws.{IsPiece}
+use Rattle.plane_base.proofs.Facts.Maps.Laying.{IsDirected}
 use Rattle.plane_base.proofs.Facts.Points.Orders.{point_total, point_equal, point_itself, less_from_greater, point_less_by_x, point_less_by_y, before_is_less, edge_itself, edge_equal, is_equal}
-use Rattle.segment_split.specs.Passes.{edges_of}
+use Rattle.segment_split.specs.Passes.{edges_of, pass_by}
 use Rattle.segment_split.specs.Redrawing.{redrawn}
 use Rattle.segment_split.specs.LineLaws.{is_level_or_upright, AllLevelOrUpright, IsCutPoint, is_part, JoinsNeighbours, entries_along, count_along, IsMapOfNeighbours, PassesUpThrough, PassesLevelThrough, IsMetAt, SpansLevel, SpansUp, IsEndOfSome, IsCrossing, ArePoints, first_by, right_of, above, counted_step, step_to, steps_between}
 use Rattle.segment_split.specs.declared.solver.Precision.{Precision}
 use Rattle.segment_split.proofs.Spread.Lists.{IsDirectedEdge, edges_contain}
 use Rattle.segment_split.proofs.Passes.Steps.{contains_head, IsRisingPath, inside_is, inside_from}
 use Rattle.segment_split.proofs.Whole.CutPoints.{part_tells}
-use Rattle.segment_split.proofs.Whole.LevelEdges.{IsLevel, IsUpright, level_or_upright, level_and_upright_meet_whole}
-use Rattle.segment_split.proofs.Whole.Coordinates.{level_flat, upright_flat, less_by_x, less_by_y, cut_by_coordinates}
-use Rattle.segment_split.proofs.Whole.Neighbours.{contained, contains_no, not_itself, not_there_and_back, redraws_by_lines}
+use Rattle.segment_split.proofs.Whole.LevelEdges.{IsLevel, IsUpright, level_or_upright, level_meet_whole, level_and_upright_meet_whole}
+use Rattle.segment_split.proofs.Whole.Coordinates.{level_flat, upright_flat, less_by_x, less_by_y, level_line, upright_line, cut_by_coordinates}
+use Rattle.segment_split.proofs.Whole.Neighbours.{contained, contains_no, not_itself, not_there_and_back, redrawn_by_a_pass, pass_is_map, one_map}
 use Rattle.plane_base.proofs.Facts.Points.AlongOrder.{up_through}
 
 later : {X : Type 0} (x : X) (xs : List X) (y : X) → Contains xs y → Contains (x ∷ xs) y
@@ -413,9 +415,9 @@ module _ {C : Type 0} (kind : Counting C) (es : List (Entry C)) (u v : Edge) whe
 
 -- ---- the points and steps of a map
 
-module _ {C : Type 0} (kind : Counting C) (es : List (Entry C)) (h : IsNormal kind es) (all : AllLevelOrUpright (edges_of es)) (ps : List Point) (points : ArePoints kind es ps) where
+module _ {C : Type 0} (kind : Counting C) (es : List (Entry C)) (h : IsDirected es) (all : AllLevelOrUpright (edges_of es)) (ps : List Point) (points : ArePoints kind es ps) where
   pub directed_entry : (s : Edge) → Contains (edges_of es) s → is_before s.a s.b ≡ true
-  directed_entry s at = All-contains IsDirectedEdge (edges_of es) s (All-map IsDirectedEdge (λ (e : Entry C). e.edge) es h.directed) at
+  directed_entry s at = All-contains IsDirectedEdge (edges_of es) s (All-map IsDirectedEdge (λ (e : Entry C). e.edge) es h) at
 
   pub an_end : (s : Edge) → Contains (edges_of es) s → (p : Point) → ((p ≡ s.a) ⊎ (p ≡ s.b)) → Contains ps p
   an_end s at p e = points.ends p (s, at, e)
@@ -441,7 +443,7 @@ module _ {C : Type 0} (kind : Counting C) (es : List (Entry C)) (h : IsNormal ki
 
   module _ (u : Edge) (forward : is_before u.a u.b ≡ true) (level : IsLevel u) where
     pub level_cut_is : (p : Point) → IsCutPoint (edges_of es) u p ↔ ((p.y ≡ u.a.y) × IsMetAt PassesUpThrough (edges_of es) p)
-    level_cut_is p = (cut_by_coordinates kind).level_line es u p h all forward level
+    level_cut_is p = level_line es u p h all forward level
 
     pub level_parts : (v s : Edge) → is_before v.a v.b ≡ true → IsLevel v → Contains (edges_of es) s → (is_part v s ≡ true) ↔ SpansLevel s v
     level_parts v s next other at = (cut_by_coordinates kind).level_part v s next (directed_entry s at) other
@@ -591,7 +593,7 @@ module _ {C : Type 0} (kind : Counting C) (es : List (Entry C)) (h : IsNormal ki
 
   module _ (u : Edge) (forward : is_before u.a u.b ≡ true) (upright : IsUpright u) where
     pub upright_cut_is : (p : Point) → IsCutPoint (edges_of es) u p ↔ ((p.x ≡ u.a.x) × IsMetAt PassesLevelThrough (edges_of es) p)
-    upright_cut_is p = (cut_by_coordinates kind).upright_line es u p h all forward upright
+    upright_cut_is p = upright_line es u p h all forward upright
 
     pub upright_parts : (v s : Edge) → is_before v.a v.b ≡ true → IsUpright v → Contains (edges_of es) s → (is_part v s ≡ true) ↔ SpansUp s v
     upright_parts v s next other at = (cut_by_coordinates kind).upright_part v s next (directed_entry s at) other
@@ -798,6 +800,11 @@ module _ {C : Type 0} (kind : Counting C) (es : List (Entry C)) (h : IsNormal ki
   steps_are_map : IsMapOfNeighbours kind es steps
   steps_are_map = record { is_normal = steps_normal; joins = steps_joined; counts = steps_counted }
 
+-- one late pass over a directed list lays the steps between its points
+pub steps_of_pass : {C : Type 0} (kind : Counting C) (es : List (Entry C)) (ps : List Point) → IsDirected es → AllLevelOrUpright (edges_of es) → ArePoints kind es ps → pass_by kind late_marks es ≡ steps_between kind es ps
+steps_of_pass kind es ps h all points =
+    one_map kind es (pass_by kind late_marks es) (steps_between kind es ps) (pass_is_map kind es h (level_meet_whole es h all)) (steps_are_map kind es h all ps points)
+
 pub steps_of_points : {C : Type 0} (kind : Counting C) (precision : Precision) (es : List (Entry C)) (ps : List Point) → IsNormal kind es → AllLevelOrUpright (edges_of es) → ArePoints kind es ps → redrawn kind precision es ≡ steps_between kind es ps
 steps_of_points kind precision es ps h all points =
-    sym ((redraws_by_lines kind precision).only es (steps_between kind es ps) h (level_and_upright_meet_whole kind es h all) (steps_are_map kind es h all ps points))
+    redrawn_by_a_pass kind precision es h (level_and_upright_meet_whole kind es h all) ∙ steps_of_pass kind es ps h.directed all points

@@ -48,7 +48,7 @@ module _ {kind : Counting Count} {n : Count → ℤ} (additive : IsAdditive kind
       sum_below_normal additive (flat_map (cut kind late_marks (edges_of es)) es) p
       ∙ total_flat_map (λ e. cond (is_below e.edge.a e.edge.b p) (n e.count) (pos 0)) (cut kind late_marks (edges_of es)) es
       ∙ total_pointwise_on (λ e. sum_below n (cut kind late_marks (edges_of es) e) p) (λ e. n e.count *ℤ step_winding e.edge.a e.edge.b p) es
-      (λ k d h. each _ (normal_es.directed k d h) (cut_inside kind es normal_es whole k d h))
+      (λ k d h. each _ (normal_es.directed k d h) (cut_inside kind es normal_es.directed whole k d h))
       ∙ sym (sum_below_by_steps n es p normal_es.directed)
     where
       each : (e : Entry Count) → is_before e.edge.a e.edge.b ≡ true → All (λ m. strictly_inside m e.edge ≡ true) (marks_on late_marks (edges_of es) e.edge)

@@ -1,6 +1,10 @@
-//! Maps redrawn by their lines: without their data, and with counts that are just added.
+//! Maps of level and upright segments redrawn by the plane sweep, over keys with Boolean counts and without data.
+//!
+//! That is all there is to tell where counts are just added and data tell nothing: counts are read as sums before the sweep, and put
+//! back after it. Degenerate cases: fewer than 64 segments, other counts, data or slopes are left to passes, and nothing changes then.
+//! Beside the sweep it takes linear time, and room for the keys.
 
-ghost use Rattle.std.specs.Prelude.{◌≡◌, true, IfOk, OnOk, IsTrue, IsOkUnless};
+ghost use Rattle.std.specs.Prelude.{◌≡◌, ◌≤◌, true, length, IfOk, OnOk, IfNone, IsTrue, IsOkUnless};
 ghost use Rattle.plane_base.specs.SegmentViews.{edge_of};
 ghost use Rattle.segment_split.specs.RedrawLaws.{with_counts};
 ghost use Rattle.segment_split.specs.Redraws.{Work, listed, CanBeRedrawn, RedrawsOrLeaves};
@@ -62,8 +66,9 @@ pub(crate) fn redraw_by_lines<C: WindingCount, I: OverlayInt, D: OverlayEdgeData
 }
 
 // Whether the strategy leaves the choice, and there are segments enough.
-fn may_take_lines(solver: Solver, many: usize) -> bool
-    ensures { IsTrue result → solver.strategy ≡ strategy.Auto }
+pub(crate) fn may_take_lines(solver: Solver, many: usize) -> bool
+    ensures auto { IsTrue result → solver.strategy ≡ strategy.Auto }
+    ensures many { IsTrue result → 64 ≤ many }
 {
     match solver.strategy {
         Strategy::Auto => many >= FEWEST,
@@ -72,7 +77,9 @@ fn may_take_lines(solver: Solver, many: usize) -> bool
 }
 
 // The datum of the first segment, if there is one.
-fn first_datum<C, I: OverlayInt, D: Copy>(segments: &[Segment<C, I, D>]) -> Option<D> {
+pub(crate) fn first_datum<C, I: OverlayInt, D: Copy>(segments: &[Segment<C, I, D>]) -> Option<D>
+    ensures none { IfNone result (length segments.now ≡ 0) }
+{
     if segments.is_empty() {
         return None;
     }
@@ -96,7 +103,7 @@ fn keys_of<C: WindingCount, I: OverlayInt, D: Copy>(
     Ok(keys)
 }
 
-fn key_of<C: WindingCount, I: OverlayInt, D: Copy>(segment: Segment<C, I, D>) -> Key<I>
+pub(crate) fn key_of<C: WindingCount, I: OverlayInt, D: Copy>(segment: Segment<C, I, D>) -> Key<I>
     requires adds { C.ADDS ≡ true }
     ensures edge { edge_of I.value result.x_segment ≡ edge_of I.value segment.x_segment }
     ensures count { of_count C.of result.count ≡ segment.count }
@@ -109,7 +116,7 @@ fn key_of<C: WindingCount, I: OverlayInt, D: Copy>(segment: Segment<C, I, D>) ->
 }
 
 // Puts keys in the place of segments, all with this datum.
-fn put_all<C: WindingCount, I: OverlayInt, D: Copy>(
+pub(crate) fn put_all<C: WindingCount, I: OverlayInt, D: Copy>(
     segments: &mut Vec<Segment<C, I, D>>,
     keys: &[Key<I>],
     datum: D,

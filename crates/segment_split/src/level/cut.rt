@@ -7,7 +7,7 @@
 
 ghost use Rattle.std.specs.Prelude.{◌≡◌, ◌≤◌, ◌<◌, ◌+◌, ◌-◌, ◌^◌, ◌↔◌, ◌⊎◌, ◌||◌, ◌&&◌, true, false, cond, min, nat_lt, length, slice_index, slice_index_or, take, drop, ℕ, replicate, All, Contains, IfOk, IfSome, IfNone, OnOk, IsTrue, IsOkUnless};
 ghost use Rattle.std.specs.Ordering.{int_eq};
-ghost use Rattle.plane_base.specs.Counts.{boolean};
+ghost use Rattle.plane_base.specs.Counts.{boolean, IsNormal};
 ghost use Rattle.plane_base.specs.SegmentViews.{edge_of};
 ghost use Rattle.plane_base.specs.Views.{point_of};
 ghost use Rattle.segment_split.specs.Redrawing.{MarksInPass};
@@ -42,6 +42,7 @@ pub(super) fn is_cut<I: OverlayInt>(
     keys: &[Key<I>],
     ends: &[SecondEnd<I>],
 ) -> Result<bool, Fault>
+    requires normal { IsNormal boolean (entries_of I.value keys.now) }
     requires sound { CanBeSwept I.value (entries_of I.value keys.now) ends.now }
     requires column { line_of I.value lines.now.column ≡ bare }
     requires rising { AreRising (rows_of I.value lines.now.rows.items) }

@@ -1,4 +1,9 @@
-//! The lines of level and upright edges as a sweep knows them: the level ones by rising heights, and the upright one at its x.
+//! The status of the plane sweep over level and upright edges: the level lines by rising heights, and the upright one at the sweep's x.
+//! Of each it is known how many keys run there, what they count for together, and the last stop.
+//!
+//! A height is found where it is guessed, else by halves; which rows run, and which count for something, stands in two sets of places.
+//! Degenerate cases: keys that end where others begin on their line, and sums that leave their range. A stop takes constant time, and
+//! log m of m rows where no guess is right.
 
 ghost use Rattle.std.specs.Prelude.{◌≡◌, ◌≢◌, ◌<◌, ◌≤◌, ◌<ℤ◌, ◌≤ℤ◌, ◌&&◌, ◌++◌, ◌∷◌, [], true, false, length, take, drop, slice_index_or};
 ghost use Rattle.std.specs.Prelude.{◌+◌, ◌-◌, ◌^◌, ℕ, cond, min, All, Some, IfOk, IfErr, OnOk, IsOkUnless};

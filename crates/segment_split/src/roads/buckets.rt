@@ -13,7 +13,7 @@ ghost use Rattle.i_tree.specs.Layout.{IsAccepted};
 ghost use Rattle.i_tree.specs.Bag.{IsInTime, IsPassed};
 ghost use Rattle.plane_base.specs.Crossing.{marks_by};
 ghost use Rattle.plane_base.specs.SegmentViews.{edge_of};
-ghost use Rattle.segment_split.specs.MarkLists.{laid_marks, AreMarks, IsAt};
+ghost use Rattle.segment_split.specs.MarkLists.{laid_marks, AreMarks, SkipsOld, IsAt};
 ghost use Rattle.segment_split.specs.Rows.{CountsPairsUpTo, Finds};
 ghost use Rattle.segment_split.specs.StepBounds.{bucket_pairs, most_by_buckets, y_range};
 ghost use Rattle.segment_split.specs.BucketTrees.{HasNumber, HoldAll, Meets, met_before, met_in, y_buckets};
@@ -44,6 +44,7 @@ pub(crate) fn find_marks<C: WindingCount, I: OverlayInt, D, L: Ledger>(
     pass: &Pass<'_, C, I, D>,
     steps: &mut Steps<L>,
 ) -> Result<bool, Fault>
+    requires { SkipsOld pass.now.edges pass.now.next_new }
     ensures found { OnOk result (AreMarks I.stride I.least I.greatest (marks_by pass.now.rounding) pass.now.edges (laid_marks I.value I.Wide.number marks.new.items)) }
     ensures whole { IfOk result (λ off_grid. off_grid ≡ false → AllMeetWhole pass.now.edges) }
     ensures memory { IsOkUnless result Fault.Memory }

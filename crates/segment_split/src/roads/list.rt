@@ -7,7 +7,7 @@
 ghost use Rattle.std.specs.Prelude.{◌≡◌, ◌+◌, ◌-◌, ◌<◌, ◌<ℤ◌, ◌≤ℤ◌, ◌≤◌, ◌||◌, cond};
 ghost use Rattle.std.specs.Prelude.{length, slice_index_or, ℕ, false, IfOk, OnOk, IsOkUnless, IsTrue, IsFalse};
 ghost use Rattle.plane_base.specs.Crossing.{marks_by};
-ghost use Rattle.segment_split.specs.MarkLists.{laid_marks, AreMarks};
+ghost use Rattle.segment_split.specs.MarkLists.{laid_marks, AreMarks, SkipsOld};
 ghost use Rattle.segment_split.specs.Rows.{CountsPairsUpTo, Finds, MarksAhead};
 ghost use Rattle.segment_split.specs.StepBounds.{all_pairs};
 ghost use Rattle.segment_split.specs.WholeLaws.{AllMeetWhole};
@@ -30,6 +30,7 @@ pub(crate) fn find_marks<C: WindingCount, I: OverlayInt, D, L: Ledger>(
     pass: &Pass<'_, C, I, D>,
     steps: &mut Steps<L>,
 ) -> Result<bool, Fault>
+    requires { SkipsOld pass.now.edges pass.now.next_new }
     ensures found { OnOk result (AreMarks I.stride I.least I.greatest (marks_by pass.now.rounding) pass.now.edges (laid_marks I.value I.Wide.number marks.new.items)) }
     ensures whole { IfOk result (λ off_grid. off_grid ≡ false → AllMeetWhole pass.now.edges) }
     ensures memory { IsOkUnless result Fault.Memory }
@@ -52,7 +53,8 @@ fn look_ahead<C: WindingCount, I: OverlayInt, D, L: Ledger>(
     i: usize,
     steps: &mut Steps<L>,
 ) -> Result<bool, Fault>
-    requires { i < length pass.now.edges }
+    requires within { i < length pass.now.edges }
+    requires skips { SkipsOld pass.now.edges pass.now.next_new }
     ensures found { IfOk result (λ own. Finds I.stride I.least I.greatest (marks_by pass.now.rounding) pass.now.edges
         (λ h k. (h ≡ i) × MarksAhead (marks_by pass.now.rounding) pass.now.edges h k)
         (laid_marks I.value I.Wide.number marks.old.items) (laid_marks I.value I.Wide.number marks.new.items) own) }

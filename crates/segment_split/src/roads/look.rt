@@ -31,14 +31,14 @@ pub(super) struct Pass<'a, C: WindingCount, I: OverlayInt, D> {
 }
 
 impl<'a, C: WindingCount, I: OverlayInt, D> Model for Pass<'a, C, I, D> {
-    ghost use Rattle.segment_split.specs.SeenPasses.{SeenPass, seen_pass, IsPass};
+    ghost use Rattle.segment_split.specs.SeenPasses.{SeenPass, seen_pass, CanBePassed};
     ghost use Rattle.segment_split.specs.SegmentViews.{entries_of};
 
     ghost Value = { SeenPass };
 
     ghost view = { λ p. seen_pass (entries_of I.value p.segments.now) p.next_new.now p.rounding };
 
-    ghost invariant = { λ p. IsPass I.least I.greatest C.counting (entries_of I.value p.segments.now) p.next_new.now };
+    ghost invariant = { λ p. CanBePassed I.least I.greatest C.counting (entries_of I.value p.segments.now) };
 }
 
 // Holds the segments of the numbers i and j against each other, where that of i was read, lays what they lay on each other, and

@@ -1,39 +1,42 @@
-use Rattle.std.proofs.Common.{◌≡◌, ◌∙◌, ◌<◌, ◌^◌, Bool, true, false, cond, List, length, refl, sym, ap, subst, arith}
+use Rattle.std.proofs.Common.{◌≡◌, ◌∙◌, ◌↔◌, ℕ, true, false, length, refl, sym, ap, subst, arith}
 use Rattle.std.proofs.lemmas.Bool.{false≢true}
 use Rattle.std.proofs.lemmas.List.{length-map}
 use Rattle.std.proofs.lemmas.Result.{err_from_is_err_and}
-use Rattle.plane_base.specs.Counts.{Count, Entry, boolean}
+use Rattle.plane_base.specs.Counts.{boolean}
 use Rattle.segment_split.specs.Refusals.{IsRefusal}
 use Rattle.segment_split.specs.SecondEnds.{ended}
 use Rattle.segment_split.specs.SegmentViews.{entry_of, entries_of}
 use Rattle.segment_split.specs.Stops.{lines_of}
+use Rattle.segment_split.proofs.Facts.Adding.Laws.{if_answered, if_refused}
 use Rattle.segment_split.proofs.Redrawing.Loops.{redrawn_before}
-use Rattle.segment_split.proofs.Redrawing.Refusals.{handed_on}
-use Rattle.segment_split.proofs.Stops.Begins.{mapped_reverse}
-use Rattle.segment_split.proofs.Stops.Ends.{begins, ends_redrawn, ends_marked, ends_many}
-use Rattle.segment_split.proofs.Stops.Looks.{ticks_few}
+use Rattle.segment_split.proofs.Stops.Ends.{begins, redrawn_where_marked, refused_in_a_pass, ticked_few}
+use Rattle.segment_split.proofs.Stops.Sweeping.{normal_in_order}
 use Rattle.segment_split.proofs.level.redraw_where_cut.Goals as goal
-
--- the one list or the other
-either_list : {X : Type 0} (b : Bool) (xs ys zs : List X) → (b ≡ true → xs ≡ zs) → (b ≡ false → ys ≡ zs) → cond b xs ys ≡ zs
-either_list true xs ys zs f g = f refl
-either_list false xs ys zs f g = g refl
 
 pub is_cut-requires-clause-sound : goal.is_cut-requires-clause-sound
 is_cut-requires-clause-sound g c = record {
-  normal = c.requires.normal;
+  order = normal_in_order (entries_of g.I.OverlayInt.value c.args.keys.now) c.requires.normal;
   level = c.requires.level;
   few = omega (arith, length-map c.args.keys.now (entry_of g.I.OverlayInt.value), c.requires.few);
   seconds = rw c.deref.ensures.value c.in_ok-ends.ensures.ends;
 }
 
-pub sweep-requires-clause-sound : goal.sweep-requires-clause-sound
-sweep-requires-clause-sound g c = record {
-  normal = c.requires.normal;
+pub lay_by_sweep-requires-clause-sound : goal.lay_by_sweep-requires-clause-sound
+lay_by_sweep-requires-clause-sound g c = record {
+  order = normal_in_order (entries_of g.I.OverlayInt.value c.args.keys.now) c.requires.normal;
   level = c.requires.level;
   few = omega (arith, length-map c.args.keys.now (entry_of g.I.OverlayInt.value), c.requires.few);
   seconds = rw c.deref-2.ensures.value c.in_ok-ends.ensures.ends;
 }
+
+pub lay_by_sweep-requires-clause-begins : goal.lay_by_sweep-requires-clause-begins
+lay_by_sweep-requires-clause-begins g c =
+    let value = g.I.OverlayInt.value in
+    let es = entries_of value c.args.keys.now in
+    let lines = c.in_ok-lines.lines in
+    let seconds = rw (← c.deref-2.ensures.value) at c.in_ok-ends.ensures.ends in
+    begins es (ended es c.deref-2.result.now) (lines_of value lines) (entries_of value c.clear.new.self.items) c.args.steps.now.pairs (ap (entries_of value) c.clear.ensures.items) seconds.all seconds.sorted
+    c.in_ok-lines.ensures.bare c.in_ok-lines.ensures.column c.in_ok-lines.ensures.rising c.in_ok-lines.ensures.has
 
 -- nothing is cut
 
@@ -52,121 +55,19 @@ returns-in_err-is_cut-clause-refused g c =
     let p = err_from_is_err_and c.from_residual-in_err-is_cut.result c.from_residual-in_err-is_cut.ensures.1 in
     rw p.1 (λ precision. subst (IsRefusal _ _) (sym (p.2 ∙ c.in_err-is_cut.ensures.memory)) tt)
 
-pub returns-in_err-reserve-clause-refused : goal.returns-in_err-reserve-clause-refused
-returns-in_err-reserve-clause-refused g c =
-    let p = err_from_is_err_and c.from_residual-in_err-reserve.result c.from_residual-in_err-reserve.ensures.1 in
-    rw p.1 (λ precision. subst (IsRefusal _ _) (sym p.2) tt)
-
 -- something is
 
 pub returns-clause-redrawn : goal.returns-clause-redrawn
-returns-clause-redrawn g c = λ precision.
+returns-clause-redrawn g c =
     let value = g.I.OverlayInt.value in
-    let f = entry_of value in
-    let keys = c.args.keys.now in
-    let es = entries_of value keys in
-    let lines = c.in_ok-lines.lines in
-    let first = c.args.steps.now.pairs in
-    let ends = c.deref-2.result.now in
-    let seconds = rw (← c.deref-2.ensures.value) at c.in_ok-ends.ensures.ends in
-    let begun = begins es (ended es ends) (lines_of value lines) (entries_of value c.reserve.new.self.items) first (ap (entries_of value) (c.reserve.ensures.items ∙ c.clear.ensures.items)) seconds.all seconds.sorted
-    c.in_ok-lines.ensures.bare c.in_ok-lines.ensures.column c.in_ok-lines.ensures.rising c.in_ok-lines.ensures.has in
-    let at = c.in_ok-is_marked.ensures.swept first begun in
-    let laid = c.sweep.new.laid.items in
-    let marked = c.in_ok-is_marked.is_marked in
-    either_list marked (entries_of value c.reverse.new.self.items) es _
-    (λ _. ap (entries_of value) c.reverse.ensures.items
-    ∙ (mapped_reverse f laid ∙ ends_redrawn es at.0 (lines_of value c.sweep.new.lines) (entries_of value laid) marked first c.sweep.new.steps.pairs c.requires.normal c.requires.level at.1 precision))
-    (λ e. redrawn_before boolean precision es es 0 c.requires.normal refl
-    (λ some. false≢true (sym e ∙ (ends_marked es at.0 (lines_of value c.sweep.new.lines) (entries_of value laid) marked first c.sweep.new.steps.pairs c.requires.normal c.requires.level at.1 precision).1 (0, some))))
+    redrawn_where_marked (entries_of value c.args.keys.now) c.requires.normal c.requires.level c.lay_by_sweep.result (entries_of value c.lay_by_sweep.new.laid.items) c.lay_by_sweep.ensures.laid c.lay_by_sweep.ensures.marked
 
 pub returns-clause-marked : goal.returns-clause-marked
-returns-clause-marked g c = λ precision.
-    let value = g.I.OverlayInt.value in
-    let keys = c.args.keys.now in
-    let es = entries_of value keys in
-    let lines = c.in_ok-lines.lines in
-    let first = c.args.steps.now.pairs in
-    let ends = c.deref-2.result.now in
-    let seconds = rw (← c.deref-2.ensures.value) at c.in_ok-ends.ensures.ends in
-    let begun = begins es (ended es ends) (lines_of value lines) (entries_of value c.reserve.new.self.items) first (ap (entries_of value) (c.reserve.ensures.items ∙ c.clear.ensures.items)) seconds.all seconds.sorted
-    c.in_ok-lines.ensures.bare c.in_ok-lines.ensures.column c.in_ok-lines.ensures.rising c.in_ok-lines.ensures.has in
-    let at = c.in_ok-is_marked.ensures.swept first begun in
-    let laid = c.sweep.new.laid.items in
-    ends_marked es at.0 (lines_of value c.sweep.new.lines) (entries_of value laid) c.in_ok-is_marked.is_marked first c.sweep.new.steps.pairs c.requires.normal c.requires.level at.1 precision
+returns-clause-marked g c = if_answered c.lay_by_sweep.result (λ is_marked told precision. told precision c.requires.normal) c.lay_by_sweep.ensures.marked
 
-pub returns-in_err-is_marked-clause-refused : goal.returns-in_err-is_marked-clause-refused
-returns-in_err-is_marked-clause-refused g c =
-    let value = g.I.OverlayInt.value in
-    let keys = c.args.keys.now in
-    let es = entries_of value keys in
-    let lines = c.in_ok-lines.lines in
-    let first = c.args.steps.now.pairs in
-    let ends = c.deref-2.result.now in
-    let seconds = rw (← c.deref-2.ensures.value) at c.in_ok-ends.ensures.ends in
-    let begun = begins es (ended es ends) (lines_of value lines) (entries_of value c.reserve.new.self.items) first (ap (entries_of value) (c.reserve.ensures.items ∙ c.clear.ensures.items)) seconds.all seconds.sorted
-    c.in_ok-lines.ensures.bare c.in_ok-lines.ensures.column c.in_ok-lines.ensures.rising c.in_ok-lines.ensures.has in
-    let p = err_from_is_err_and c.from_residual-in_err-is_marked.result c.from_residual-in_err-is_marked.ensures.1 in
-    rw p.1 (λ precision. handed_on c.in_err-is_marked.field-0.0 p.0 p.2 (λ over. (0, over)) (λ k. absurd k) (c.in_err-is_marked.ensures.refused first precision begun))
-
-pub returns-in_err-is_marked-clause-steps : goal.returns-in_err-is_marked-clause-steps
-returns-in_err-is_marked-clause-steps g c =
-    let value = g.I.OverlayInt.value in
-    let keys = c.args.keys.now in
-    let es = entries_of value keys in
-    let lines = c.in_ok-lines.lines in
-    let first = c.args.steps.now.pairs in
-    let ends = c.deref-2.result.now in
-    let seconds = rw (← c.deref-2.ensures.value) at c.in_ok-ends.ensures.ends in
-    let begun = begins es (ended es ends) (lines_of value lines) (entries_of value c.reserve.new.self.items) first (ap (entries_of value) (c.reserve.ensures.items ∙ c.clear.ensures.items)) seconds.all seconds.sorted
-    c.in_ok-lines.ensures.bare c.in_ok-lines.ensures.column c.in_ok-lines.ensures.rising c.in_ok-lines.ensures.has in
-    let some = c.in_err-is_marked.ensures.some first begun in
-    let ticks = ticks_few es c.requires.normal some.0 first c.sweep.new.steps.pairs some.1 in
-    record { comparisons = c.sweep.ensures.compared; pairs = ticks.0; bound = ticks.1 }
+pub returns-clause-refused : goal.returns-clause-refused
+returns-clause-refused g c = if_refused c.lay_by_sweep.result (refused_in_a_pass (entries_of g.I.OverlayInt.value c.args.keys.now) c.requires.normal c.requires.level) c.lay_by_sweep.ensures.refused
 
 pub returns-clause-steps : goal.returns-clause-steps
 returns-clause-steps g c =
-    let value = g.I.OverlayInt.value in
-    let keys = c.args.keys.now in
-    let es = entries_of value keys in
-    let lines = c.in_ok-lines.lines in
-    let first = c.args.steps.now.pairs in
-    let ends = c.deref-2.result.now in
-    let seconds = rw (← c.deref-2.ensures.value) at c.in_ok-ends.ensures.ends in
-    let begun = begins es (ended es ends) (lines_of value lines) (entries_of value c.reserve.new.self.items) first (ap (entries_of value) (c.reserve.ensures.items ∙ c.clear.ensures.items)) seconds.all seconds.sorted
-    c.in_ok-lines.ensures.bare c.in_ok-lines.ensures.column c.in_ok-lines.ensures.rising c.in_ok-lines.ensures.has in
-    let at = c.in_ok-is_marked.ensures.swept first begun in
-    let ticks = ticks_few es c.requires.normal at.1.stops first c.sweep.new.steps.pairs at.1.ticked in
-    record { comparisons = c.sweep.ensures.compared; pairs = ticks.0; bound = ticks.1 }
-
-pub returns-then-len-ge-TOO_MANY-clause-steps : goal.returns-then-len-ge-TOO_MANY-clause-steps
-returns-then-len-ge-TOO_MANY-clause-steps g c =
-    let value = g.I.OverlayInt.value in
-    let keys = c.args.keys.now in
-    let es = entries_of value keys in
-    let lines = c.in_ok-lines.lines in
-    let first = c.args.steps.now.pairs in
-    let ends = c.deref-2.result.now in
-    let seconds = rw (← c.deref-2.ensures.value) at c.in_ok-ends.ensures.ends in
-    let begun = begins es (ended es ends) (lines_of value lines) (entries_of value c.reserve.new.self.items) first (ap (entries_of value) (c.reserve.ensures.items ∙ c.clear.ensures.items)) seconds.all seconds.sorted
-    c.in_ok-lines.ensures.bare c.in_ok-lines.ensures.column c.in_ok-lines.ensures.rising c.in_ok-lines.ensures.has in
-    let at = c.in_ok-is_marked.ensures.swept first begun in
-    let ticks = ticks_few es c.requires.normal at.1.stops first c.sweep.new.steps.pairs at.1.ticked in
-    record { comparisons = c.sweep.ensures.compared; pairs = ticks.0; bound = ticks.1 }
-
-pub returns-then-len-ge-TOO_MANY-clause-refused : goal.returns-then-len-ge-TOO_MANY-clause-refused
-returns-then-len-ge-TOO_MANY-clause-refused g c = λ precision.
-    let value = g.I.OverlayInt.value in
-    let f = entry_of value in
-    let keys = c.args.keys.now in
-    let es = entries_of value keys in
-    let lines = c.in_ok-lines.lines in
-    let first = c.args.steps.now.pairs in
-    let ends = c.deref-2.result.now in
-    let seconds = rw (← c.deref-2.ensures.value) at c.in_ok-ends.ensures.ends in
-    let begun = begins es (ended es ends) (lines_of value lines) (entries_of value c.reserve.new.self.items) first (ap (entries_of value) (c.reserve.ensures.items ∙ c.clear.ensures.items)) seconds.all seconds.sorted
-    c.in_ok-lines.ensures.bare c.in_ok-lines.ensures.column c.in_ok-lines.ensures.rising c.in_ok-lines.ensures.has in
-    let at = c.in_ok-is_marked.ensures.swept first begun in
-    let laid = c.sweep.new.laid.items in
-    ends_many es at.0 (lines_of value c.sweep.new.lines) (entries_of value laid) c.in_ok-is_marked.is_marked first c.sweep.new.steps.pairs c.requires.normal c.requires.level at.1 precision
-    (omega (arith, length-map laid f, c.len.ensures, c.if-len-ge-TOO_MANY.true))
+    ticked_few (entries_of g.I.OverlayInt.value c.args.keys.now) c.requires.normal c.requires.level c.args.steps.now c.lay_by_sweep.new.steps c.lay_by_sweep.ensures.ticked c.lay_by_sweep.ensures.compared

@@ -1,9 +1,8 @@
-use Rattle.std.proofs.Common.{◌≡◌, ◌∙◌, ◌||◌, false, true, length, take, drop, List, sym, ap, subst, arith}
-use Rattle.std.proofs.lemmas.List.{length-map}
+use Rattle.std.proofs.Common.{◌∙◌, ◌||◌, false, take, drop, sym, ap, subst}
 use Rattle.std.proofs.lemmas.Result.{err_from_is_err_and}
 use Rattle.plane_base.specs.Views.{point_of}
 use Rattle.segment_split.specs.Refusals.{IsRefusal}
-use Rattle.segment_split.specs.SecondEnds.{entry_at, ended}
+use Rattle.segment_split.specs.SecondEnds.{ended}
 use Rattle.segment_split.specs.SegmentViews.{entries_of}
 use Rattle.segment_split.specs.Stops.{rows_of, lines_of, heights_in, stopped, IsPlaceOf, all_changed}
 use Rattle.segment_split.specs.Sweeps.{IsSwept}
@@ -77,7 +76,7 @@ returns-clause-swept g c = λ first is.
     subst (λ b. IsSwept es (take n es) (take m (ended es ends)) (lines_of value c.change_all-2.new.lines) (entries_of value c.visit.new.laid.items) b first c.cross.new.steps.pairs)
     (sym (c.either.ensures ∙ ap (λ b. left.is_marked || b) c.either-is_marked.ensures))
     (onward es (take left.starts es) (take left.ends (ended es ends)) (lines_of value c.args.lines.now) (entries_of value c.args.laid.now.items) left.is_marked first c.args.steps.now.pairs is p c.next_end-point.ensures
-    (lines_of value c.cross.new.lines) (entries_of value c.cross.new.laid.items) c.cross.new.steps.pairs c.in_ok-is_crossed.is_crossed c.in_ok-is_crossed.ensures.crossed c.requires.sound.normal c.requires.sound.level c.requires.sound.few
+    (lines_of value c.cross.new.lines) (entries_of value c.cross.new.laid.items) c.cross.new.steps.pairs c.in_ok-is_crossed.is_crossed c.in_ok-is_crossed.ensures.crossed c.requires.sound.order c.requires.sound.level c.requires.sound.few
     (take n es) (drop n (take left.starts es)) (take m (ended es ends)) (drop m (take left.ends (ended es ends)))
     (taken_apart es n left.starts go.within) go.at go.none (taken_apart (ended es ends) m left.ends come.within) come.at come.none
     (lines_of value c.change_all.new.lines) (lines_of value c.change_all-2.new.lines) (entries_of value c.visit.new.laid.items) c.passes-is_passed.result
@@ -93,7 +92,7 @@ returns-in_err-is_crossed-clause-some g c =
     let p = point_of value c.next_end-point.result in
     let r = err_from_is_err_and c.from_residual.result c.from_residual.ensures.1 in
     rw r.1 (λ first is. some_onward es (take left.starts es) (take left.ends (ended es ends)) (lines_of value c.args.lines.now) (entries_of value c.args.laid.now.items) left.is_marked first c.args.steps.now.pairs is p c.next_end-point.ensures
-    c.cross.new.steps.pairs c.in_err-is_crossed.ensures.some c.requires.sound.normal c.requires.sound.level)
+    c.cross.new.steps.pairs c.in_err-is_crossed.ensures.some c.requires.sound.order c.requires.sound.level)
 
 pub returns-in_err-visit-clause-some : goal.returns-in_err-visit-clause-some
 returns-in_err-visit-clause-some g c =
@@ -104,7 +103,7 @@ returns-in_err-visit-clause-some g c =
     let p = point_of value c.next_end-point.result in
     let r = err_from_is_err_and c.from_residual-in_err-visit.result c.from_residual-in_err-visit.ensures.1 in
     rw r.1 (λ first is. met_onward es (take left.starts es) (take left.ends (ended es ends)) (lines_of value c.args.lines.now) (entries_of value c.args.laid.now.items) left.is_marked first c.args.steps.now.pairs is p c.next_end-point.ensures
-    (lines_of value c.cross.new.lines) (entries_of value c.cross.new.laid.items) c.cross.new.steps.pairs c.in_ok-is_crossed.is_crossed c.in_ok-is_crossed.ensures.crossed c.requires.sound.normal c.requires.sound.level)
+    (lines_of value c.cross.new.lines) (entries_of value c.cross.new.laid.items) c.cross.new.steps.pairs c.in_ok-is_crossed.is_crossed c.in_ok-is_crossed.ensures.crossed c.requires.sound.order c.requires.sound.level)
 
 pub returns-in_err-starts-clause-some : goal.returns-in_err-starts-clause-some
 returns-in_err-starts-clause-some g c =
@@ -115,7 +114,7 @@ returns-in_err-starts-clause-some g c =
     let p = point_of value c.next_end-point.result in
     let r = err_from_is_err_and c.from_residual-in_err-starts.result c.from_residual-in_err-starts.ensures.1 in
     rw r.1 (λ first is. met_onward es (take left.starts es) (take left.ends (ended es ends)) (lines_of value c.args.lines.now) (entries_of value c.args.laid.now.items) left.is_marked first c.args.steps.now.pairs is p c.next_end-point.ensures
-    (lines_of value c.cross.new.lines) (entries_of value c.cross.new.laid.items) c.cross.new.steps.pairs c.in_ok-is_crossed.is_crossed c.in_ok-is_crossed.ensures.crossed c.requires.sound.normal c.requires.sound.level)
+    (lines_of value c.cross.new.lines) (entries_of value c.cross.new.laid.items) c.cross.new.steps.pairs c.in_ok-is_crossed.is_crossed c.in_ok-is_crossed.ensures.crossed c.requires.sound.order c.requires.sound.level)
 
 pub returns-in_err-ends_left-clause-some : goal.returns-in_err-ends_left-clause-some
 returns-in_err-ends_left-clause-some g c =
@@ -126,7 +125,7 @@ returns-in_err-ends_left-clause-some g c =
     let p = point_of value c.next_end-point.result in
     let r = err_from_is_err_and c.from_residual-in_err-ends_left.result c.from_residual-in_err-ends_left.ensures.1 in
     rw r.1 (λ first is. met_onward es (take left.starts es) (take left.ends (ended es ends)) (lines_of value c.args.lines.now) (entries_of value c.args.laid.now.items) left.is_marked first c.args.steps.now.pairs is p c.next_end-point.ensures
-    (lines_of value c.cross.new.lines) (entries_of value c.cross.new.laid.items) c.cross.new.steps.pairs c.in_ok-is_crossed.is_crossed c.in_ok-is_crossed.ensures.crossed c.requires.sound.normal c.requires.sound.level)
+    (lines_of value c.cross.new.lines) (entries_of value c.cross.new.laid.items) c.cross.new.steps.pairs c.in_ok-is_crossed.is_crossed c.in_ok-is_crossed.ensures.crossed c.requires.sound.order c.requires.sound.level)
 
 pub returns-in_err-visit-clause-refused : goal.returns-in_err-visit-clause-refused
 returns-in_err-visit-clause-refused g c =
@@ -144,7 +143,7 @@ returns-in_err-starts-clause-refused g c =
     rw r.1 (λ first precision is.
     handed_on c.in_err-starts.field-0.0 r.0 r.2
     (going_refused es (take left.starts es) (take left.ends (ended es ends)) (lines_of value c.args.lines.now) (entries_of value c.args.laid.now.items) left.is_marked first c.args.steps.now.pairs is p c.next_end-point.ensures
-    (lines_of value c.cross.new.lines) (entries_of value c.cross.new.laid.items) c.cross.new.steps.pairs c.in_ok-is_crossed.is_crossed c.in_ok-is_crossed.ensures.crossed c.requires.sound.normal c.requires.sound.level c.requires.sound.few precision
+    (lines_of value c.cross.new.lines) (entries_of value c.cross.new.laid.items) c.cross.new.steps.pairs c.in_ok-is_crossed.is_crossed c.in_ok-is_crossed.ensures.crossed c.requires.sound.order c.requires.sound.level c.requires.sound.few precision
     (lines_of value c.visit.new.lines) c.in_ok-visit.ensures.lines)
     (λ k. k) c.in_err-starts.ensures.refused)
 
@@ -161,7 +160,7 @@ returns-in_err-ends_left-clause-refused g c =
     rw r.1 (λ first precision is.
     handed_on c.in_err-ends_left.field-0.0 r.0 r.2
     (coming_refused es (take left.starts es) (take left.ends (ended es ends)) (lines_of value c.args.lines.now) (entries_of value c.args.laid.now.items) left.is_marked first c.args.steps.now.pairs is p c.next_end-point.ensures
-    (lines_of value c.cross.new.lines) (entries_of value c.cross.new.laid.items) c.cross.new.steps.pairs c.in_ok-is_crossed.is_crossed c.in_ok-is_crossed.ensures.crossed c.requires.sound.normal c.requires.sound.level c.requires.sound.few precision
+    (lines_of value c.cross.new.lines) (entries_of value c.cross.new.laid.items) c.cross.new.steps.pairs c.in_ok-is_crossed.is_crossed c.in_ok-is_crossed.ensures.crossed c.requires.sound.order c.requires.sound.level c.requires.sound.few precision
     (take n es) (drop n (take left.starts es)) (taken_apart es n left.starts go.within) go.at go.none
     (lines_of value c.change_all.new.lines) (c.in_ok-starts.ensures.changed ∙ ap (all_changed false (drop n (take left.starts es))) c.in_ok-visit.ensures.lines))
     (λ k. k) c.in_err-ends_left.ensures.refused)

@@ -5,12 +5,12 @@
 //! Degenerate cases: where none follows in the row, a look at the list tells. It takes time linear in places and tests; where reaches
 //! aren't told beforehand, each is sought in log n steps.
 
-ghost use Rattle.std.specs.Prelude.{◌+◌, ◌<◌, ◌≤◌, ◌^◌, ℕ, length, slice_index_or, IfOk, IsOkUnless, IsFalse};
+ghost use Rattle.std.specs.Prelude.{◌≡◌, ◌||◌, ◌+◌, ◌<◌, ◌≤◌, ◌^◌, ℕ, false, length, slice_index_or, IfOk, IsOkUnless, IsFalse};
 ghost use Rattle.std.specs.List.Sorted.{IsNonDecreasing};
 ghost use Rattle.plane_base.specs.Crossing.{marks_by};
 ghost use Rattle.segment_split.specs.MarkLists.{laid_marks};
 ghost use Rattle.segment_split.specs.Rows.{place_in, ArePlaces, AreRows, all_reaches, AreTold, IsFirstAfter, Finds, Follows, FollowsInRows, FollowsIn};
-ghost use Rattle.segment_split.specs.Rows.{FollowsAmong, CountsPairsUpTo, between, all_followers, row_followers};
+ghost use Rattle.segment_split.specs.Rows.{FollowsAmong, FollowsBetween, CrossWhole, CountsPairsUpTo, between, all_followers, row_followers};
 
 use super::places::{Places, ROW, Rows, place_in};
 use super::reach::reach_of;
@@ -32,21 +32,31 @@ struct Seat {
     row: u64,
 }
 
-// Holds new segments against all that follow them, and old ones against new ones. Answers whether any cross off the grid.
+// Whether new segments cross each other off the grid, and whether new ones cross old ones so.
+#[derive(Clone, Copy)]
+pub(crate) struct OffGrid {
+    pub(crate) among_new: bool,
+    pub(crate) with_old: bool,
+}
+
+// Holds new segments against all that follow them, and old ones against new ones. Answers which cross off the grid.
 pub(super) fn hold_all<C: WindingCount, I: OverlayInt, D, L: Ledger>(
     marks: &mut Vec<Mark<I, I::Wide>>,
     pass: &Pass<'_, C, I, D>,
     reaches: &[usize],
     rows: &Rows,
     steps: &mut Steps<L>,
-) -> Result<bool, Fault>
+) -> Result<OffGrid, Fault>
     requires told { AreTold pass.now.edges reaches.now }
     requires fresh_rows { AreRows (length pass.now.edges) rows.now.fresh.begins.items rows.now.fresh.passes.items }
     requires old_rows { AreRows (length pass.now.edges) rows.now.old.begins.items rows.now.old.passes.items }
-    ensures found { IfOk result (λ own. Finds I.stride I.least I.greatest (marks_by pass.now.rounding) pass.now.edges
+    ensures found { IfOk result (λ off. Finds I.stride I.least I.greatest (marks_by pass.now.rounding) pass.now.edges
         (FollowsAmong (all_reaches pass.now.edges reaches.now) rows.now.fresh.begins.items rows.now.fresh.passes.items
         rows.now.old.begins.items rows.now.old.passes.items)
-        (laid_marks I.value I.Wide.number marks.old.items) (laid_marks I.value I.Wide.number marks.new.items) own) }
+        (laid_marks I.value I.Wide.number marks.old.items) (laid_marks I.value I.Wide.number marks.new.items) (off.among_new || off.with_old)) }
+    ensures whole { IfOk result (λ off. off.with_old ≡ false → CrossWhole pass.now.edges
+        (FollowsBetween (all_reaches pass.now.edges reaches.now) rows.now.fresh.begins.items rows.now.fresh.passes.items
+        rows.now.old.begins.items rows.now.old.passes.items)) }
     ensures memory { IsOkUnless result Fault.Memory }
     ensures steps { CountsPairsUpTo steps.old steps.new
         (row_followers (all_reaches pass.now.edges reaches.now)
@@ -59,12 +69,15 @@ pub(super) fn hold_all<C: WindingCount, I: OverlayInt, D, L: Ledger>(
     let of_new = hold_rows(marks, pass, reaches, &rows.fresh, &rows.fresh, steps)?;
     let of_both = hold_rows(marks, pass, reaches, &rows.fresh, &rows.old, steps)?;
     let of_old = hold_rows(marks, pass, reaches, &rows.old, &rows.fresh, steps)?;
-    Ok(either(either(of_new, of_both), of_old))
+    Ok(OffGrid {
+        among_new: of_new,
+        with_old: either(of_both, of_old),
+    })
 }
 
 // Holds segments against those that follow them and share a row, in which one of the two begins. Answers whether any cross off
 // the grid.
-fn hold_rows<C: WindingCount, I: OverlayInt, D, L: Ledger>(
+pub(super) fn hold_rows<C: WindingCount, I: OverlayInt, D, L: Ledger>(
     marks: &mut Vec<Mark<I, I::Wide>>,
     pass: &Pass<'_, C, I, D>,
     reaches: &[usize],

@@ -1,4 +1,4 @@
-//! How far segments reach along a sorted list: up to a number from which on none lays anything on the segment, as far as x tells. That
+//! Sweep and prune by x: how far segments reach along a sorted list, up to a number from which on none lays anything on them. That
 //! is the first that begins past its end. Those that begin just there lay nothing on it if neither is upright. So where reaches are
 //! told beforehand, a segment that isn't upright reaches only up to the begin of the run before that number, if these all begin at its
 //! end and none is upright. Upright ones come first of those that begin at one point, so a run is lost by one of them only up to it.

@@ -86,7 +86,7 @@ returns-in_err-is_marked g c =
     let adds : g.C.WindingCount.ADDS ≡ true = sym c.ADDS.ensures ∙ c.if-not-ADDS.false in
     let told = rw c.deref-3.ensures.value at c.in_ok-keys.ensures.same in
     let same : with_counts (of_count of) (entries_of value keys) ≡ entries_of value segments = ap (λ l. with_counts (of_count of) (entries_of value l)) c.deref-4.ensures.value ∙ told in
-    let auto = c.may_take_lines.ensures c.if-not-may_take_lines.false in
+    let auto = c.may_take_lines.ensures.auto c.if-not-may_take_lines.false in
     let p = err_from_is_err_and c.from_residual-in_err-is_marked.result c.from_residual-in_err-is_marked.ensures.1 in
     rw p.1 (keys_refused (work_of g.C.WindingCount.counting g.C.WindingCount.fits joins g.D.OverlayEdgeData.join c.args.solver) (g.met.C.WindingCount.added adds) auto
     (listed value joins segments) (listed value joins segments) (entries_of value keys) same c.args.steps.now c.redraw_where_cut.new.steps c.redraw_where_cut.ensures.steps
@@ -102,7 +102,7 @@ returns-in_err-put_all g c =
     let adds : g.C.WindingCount.ADDS ≡ true = sym c.ADDS.ensures ∙ c.if-not-ADDS.false in
     let told = rw c.deref-3.ensures.value at c.in_ok-keys.ensures.same in
     let same : with_counts (of_count of) (entries_of value keys) ≡ entries_of value segments = ap (λ l. with_counts (of_count of) (entries_of value l)) c.deref-4.ensures.value ∙ told in
-    let auto = c.may_take_lines.ensures c.if-not-may_take_lines.false in
+    let auto = c.may_take_lines.ensures.auto c.if-not-may_take_lines.false in
     let p = err_from_is_err_and c.from_residual-in_err-put_all.result c.from_residual-in_err-put_all.ensures.1 in
     rw p.1 (keys_refused (work_of g.C.WindingCount.counting g.C.WindingCount.fits joins g.D.OverlayEdgeData.join c.args.solver) (g.met.C.WindingCount.added adds) auto
     (listed value joins segments) (listed value joins c.put_all.new.segments.items) (entries_of value keys) same c.args.steps.now c.redraw_where_cut.new.steps c.redraw_where_cut.ensures.steps
@@ -118,7 +118,7 @@ returns-then-not-is_marked g c =
     let adds : g.C.WindingCount.ADDS ≡ true = sym c.ADDS.ensures ∙ c.if-not-ADDS.false in
     let told = rw c.deref-3.ensures.value at c.in_ok-keys.ensures.same in
     let same : with_counts (of_count of) (entries_of value keys) ≡ entries_of value segments = ap (λ l. with_counts (of_count of) (entries_of value l)) c.deref-4.ensures.value ∙ told in
-    let auto = c.may_take_lines.ensures c.if-not-may_take_lines.false in
+    let auto = c.may_take_lines.ensures.auto c.if-not-may_take_lines.false in
     let now = segments in
     let alike = c.is_bare.ensures c.if-not-is_bare.false in
     let drawn = subst (λ b. (precision : Precision) → cond b (entries_of value c.redraw_where_cut.new.laid.items) (entries_of value keys) ≡ redrawn boolean precision (entries_of value keys)) c.if-not-is_marked.true c.in_ok-is_marked.ensures.redrawn in
@@ -138,7 +138,7 @@ returns g c =
     let adds : g.C.WindingCount.ADDS ≡ true = sym c.ADDS.ensures ∙ c.if-not-ADDS.false in
     let told = rw c.deref-3.ensures.value at c.in_ok-keys.ensures.same in
     let same : with_counts (of_count of) (entries_of value keys) ≡ entries_of value segments = ap (λ l. with_counts (of_count of) (entries_of value l)) c.deref-4.ensures.value ∙ told in
-    let auto = c.may_take_lines.ensures c.if-not-may_take_lines.false in
+    let auto = c.may_take_lines.ensures.auto c.if-not-may_take_lines.false in
     let now = c.put_all.new.segments.items in
     let alike = c.is_bare.ensures c.if-not-is_bare.false in
     let drawn = subst (λ b. (precision : Precision) → cond b (entries_of value c.redraw_where_cut.new.laid.items) (entries_of value keys) ≡ redrawn boolean precision (entries_of value keys)) c.if-not-is_marked.false c.in_ok-is_marked.ensures.redrawn in

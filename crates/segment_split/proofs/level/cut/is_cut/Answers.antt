@@ -1,4 +1,4 @@
-use Rattle.std.proofs.Common.{◌≡◌, ◌∙◌, ◌≤◌, ℕ, Bool, length, replicate, true, false, refl, sym, ap, arith}
+use Rattle.std.proofs.Common.{◌≡◌, ◌∙◌, ℕ, Bool, length, replicate, true, false, refl, ap, arith}
 use Rattle.std.proofs.lemmas.Bool.{false≢true}
 use Rattle.std.proofs.lemmas.List.{length-map, length-replicate}
 use Rattle.plane_base.specs.Counts.{boolean}
@@ -43,11 +43,11 @@ returns-clause-cut g c = λ precision.
     let value = g.I.OverlayInt.value in (
       λ e. absurd (false≢true e),
       λ some. absurd
-          (counted_last value (entries_of value c.args.keys.now) c.args.ends.now c.requires.sound (lines_of value c.args.lines.now) c.loop-left.left c.loop-left.running (omega (arith, c.loop-left-test.false)) c.loop-left.invariant.2 precision some),
+          (counted_last value (entries_of value c.args.keys.now) c.args.ends.now c.requires.sound (lines_of value c.args.lines.now) c.loop-left.left c.loop-left.running c.requires.normal (omega (arith, c.loop-left-test.false)) c.loop-left.invariant.2 precision some),
     )
 
 pub returns-then-left-clause-cut : goal.returns-then-left-clause-cut
 returns-then-left-clause-cut g c = λ precision.
     let value = g.I.OverlayInt.value in
     let stop = c.cut_on-left.ensures.marked c.if-left.true c.loop-left.invariant.2 in
-    ((λ _. stop_is_marked boolean precision (entries_of value c.args.keys.now) c.requires.sound.normal c.requires.sound.level stop.2.0 stop.2.1 stop.0 stop.1 stop.2.2), (λ _. refl))
+    ((λ _. stop_is_marked boolean precision (entries_of value c.args.keys.now) c.requires.normal c.requires.sound.level stop.2.0 stop.2.1 stop.0 stop.1 stop.2.2), (λ _. refl))

@@ -36,7 +36,7 @@ returns-clause-found g c =
     let off = c.in_ok-is_off_grid.is_off_grid in
     let meets = Meets es c.args.pass.now.next_new in
     let found = subst (λ ms. Finds g.I.OverlayInt.stride least greatest (marks_by rounding) es meets (laid_marks value g.I.Wide.WideIntNumber.number ms) laid off) c.clear.ensures.items c.in_ok-is_off_grid.ensures.found in
-    finds_all g.I.OverlayInt.stride least greatest rounding es pass.rising meets laid off found (all_met g.I.OverlayInt.stride least greatest rounding es pass.rising pass.directed c.args.pass.now.next_new pass.skips)
+    finds_all g.I.OverlayInt.stride least greatest rounding es pass.rising meets laid off found (all_met g.I.OverlayInt.stride least greatest rounding es pass.rising pass.directed c.args.pass.now.next_new c.requires)
 
 pub returns-clause-whole : goal.returns-clause-whole
 returns-clause-whole g c =
@@ -50,7 +50,7 @@ returns-clause-whole g c =
     let off = c.in_ok-is_off_grid.is_off_grid in
     let meets = Meets es c.args.pass.now.next_new in
     let found = subst (λ ms. Finds g.I.OverlayInt.stride least greatest (marks_by rounding) es meets (laid_marks value g.I.Wide.WideIntNumber.number ms) laid off) c.clear.ensures.items c.in_ok-is_off_grid.ensures.found in
-    finds_whole g.I.OverlayInt.stride least greatest rounding es pass.rising meets laid off found (all_met g.I.OverlayInt.stride least greatest rounding es pass.rising pass.directed c.args.pass.now.next_new pass.skips)
+    finds_whole g.I.OverlayInt.stride least greatest rounding es pass.rising meets laid off found (all_met g.I.OverlayInt.stride least greatest rounding es pass.rising pass.directed c.args.pass.now.next_new c.requires)
 
 pub clear-requires : goal.clear-requires
 clear-requires g c κs = λ h. (within_mark κs.1.0 g.row.I.lives g.row.I-Wide.lives h.0 h.1, ⊑_static κs.1.1.0)

@@ -84,5 +84,5 @@ returns-clause-steps g c =
     let i = c.loop-i.i in
     up_to_greater c.args.steps.now c.loop-i.steps (pairs_to n i) (all_pairs es) (pairs_to_all es n refl i (omega (arith, c.loop-i.auto.i-end, seen_long (entry_of g.I.OverlayInt.value) c.pass.inside.segments.now (pass_seen c.pass.invariant c.pass.view_is)))) c.loop-i.invariant.1
 
-pub look_ahead-requires : goal.look_ahead-requires
-look_ahead-requires g c = omega (arith, c.loop-i-test.true, seen_long (entry_of g.I.OverlayInt.value) c.pass.inside.segments.now (pass_seen c.pass.invariant c.pass.view_is))
+pub look_ahead-requires-clause-within : goal.look_ahead-requires-clause-within
+look_ahead-requires-clause-within g c = omega (arith, c.loop-i-test.true, seen_long (entry_of g.I.OverlayInt.value) c.pass.inside.segments.now (pass_seen c.pass.invariant c.pass.view_is))

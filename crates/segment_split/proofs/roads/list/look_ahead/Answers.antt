@@ -19,7 +19,7 @@ loop-j-init g c =
     let told = c.pass.inside.next_new.now in
     let i = c.args.i in (
       ahead_begun g.I.OverlayInt.stride least greatest rounding es i c.step_to-j.result
-          (skips_old g.I.OverlayInt.stride least greatest rounding es pass.rising told (subst (SkipsOld es) (sym pass.told) pass.skips) i c.next_from.result c.next_from.ensures.from c.next_from.ensures.passed (i + 1) c.step_to-j.result c.step_to-j.ensures.passed)
+          (skips_old g.I.OverlayInt.stride least greatest rounding es pass.rising told (subst (SkipsOld es) (sym pass.told) c.requires.skips) i c.next_from.result c.next_from.ensures.from c.next_from.ensures.passed (i + 1) c.step_to-j.result c.step_to-j.ensures.passed)
           (laid_marks value g.I.Wide.WideIntNumber.number c.args.marks.now.items),
       record { comparisons = refl; pairs = omega arith; bound = omega arith },
       omega (arith, c.step_to-j.ensures.from),
@@ -39,7 +39,7 @@ loop-j-preserved g c =
     let m = c.step_to-j-in-loop-j.result in
     let still : c.ends_before.new.steps.pairs ≡ c.loop-j.steps.pairs + 0 = rw c.if-ends_before.false at c.ends_before.ensures.pairs in (
       ahead_more g.I.OverlayInt.stride least greatest rounding es i j m
-          (skips_old g.I.OverlayInt.stride least greatest rounding es pass.rising told (subst (SkipsOld es) (sym pass.told) pass.skips) i c.next_from.result c.next_from.ensures.from c.next_from.ensures.passed (j + 1) m c.step_to-j-in-loop-j.ensures.passed)
+          (skips_old g.I.OverlayInt.stride least greatest rounding es pass.rising told (subst (SkipsOld es) (sym pass.told) c.requires.skips) i c.next_from.result c.next_from.ensures.from c.next_from.ensures.passed (j + 1) m c.step_to-j-in-loop-j.ensures.passed)
           (laid_marks value g.I.Wide.WideIntNumber.number c.args.marks.now.items) (laid_marks value g.I.Wide.WideIntNumber.number c.loop-j.marks.items) (laid_marks value g.I.Wide.WideIntNumber.number c.look.new.marks.items) c.loop-j.is_off_grid c.in_ok-own.own c.either-is_off_grid.result c.either-is_off_grid.ensures
           c.loop-j.invariant.0 c.in_ok-own.ensures.found,
       up_to_ticked c.args.steps.now c.loop-j.steps c.look.new.steps (min j (length es) - (i + 1)) (min m (length es) - (i + 1))
@@ -59,7 +59,7 @@ returns-then-ends_before-clause-found g c =
     let i = c.args.i in
     let j = c.loop-j.j in
     let s = (f c.index-segments-i.result).edge in
-    let at : IsAt es i s = as_seen f segments pass (λ es _ _. IsAt es i s) (edge_at f segments i c.index-segments-i.result (omega (arith, c.requires, seen_long f segments pass)) c.index-segments-i.is) in
+    let at : IsAt es i s = as_seen f segments pass (λ es _ _. IsAt es i s) (edge_at f segments i c.index-segments-i.result (omega (arith, c.requires.within, seen_long f segments pass)) c.index-segments-i.is) in
     let t = (f c.index-segments-j.result).edge in
     let there : IsAt es j t = as_seen f segments pass (λ es _ _. IsAt es j t) (edge_at f segments j c.index-segments-j.result (omega (arith, c.loop-j-test.true)) c.index-segments-j.is) in
     let past = rw (← c.index-segments-i.is, ← c.index-segments-j.is) at (c.ends_before.ensures.past c.if-ends_before.true) in
@@ -69,7 +69,7 @@ returns-then-ends_before-clause-found g c =
 
 pub look-requires-clause-at : goal.look-requires-clause-at
 look-requires-clause-at g c =
-    seen_at (entry_of g.I.OverlayInt.value) c.pass.inside.segments.now (pass_seen c.pass.invariant c.pass.view_is) c.args.i c.index-segments-i.result c.requires c.index-segments-i.is
+    seen_at (entry_of g.I.OverlayInt.value) c.pass.inside.segments.now (pass_seen c.pass.invariant c.pass.view_is) c.args.i c.index-segments-i.result c.requires.within c.index-segments-i.is
 
 pub look-requires-clause-before : goal.look-requires-clause-before
 look-requires-clause-before g c = c.loop-j.invariant.2
@@ -78,7 +78,7 @@ pub look-requires-clause-within : goal.look-requires-clause-within
 look-requires-clause-within g c = omega (arith, c.loop-j-test.true, seen_long (entry_of g.I.OverlayInt.value) c.pass.inside.segments.now (pass_seen c.pass.invariant c.pass.view_is))
 
 pub bounds-segments-i : goal.bounds-segments-i
-bounds-segments-i g c = omega (arith, c.requires, seen_long (entry_of g.I.OverlayInt.value) c.pass.inside.segments.now (pass_seen c.pass.invariant c.pass.view_is))
+bounds-segments-i g c = omega (arith, c.requires.within, seen_long (entry_of g.I.OverlayInt.value) c.pass.inside.segments.now (pass_seen c.pass.invariant c.pass.view_is))
 
 pub loop-j-smaller : goal.loop-j-smaller
 loop-j-smaller g c = omega (arith, c.loop-j-test.true, c.step_to-j-in-loop-j.ensures.from, seen_long (entry_of g.I.OverlayInt.value) c.pass.inside.segments.now (pass_seen c.pass.invariant c.pass.view_is))
