@@ -1,7 +1,8 @@
-//! What the program keeps from line to line: the contours that were given, in order, and the last answer with the builder that made it, whose storage serves the
-//! next one.
+//! What the program keeps from line to line: the contours that were given, in order, and the last answer with the builder that made
+//! it, whose storage serves the next one.
 //!
-//! Degenerate cases: nothing is kept yet, memory is refused, or an answer was never asked for. A contour is kept in amortised constant time, without a copy.
+//! Degenerate cases: nothing is kept yet, memory is refused, or nothing was answered. A contour is kept in amortised constant time,
+//! without a copy.
 
 ghost use Rattle.std.specs.Prelude.{◌≡◌, ◌≤◌, [], vec_len, vec_capacity, OnOk, OnErr, IsOkUnless, All, flat_map};
 ghost use Rattle.std.specs.Option.{option_map};
