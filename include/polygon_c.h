@@ -48,7 +48,7 @@ enum {
     POLYGON_C_SIZE = 11,     /* a query has more words than the library knows: that is older than the header */
     POLYGON_C_RANGE64 = 12,  /* a coordinate is not from -68719476736 to 68719476735: see polygon_c64.h */
     POLYGON_C_JOIN = 13,     /* no join has this number, or numbers that are to be kept differ: see polygon_overlay_edges */
-    POLYGON_C_SLANT = 14     /* an edge is neither level nor upright: see polygon_sized */
+    POLYGON_C_SLANT = 14     /* an edge is neither level nor upright: see polygon_sized, polygon_width */
 };
 
 /* The version that this header is of: a million times its first number, a thousand times its second, and its third. */
@@ -227,6 +227,16 @@ uint32_t polygon_c_sized(const polygon_c_point *subject, size_t subject_points, 
                          int32_t left, int32_t right, int32_t bottom, int32_t top, const uint32_t *query, size_t query_words,
                          polygon_c_point *points, size_t points_room, size_t *contours, size_t contours_room, size_t *shapes, size_t shapes_room,
                          polygon_c_sizes *sizes);
+
+/* See polygon_width. */
+uint32_t polygon_c_width(const polygon_c_point *subject, size_t subject_points, const size_t *subject_lengths, size_t subject_contours,
+                         int32_t width, const uint32_t *query, size_t query_words, polygon_c_point *points, size_t points_room,
+                         size_t *contours, size_t contours_room, size_t *shapes, size_t shapes_room, polygon_c_sizes *sizes);
+
+/* See polygon_space. */
+uint32_t polygon_c_space(const polygon_c_point *subject, size_t subject_points, const size_t *subject_lengths, size_t subject_contours,
+                         int32_t space, const uint32_t *query, size_t query_words, polygon_c_point *points, size_t points_room,
+                         size_t *contours, size_t contours_room, size_t *shapes, size_t shapes_room, polygon_c_sizes *sizes);
 
 /* See polygon_relate. */
 uint32_t polygon_c_relate(const polygon_c_point *subject, size_t subject_points, const size_t *subject_lengths, size_t subject_contours,
@@ -450,6 +460,46 @@ static inline uint32_t polygon_sized(const polygon_c_contours *contours, const p
                            words.all, POLYGON_C_QUERY_WORDS, (polygon_c_point *)polygon_c_somewhere(answer->points), answer->points_room,
                            (size_t *)polygon_c_somewhere(answer->contours), answer->contours_room, (size_t *)polygon_c_somewhere(answer->shapes),
                            answer->shapes_room, &answer->sizes);
+}
+
+/*
+ * What of contours, of which each edge is level or upright, is narrower than a width: each point of what they fill that no square of this width in it
+ * covers, wherever the square stands. The shapes are answered as polygon_overlay answers them, with level and upright edges. Corners that face each
+ * other diagonally are told nowhere, however near they are. Of the query it reads all but the rule and what is of lines; all its numbers are tested.
+ *
+ * After POLYGON_C_RANGE it tells POLYGON_C_SLANT, where an edge is neither level nor upright, and then POLYGON_C_RANGE again, where the width is below 1,
+ * or it or a point that is moved by it would be out of range.
+ */
+static inline uint32_t polygon_width(const polygon_c_contours *contours, int32_t width, const polygon_c_query *query,
+                                     polygon_c_shapes *answer) {
+    const polygon_c_words words = polygon_c_words_of(query);
+    if (!polygon_c_are_there(contours) || !polygon_c_is_there(answer->points, answer->points_room) ||
+        !polygon_c_is_there(answer->contours, answer->contours_room) || !polygon_c_is_there(answer->shapes, answer->shapes_room)) {
+        return POLYGON_C_LENGTHS;
+    }
+    return polygon_c_width((const polygon_c_point *)polygon_c_somewhere(contours->points), contours->points_len,
+                           (const size_t *)polygon_c_somewhere(contours->lengths), contours->lengths_len, width, words.all, POLYGON_C_QUERY_WORDS,
+                           (polygon_c_point *)polygon_c_somewhere(answer->points), answer->points_room,
+                           (size_t *)polygon_c_somewhere(answer->contours), answer->contours_room,
+                           (size_t *)polygon_c_somewhere(answer->shapes), answer->shapes_room, &answer->sizes);
+}
+
+/*
+ * Where such contours are nearer to each other than a space, or sides of a notch: each point outside of what they fill that no square of this width
+ * outside covers. All else is as of polygon_width.
+ */
+static inline uint32_t polygon_space(const polygon_c_contours *contours, int32_t space, const polygon_c_query *query,
+                                     polygon_c_shapes *answer) {
+    const polygon_c_words words = polygon_c_words_of(query);
+    if (!polygon_c_are_there(contours) || !polygon_c_is_there(answer->points, answer->points_room) ||
+        !polygon_c_is_there(answer->contours, answer->contours_room) || !polygon_c_is_there(answer->shapes, answer->shapes_room)) {
+        return POLYGON_C_LENGTHS;
+    }
+    return polygon_c_space((const polygon_c_point *)polygon_c_somewhere(contours->points), contours->points_len,
+                           (const size_t *)polygon_c_somewhere(contours->lengths), contours->lengths_len, space, words.all, POLYGON_C_QUERY_WORDS,
+                           (polygon_c_point *)polygon_c_somewhere(answer->points), answer->points_room,
+                           (size_t *)polygon_c_somewhere(answer->contours), answer->contours_room,
+                           (size_t *)polygon_c_somewhere(answer->shapes), answer->shapes_room, &answer->sizes);
 }
 
 /*

@@ -215,6 +215,22 @@ inline Shapes sized(const Contours &contours, const Sizing &by, const Query &que
     return room.answer();
 }
 
+// What of such contours is narrower than a width: what no square of it covers.
+inline Shapes width_errors(const Contours &contours, std::int32_t width, const Query &query = Query()) {
+    const flat::Given one(contours);
+    flat::Room room(one.points_len);
+    room.fill([&](polygon_c_shapes &answer) { return polygon_width(&one, width, &query, &answer); });
+    return room.answer();
+}
+
+// Where they are nearer to each other than a space, or sides of a notch.
+inline Shapes space_errors(const Contours &contours, std::int32_t space, const Query &query = Query()) {
+    const flat::Given one(contours);
+    flat::Room room(one.points_len);
+    room.fill([&](polygon_c_shapes &answer) { return polygon_space(&one, space, &query, &answer); });
+    return room.answer();
+}
+
 inline Relations relate(const Contours &subject, const Contours &clip, const Query &query = Query()) {
     const flat::Given one(subject), other(clip);
     Relations told = Relations();

@@ -69,6 +69,16 @@ uint32_t polygon_c_sized64(const polygon_c_point64 *subject, size_t subject_poin
                            polygon_c_point64 *points, size_t points_room, size_t *contours, size_t contours_room, size_t *shapes, size_t shapes_room,
                            polygon_c_sizes *sizes);
 
+/* See polygon_width. */
+uint32_t polygon_c_width64(const polygon_c_point64 *subject, size_t subject_points, const size_t *subject_lengths, size_t subject_contours,
+                           int64_t width, const uint32_t *query, size_t query_words, polygon_c_point64 *points, size_t points_room,
+                           size_t *contours, size_t contours_room, size_t *shapes, size_t shapes_room, polygon_c_sizes *sizes);
+
+/* See polygon_space. */
+uint32_t polygon_c_space64(const polygon_c_point64 *subject, size_t subject_points, const size_t *subject_lengths, size_t subject_contours,
+                           int64_t space, const uint32_t *query, size_t query_words, polygon_c_point64 *points, size_t points_room,
+                           size_t *contours, size_t contours_room, size_t *shapes, size_t shapes_room, polygon_c_sizes *sizes);
+
 /* See polygon_relate. */
 uint32_t polygon_c_relate64(const polygon_c_point64 *subject, size_t subject_points, const size_t *subject_lengths, size_t subject_contours,
                             const polygon_c_point64 *clip, size_t clip_points, const size_t *clip_lengths, size_t clip_contours,
@@ -233,6 +243,36 @@ static inline uint32_t polygon_sized64(const polygon_c_contours64 *contours, con
                              words.all, POLYGON_C_QUERY_WORDS, (polygon_c_point64 *)polygon_c_somewhere(answer->points), answer->points_room,
                              (size_t *)polygon_c_somewhere(answer->contours), answer->contours_room, (size_t *)polygon_c_somewhere(answer->shapes),
                              answer->shapes_room, &answer->sizes);
+}
+
+/* See polygon_width. */
+static inline uint32_t polygon_width64(const polygon_c_contours64 *contours, int64_t width, const polygon_c_query *query,
+                                       polygon_c_shapes64 *answer) {
+    const polygon_c_words words = polygon_c_words_of(query);
+    if (!polygon_c_are_there64(contours) || !polygon_c_is_there(answer->points, answer->points_room) ||
+        !polygon_c_is_there(answer->contours, answer->contours_room) || !polygon_c_is_there(answer->shapes, answer->shapes_room)) {
+        return POLYGON_C_LENGTHS;
+    }
+    return polygon_c_width64((const polygon_c_point64 *)polygon_c_somewhere(contours->points), contours->points_len,
+                             (const size_t *)polygon_c_somewhere(contours->lengths), contours->lengths_len, width, words.all, POLYGON_C_QUERY_WORDS,
+                             (polygon_c_point64 *)polygon_c_somewhere(answer->points), answer->points_room,
+                             (size_t *)polygon_c_somewhere(answer->contours), answer->contours_room,
+                             (size_t *)polygon_c_somewhere(answer->shapes), answer->shapes_room, &answer->sizes);
+}
+
+/* See polygon_space. */
+static inline uint32_t polygon_space64(const polygon_c_contours64 *contours, int64_t space, const polygon_c_query *query,
+                                       polygon_c_shapes64 *answer) {
+    const polygon_c_words words = polygon_c_words_of(query);
+    if (!polygon_c_are_there64(contours) || !polygon_c_is_there(answer->points, answer->points_room) ||
+        !polygon_c_is_there(answer->contours, answer->contours_room) || !polygon_c_is_there(answer->shapes, answer->shapes_room)) {
+        return POLYGON_C_LENGTHS;
+    }
+    return polygon_c_space64((const polygon_c_point64 *)polygon_c_somewhere(contours->points), contours->points_len,
+                             (const size_t *)polygon_c_somewhere(contours->lengths), contours->lengths_len, space, words.all, POLYGON_C_QUERY_WORDS,
+                             (polygon_c_point64 *)polygon_c_somewhere(answer->points), answer->points_room,
+                             (size_t *)polygon_c_somewhere(answer->contours), answer->contours_room,
+                             (size_t *)polygon_c_somewhere(answer->shapes), answer->shapes_room, &answer->sizes);
 }
 
 /* See polygon_hierarchy. */

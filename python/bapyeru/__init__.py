@@ -24,7 +24,7 @@ from ._arrays import GREATEST, LEAST, NARROW_GREATEST, NARROW_LEAST, Flat, FlatO
 from ._library import JOIN, KINDS, LENGTHS, OK, RANGE, RANGE64, ROOM, SLANT, MemoryRefused, OutOfRange, Refused, TooMany, Unfit, Unknown, keep_memory
 from .calls import (
     FILLS, JOINS, PLACES, PRECISIONS, RULES, STRATEGIES, Link, Relations, clip_lines, contains_points, doubled_area, hierarchy, library_version, locate,
-    overlay, overlay_edges, overlays, relate, sized, slice_shape, text,
+    overlay, overlay_edges, overlays, relate, sized, slice_shape, space_errors, text, width_errors,
 )
 from .grid import Grid
 from .layers import overlay_geometries, overlay_layers
@@ -38,5 +38,6 @@ __all__ = [
     "FILLS", "GREATEST", "JOIN", "JOINS", "KINDS", "LEAST", "LENGTHS", "NARROW_GREATEST", "NARROW_LEAST", "OK", "PLACES", "PRECISIONS", "RANGE", "RANGE64",
     "ROOM", "RULES", "SLANT", "STRATEGIES", "Flat", "FlatOverlays", "FlatShapes", "Grid", "Link", "MemoryRefused", "OutOfRange", "Refused", "Relations",
     "TooMany", "Unfit", "Unknown", "clip_lines", "contains_points", "doubled_area", "hierarchy", "keep_memory", "library_version", "locate", "overlay",
-    "overlay_edges", "overlay_geometries", "overlay_layers", "overlays", "relate", "sized", "slice_shape", "text",
+    "overlay_edges", "overlay_geometries", "overlay_layers", "overlays", "relate", "sized", "slice_shape", "space_errors", "text",
+    "width_errors",
 ]

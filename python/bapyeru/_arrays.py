@@ -249,7 +249,7 @@ class Contours:
 
 
 class Sizable(Contours):
-    """Contours that are to be sized by four amounts: with coordinates of 64 bits where points would leave the range of 32 when they are moved."""
+    """Contours that are to be sized by amounts, or checked for a side: with coordinates of 64 bits where points would leave the range of 32 when they are moved."""
 
     def __init__(self, given, amounts, name):
         super().__init__(given, name)

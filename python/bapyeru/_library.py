@@ -73,6 +73,8 @@ _CALLS = {
     "polygon_c_slice": (_STATUS, [*_CONTOURS * 2, *_QUERY, *_ARRAY * 3, _TO]),
     "polygon_c_clip": (_STATUS, [*_CONTOURS * 2, *_QUERY, *_ARRAY * 2, _TO]),
     "polygon_c_sized": (_STATUS, [*_CONTOURS, *[ctypes.c_int32] * 4, *_QUERY, *_ARRAY * 3, _TO]),
+    "polygon_c_width": (_STATUS, [*_CONTOURS, ctypes.c_int32, *_QUERY, *_ARRAY * 3, _TO]),
+    "polygon_c_space": (_STATUS, [*_CONTOURS, ctypes.c_int32, *_QUERY, *_ARRAY * 3, _TO]),
     "polygon_c_relate": (_STATUS, [*_CONTOURS * 2, *_QUERY, _TO]),
     "polygon_c_contains_points": (_STATUS, [*_CONTOURS, *_ARRAY, *_ARRAY, *_ARRAY]),
     "polygon_c_locate": (_STATUS, [*_CONTOURS, *_ARRAY, *_ARRAY, *_ARRAY]),
@@ -83,6 +85,8 @@ EXPORTS = {
     # (with coordinates of 64 bits)
     **{f"{export}64": it for export, it in _CALLS.items()},
     "polygon_c_sized64": (_STATUS, [*_CONTOURS, *[ctypes.c_int64] * 4, *_QUERY, *_ARRAY * 3, _TO]),
+    "polygon_c_width64": (_STATUS, [*_CONTOURS, ctypes.c_int64, *_QUERY, *_ARRAY * 3, _TO]),
+    "polygon_c_space64": (_STATUS, [*_CONTOURS, ctypes.c_int64, *_QUERY, *_ARRAY * 3, _TO]),
     "polygon_c_version": (ctypes.c_uint32, []),
     "polygon_c_text": (ctypes.c_size_t, [_STATUS, *_ARRAY]),
 }

@@ -275,6 +275,43 @@ def sized(contours, by, fill="nonzero", *, flat=False, **options):
     return _shaped(FlatShapes, flat, _asked("polygon_c_sized", given, query, _library.Sizes(), _LENGTHS, *amounts))
 
 
+@overload
+def width_errors(contours: Contours, width: int, fill: str = "nonzero", *, flat: Literal[False] = False, **options: Any) -> List[Shape]: ...
+@overload
+def width_errors(contours: Contours, width: int, fill: str = "nonzero", *, flat: Literal[True], **options: Any) -> FlatShapes: ...
+def width_errors(contours, width, fill="nonzero", *, flat=False, **options):
+    """The shapes of what of contours is narrower than a width: each point of what they fill that no square of this width in it covers, wherever the square
+    stands. Each edge is level or upright. Of two corners that face each other diagonally nothing is told, however near they are.
+
+    Arguments:
+        contours: a group.
+        width: a whole number, 1 or more.
+        fill, flat, options: as of `overlay`.
+
+    A contour with an edge that is neither level nor upright is `Unfit`. A width below 1, or one by which a point would be moved out of range, in x or in y, is
+    `OutOfRange`.
+    """
+    return _checked("polygon_c_width", contours, _arrays.integer(width, "width"), _query("subject", fill, options), flat)
+
+
+@overload
+def space_errors(contours: Contours, space: int, fill: str = "nonzero", *, flat: Literal[False] = False, **options: Any) -> List[Shape]: ...
+@overload
+def space_errors(contours: Contours, space: int, fill: str = "nonzero", *, flat: Literal[True], **options: Any) -> FlatShapes: ...
+def space_errors(contours, space, fill="nonzero", *, flat=False, **options):
+    """The shapes of where contours are nearer to each other than a space, or sides of a notch: each point outside of what they fill that no square of this width
+    outside covers. With the arguments of `width_errors`, and refused as it is.
+    """
+    return _checked("polygon_c_space", contours, _arrays.integer(space, "space"), _query("subject", fill, options), flat)
+
+
+def _checked(export, contours, side, query, flat):
+    # (by more than the range is wide all points leave it)
+    side = max(-(2**40), min(side, 2**40))
+    given = [_arrays.Sizable(contours, [side], "contours")]
+    return _shaped(FlatShapes, flat, _asked(export, given, query, _library.Sizes(), _LENGTHS, side))
+
+
 def relate(subject: Contours, clip: Contours, fill: str = "nonzero", depth: int = 1, strategy: str = "auto", precision: str = "high") -> Relations:
     """How what a subject and a clip fill is related: all `Relations` at once, with the arguments of `overlay`."""
     given, query = [_arrays.Contours(subject, "subject"), _arrays.Contours(clip, "clip")], _query_of("subject", fill, depth, strategy, precision)

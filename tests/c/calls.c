@@ -724,6 +724,48 @@ static void far_sized(void) {
     test(polygon_sized64(&kite, &grown, &query, &answer) == POLYGON_C_SLANT && is_untouched(&room), "a far edge that slants");
 }
 
+/* ---- masks that are checked */
+
+typedef uint32_t Check(const polygon_c_contours *contours, int32_t side, const polygon_c_query *query, polygon_c_shapes *answer);
+
+/* Whether contours have these errors: one contour, or none. */
+static int has_errors(Check *check, const polygon_c_contours *contours, int32_t side, const polygon_c_point *wanted, size_t points) {
+    polygon_c_query query = query_of(POLYGON_C_CLIP, POLYGON_C_NONZERO);
+    const size_t one = points != 0;
+    Room room;
+    polygon_c_shapes answer = with_room(&room, LENGTH(room.points), LENGTH(room.contours), LENGTH(room.shapes));
+    return check(contours, side, &query, &answer) == POLYGON_C_OK && are_sizes(answer.sizes, points, one, one) &&
+           !memcmp(room.points, wanted, points * sizeof *wanted) && is_left(&room, points, one, one, 0);
+}
+
+/* Whether a check is refused so, and everything left as it was. */
+static int is_unchecked(Check *check, uint32_t status, polygon_c_contours contours, int32_t side) {
+    polygon_c_query query = query_of(POLYGON_C_SUBJECT, POLYGON_C_NONZERO);
+    Room room;
+    polygon_c_shapes answer = with_room(&room, LENGTH(room.points), LENGTH(room.contours), LENGTH(room.shapes));
+    return check(&contours, side, &query, &answer) == status && are_sizes(answer.sizes, 12345, 12345, 12345) && is_left(&room, 0, 0, 0, 0);
+}
+
+static void checked(void) {
+    static const polygon_c_point BAR[] = {{0, 0}, {4, 0}, {4, 20}, {0, 20}}, WHOLE[] = {{0, 20}, {0, 0}, {4, 0}, {4, 20}};
+    static const polygon_c_point NEAR[] = {{0, 0}, {10, 0}, {10, 10}, {0, 10}, {14, 0}, {24, 0}, {24, 10}, {14, 10}};
+    static const polygon_c_point GAP[] = {{10, 10}, {10, 0}, {14, 0}, {14, 10}};
+    static const polygon_c_point KITE[] = {{0, 0}, {10, 0}, {11, 10}, {0, 10}};
+    const polygon_c_contours bar = {BAR, 4, FOURS, 1}, near = {NEAR, 8, FOURS, 2}, kite = {KITE, 4, FOURS, 1};
+    Check *const checks[] = {polygon_width, polygon_space};
+    size_t at;
+
+    test(has_errors(polygon_width, &bar, 4, WHOLE, 0) && has_errors(polygon_width, &bar, 5, WHOLE, 4), "the width of a bar");
+    test(has_errors(polygon_space, &near, 4, GAP, 0) && has_errors(polygon_space, &near, 5, GAP, 4), "the space between two masks");
+    for (at = 0; at < LENGTH(checks); at++) {
+        test(has_errors(checks[at], &NONE, 1, WHOLE, 0) && has_errors(checks[at], &bar, 1, WHOLE, 0), "nothing checked, and a side of 1");
+        test(is_unchecked(checks[at], POLYGON_C_RANGE, ONE, 0) && is_unchecked(checks[at], POLYGON_C_RANGE, ONE, -1), "a side below 1");
+        test(is_unchecked(checks[at], POLYGON_C_RANGE, ONE, INT32_MIN) && is_unchecked(checks[at], POLYGON_C_RANGE, ONE, INT32_MAX), "sides out of range");
+        test(is_unchecked(checks[at], POLYGON_C_RANGE, ONE, 524278), "a square that is moved too far");
+        test(is_unchecked(checks[at], POLYGON_C_SLANT, kite, 1) && is_unchecked(checks[at], POLYGON_C_SLANT, kite, 0), "an edge that slants, before a side");
+    }
+}
+
 static void simplified(void) {
     static const polygon_c_point BOW[] = {{0, 0}, {10, 10}, {10, 0}, {0, 10}};
     const polygon_c_contours bow = {BOW, 4, FOURS, 1};
@@ -823,6 +865,12 @@ static uint32_t by_sized(Room *room) {
     polygon_c_query query = query_of(POLYGON_C_SUBJECT, POLYGON_C_NONZERO);
     polygon_c_shapes answer = with_room(room, 24, 6, 5);
     return polygon_sized(&TWO, &ones, &query, &answer);
+}
+
+static uint32_t by_width(Room *room) {
+    polygon_c_query query = query_of(POLYGON_C_SUBJECT, POLYGON_C_NONZERO);
+    polygon_c_shapes answer = with_room(room, 24, 6, 5);
+    return polygon_width(&TWO, 11, &query, &answer);
 }
 
 static uint32_t by_relate(Room *room) {
@@ -936,6 +984,7 @@ int main(int count, char **words) {
     far_places();
     sized();
     far_sized();
+    checked();
     simplified();
     texts();
     refusals(by_overlay, "an overlay without memory");
@@ -945,6 +994,7 @@ int main(int count, char **words) {
     refusals(by_slice, "a slice without memory");
     refusals(by_clip, "a clip without memory");
     refusals(by_sized, "sizing without memory");
+    refusals(by_width, "a check without memory");
     refusals(by_relate, "relations without memory");
     refusals(by_places, "points without memory");
     refusals(by_located, "places without memory");

@@ -137,6 +137,15 @@ def sizes():
     tell("lengths of what is sized", is_refused(bapyeru.Unfit, 8, sized, bapyeru.Flat(CORNERS, [3]), 1))
     for value in (*NO_INTEGERS, (1, 2, 3), (1, 2, 3, 4, 5), (1, 2, 3, 4.0), (), {1, 2, 3, 4}):
         tell(f"{value!r} as amounts", is_type_error(sized, PARCEL, value))
+    width, space = bapyeru.width_errors, bapyeru.space_errors
+    tell("the width of a bar", width(bar, 4) == [] and width(bar, 5) == whole(0, 0, 4, 20))
+    tell("the space between two masks", space(near, 4) == [] and space(near, 5) == whole(10, 0, 14, 10))
+    tell("a side of 1", width(holed, 1) == space(holed, 1) == [] and space(holed, 2) == whole(4, 4, 5, 5))
+    tell("options of a check", width(bar, 5, least_area=81) == [] and width(bar, 5, clockwise=True)[0][0][1] == (0, 20))
+    for check in (width, space):
+        tell(f"{check.__name__}, out of range", all(is_refused(bapyeru.OutOfRange, 9, check, PARCEL, it) for it in (0, -1)))
+        tell(f"{check.__name__}, far out of range", all(is_refused(bapyeru.OutOfRange, 12, check, PARCEL, it) for it in (far - 9, -(2**80), 2**80)))
+        tell(f"{check.__name__}, an edge that slants", is_refused(bapyeru.Unfit, 14, check, [*PARCEL, [(0, 0), (9, 0), (0, 9)]], 0))
     tell("no rule of sizing", is_type_error(sized, PARCEL, 1, rule="union") and is_refused(bapyeru.Unknown, 5, sized, PARCEL, 1, "odd"))
 
 

@@ -15,3 +15,4 @@ pub mod Many
 pub mod Joins
 pub mod EdgeQueries
 pub mod Sizings
+pub mod Checkings

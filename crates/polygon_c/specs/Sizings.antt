@@ -1,4 +1,4 @@
--- What a call that sizes a region says and leaves.
+-- What a call that sizes a region says and leaves: in a form that checks of masks share.
 use Rattle.std.specs.Prelude.{◌≡◌, ◌⊎◌, ℕ, ℤ, pos, negsuc, List}
 use Rattle.plane_base.specs.Plane.{Point}
 use Rattle.plane_base.specs.declared.fault.Fault.{Fault}
@@ -34,38 +34,56 @@ abbrev pub IsSizingRefused : ℤ → ℤ → Amounts → Request → List (List 
 IsSizingRefused least greatest by r contours fault =
     IsNotSized least greatest by r.options (fill_rule_of r.fill_rule) r.solver.precision contours fault
 
--- ---- calls
+-- ---- calls about a mask: `Fit` is what its contours are tested for at last, `Is` what the engine answers, and `IsRefusedFor` why it doesn't
 
--- All tests are passed: each step is level or upright, and no point leaves the range.
-pub record PassesSizing {P : Type 0} (plane : P → Point) (least greatest : ℤ) (by : Amounts) (q : List ℕ) (g : Given P) (r : Request) : Type 0 where
+-- All tests are passed: each step is level or upright, and the contours fit.
+pub record PassesFitting {P : Type 0} (plane : P → Point) (least greatest : ℤ) (Fit : List (List Point) → Type 0) (q : List ℕ) (g : Given P)
+    (r : Request) : Type 0 where
   pub passes : Passes plane least greatest q g r
   pub straight : AreLevelOrUpright (subjects_of plane g)
-  pub fitting : Fits least greatest by (subjects_of plane g)
+  pub fitting : Fit (subjects_of plane g)
 
--- All tests are passed, and the lists are the flat form of the sized region.
-abbrev pub AnswersSizing : {P : Type 0} → (P → Point) → (Point → P) → ℤ → ℤ → Amounts → List ℕ → Given P → Arrays P → Type 0
-AnswersSizing plane at least greatest by q g answer =
-    (r : Request) × PassesSizing plane least greatest by q g r
-    × ((shapes : List (List (List Point))) × IsSizingOf least greatest by r (subjects_of plane g) shapes × (answer ≡ flat at shapes))
+-- All tests are passed, and the lists are the flat form of what the engine answers.
+abbrev pub AnswersOfMask : {P : Type 0} → (P → Point) → (Point → P) → ℤ → ℤ → (List (List Point) → Type 0)
+    → (Request → List (List Point) → List (List (List Point)) → Type 0) → List ℕ → Given P → Arrays P → Type 0
+AnswersOfMask plane at least greatest Fit Is q g answer =
+    (r : Request) × PassesFitting plane least greatest Fit q g r
+    × ((shapes : List (List (List Point))) × Is r (subjects_of plane g) shapes × (answer ≡ flat at shapes))
 
--- Why nothing is answered: a test fails that overlays make too; or none does, and a step is neither level nor upright; or all are, and a point would
--- leave the range; or all tests are passed, and the engine refuses for a fault that is told so.
-abbrev pub IsNotResized : {P : Type 0} → (P → Point) → ℤ → ℤ → Amounts → List ℕ → Given P → Refusal → Type 0
-IsNotResized plane least greatest by q g why =
+-- Why nothing is answered: a test fails that overlays make too; or none does, and a step is neither level nor upright; or all are, and the contours
+-- don't fit; or all tests are passed, and the engine refuses for a fault that is told so.
+abbrev pub IsUntoldOfMask : {P : Type 0} → (P → Point) → ℤ → ℤ → (List (List Point) → Type 0) → (Request → List (List Point) → Fault → Type 0)
+    → List ℕ → Given P → Refusal → Type 0
+IsUntoldOfMask plane least greatest Fit IsRefusedFor q g why =
     IsUnasked plane least greatest q g why
     ⊎ ((r : Request) × Passes plane least greatest q g r × (AreLevelOrUpright (subjects_of plane g) → ⊥) × (why ≡ refusal.Slant))
-    ⊎ ((r : Request) × Passes plane least greatest q g r × AreLevelOrUpright (subjects_of plane g)
-    × (Fits least greatest by (subjects_of plane g) → ⊥) × (why ≡ refusal.Range))
-    ⊎ ((r : Request) × (fault : Fault) × PassesSizing plane least greatest by q g r × IsSizingRefused least greatest by r (subjects_of plane g) fault
-    × (why ≡ refusal_of fault))
+    ⊎ ((r : Request) × Passes plane least greatest q g r × AreLevelOrUpright (subjects_of plane g) × (Fit (subjects_of plane g) → ⊥) × (why ≡ refusal.Range))
+    ⊎ ((r : Request) × (fault : Fault) × PassesFitting plane least greatest Fit q g r × IsRefusedFor r (subjects_of plane g) fault × (why ≡ refusal_of fault))
 
 -- Either there is an answer: its sizes are told, and it is handed out, or finds no room. Or there is none for the reason that the
 -- status tells, and the sizes stay as they were.
+abbrev pub IsCallIn : {P : Type 0} → (Refusal → ℕ) → (Arrays P → Type 0) → (Refusal → Type 0) → Arrays P → Arrays P → Sizes → Sizes → ℕ → Type 0
+IsCallIn {P} number Answers IsUntold old new sizes sizes' status =
+    ((answer : Arrays P) × Answers answer × (sizes' ≡ sizes_of answer) × HandsOut answer old new status)
+    ⊎ ((why : Refusal) × (status ≡ number why) × IsUntold why × (sizes' ≡ sizes))
+
+-- ---- calls that size
+
+abbrev pub PassesSizing : {P : Type 0} → (P → Point) → ℤ → ℤ → Amounts → List ℕ → Given P → Request → Type 0
+PassesSizing plane least greatest by q g r = PassesFitting plane least greatest (Fits least greatest by) q g r
+
+-- no point leaves the range, and the lists are the flat form of the sized region
+abbrev pub AnswersSizing : {P : Type 0} → (P → Point) → (Point → P) → ℤ → ℤ → Amounts → List ℕ → Given P → Arrays P → Type 0
+AnswersSizing plane at least greatest by q g answer =
+    AnswersOfMask plane at least greatest (Fits least greatest by) (IsSizingOf least greatest by) q g answer
+
+abbrev pub IsNotResized : {P : Type 0} → (P → Point) → ℤ → ℤ → Amounts → List ℕ → Given P → Refusal → Type 0
+IsNotResized plane least greatest by q g why = IsUntoldOfMask plane least greatest (Fits least greatest by) (IsSizingRefused least greatest by) q g why
+
 abbrev pub IsSizingCallIn : {P : Type 0} → (Refusal → ℕ) → (P → Point) → (Point → P) → ℤ → ℤ → Amounts → List ℕ → Given P → Arrays P → Arrays P
     → Sizes → Sizes → ℕ → Type 0
-IsSizingCallIn {P} number plane at least greatest by q g old new sizes sizes' status =
-    ((answer : Arrays P) × AnswersSizing plane at least greatest by q g answer × (sizes' ≡ sizes_of answer) × HandsOut answer old new status)
-    ⊎ ((why : Refusal) × (status ≡ number why) × IsNotResized plane least greatest by q g why × (sizes' ≡ sizes))
+IsSizingCallIn number plane at least greatest by q g old new sizes sizes' status =
+    IsCallIn number (AnswersSizing plane at least greatest by q g) (IsNotResized plane least greatest by q g) old new sizes sizes' status
 
 abbrev pub IsSizingCall : Amounts → List ℕ → Given CPoint → Arrays CPoint → Arrays CPoint → Sizes → Sizes → ℕ → Type 0
 IsSizingCall = IsSizingCallIn status_of plane_point c_point (negsuc 524287) (pos 524287)

@@ -6,6 +6,7 @@ ghost use Rattle.plane_base.specs.Views.{points_of};
 ghost use Rattle.segment_arrangement.specs.RuleViews.{fill_rule_of};
 ghost use Rattle.contour_walk.specs.BindingLaws.{all_contours};
 ghost use Rattle.contour_walk.specs.ShapeViews.{shapes_of, IsFlat};
+ghost use Rattle.polygon_overlay.specs.Checks.{IsSide, evenly};
 ghost use Rattle.polygon_overlay.specs.ClipCalls.{IsClipOf};
 ghost use Rattle.polygon_overlay.specs.SliceCalls.{IsSliceOf};
 ghost use Rattle.polygon_overlay.specs.Location.{in_shapes, AreLocated};
@@ -17,9 +18,11 @@ ghost use Rattle.polygon_c.specs.Given.{flat_contours, AreFlatInRange};
 ghost use Rattle.polygon_c.specs.Calls.{IsNotSliced, IsNotClipped};
 ghost use Rattle.polygon_c.specs.Nesting.{IsHierarchyOf};
 ghost use Rattle.polygon_c.specs.Answers.{IsOverlayOf, IsNotOverlaid, AreRelationsOf, IsNotRelated};
+ghost use Rattle.polygon_c.specs.Checkings.{AreWidthsOf, AreWidthsRefused, AreSpacesOf, AreSpacesRefused};
 ghost use Rattle.polygon_c.specs.Sizings.{IsSizingOf, IsSizingRefused};
 
 use crate::query::Request;
+use polygon_overlay::checks::{space_errors, width_errors};
 use polygon_overlay::overlay::Overlay;
 use polygon_overlay::plane::fault::Fault;
 use polygon_overlay::plane::flat::FlatContoursBuffer;
@@ -187,6 +190,58 @@ pub(crate) fn sized<I: OverlayInt>(
         contours,
         request.fill_rule,
         by,
+        request.options,
+        request.solver,
+    )
+}
+
+// Where what contours fill is narrower than a width.
+pub(crate) fn widths<I: OverlayInt>(
+    alloc: Global,
+    request: Request,
+    contours: &FlatContoursBuffer<I>,
+    width: I,
+) -> Result<IntShapes<I>, Fault>
+    requires ready { IsFlat contours.now }
+    requires in_range { AreFlatInRange I.value I.least I.greatest contours.now }
+    requires straight { AreLevelOrUpright (flat_contours I.value contours.now) }
+    requires side { IsSide I.least I.greatest (I.value width) }
+    requires fits { Fits I.least I.greatest (evenly (I.value width)) (flat_contours I.value contours.now) }
+    ensures answered { IfOk result (λ shapes. AreWidthsOf I.least I.greatest (I.value width) request (flat_contours I.value contours.now)
+        (shapes_of I.value shapes.shapes.items)) }
+    ensures refused { IfErr result (AreWidthsRefused I.least I.greatest (I.value width) request (flat_contours I.value contours.now)) }
+{
+    width_errors(
+        alloc,
+        contours,
+        request.fill_rule,
+        width,
+        request.options,
+        request.solver,
+    )
+}
+
+// Where it is nearer to itself than a space.
+pub(crate) fn spaces<I: OverlayInt>(
+    alloc: Global,
+    request: Request,
+    contours: &FlatContoursBuffer<I>,
+    space: I,
+) -> Result<IntShapes<I>, Fault>
+    requires ready { IsFlat contours.now }
+    requires in_range { AreFlatInRange I.value I.least I.greatest contours.now }
+    requires straight { AreLevelOrUpright (flat_contours I.value contours.now) }
+    requires side { IsSide I.least I.greatest (I.value space) }
+    requires fits { Fits I.least I.greatest (evenly (I.value space)) (flat_contours I.value contours.now) }
+    ensures answered { IfOk result (λ shapes. AreSpacesOf I.least I.greatest (I.value space) request (flat_contours I.value contours.now)
+        (shapes_of I.value shapes.shapes.items)) }
+    ensures refused { IfErr result (AreSpacesRefused I.least I.greatest (I.value space) request (flat_contours I.value contours.now)) }
+{
+    space_errors(
+        alloc,
+        contours,
+        request.fill_rule,
+        space,
         request.options,
         request.solver,
     )

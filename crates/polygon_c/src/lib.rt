@@ -8,6 +8,7 @@
 mod area;
 mod arrays;
 mod asked;
+mod checked;
 mod clip;
 mod contain;
 mod datum;

@@ -45,6 +45,7 @@ mod VectorBoxLaws
 mod LoadLaws
 mod Tiles
 mod Sized
+mod Checked
 mod TallyLaws
 mod BalanceTally
 mod EdgeLaws

@@ -8,7 +8,9 @@ pub mod Across
 pub mod Up
 pub mod Once
 pub mod Answers
+pub mod Flat
 pub mod Laws
+pub mod InTurn
 pub mod Walking
 pub mod Room
 pub mod Kept

@@ -30,6 +30,8 @@ pub mod Sizing
 pub mod SizingLaws
 pub mod SizingCalls
 pub mod SizingViews
+pub mod Checks
+pub mod CheckCalls
 pub mod Hierarchies
 pub mod Location
 pub mod LocationViews

@@ -1,13 +1,15 @@
 -- What is answered for moved contours of an answer.
-use Rattle.std.specs.Prelude.{◌≡◌, ◌⊎◌, ℤ, Bool, true, false, List, [], map}
+use Rattle.std.specs.Prelude.{◌≡◌, ◌⊎◌, ℤ, Bool, true, false, List, [], map, All}
 use Rattle.plane_base.specs.Plane.{Point, RationalPoint, IsRational}
 use Rattle.plane_base.specs.Counts.{Count, Entry}
 use Rattle.plane_base.specs.Regions.{FillRule, Positive, Subject, region}
 use Rattle.plane_base.specs.Windings.{winding}
+use Rattle.segment_split.specs.Groups.{Bounds, LiesWithin}
 use Rattle.segment_split.specs.declared.solver.Precision.{Precision}
-use Rattle.contour_walk.specs.Answering.{Answering, answering_of}
+use Rattle.contour_walk.specs.Answering.{Answering}
 use Rattle.contour_walk.specs.BindingLaws.{all_contours}
 use Rattle.polygon_overlay.specs.Builders.{IsHeld, default_options}
+use Rattle.polygon_overlay.specs.FlatCalls.{flat_overlay_of}
 use Rattle.polygon_overlay.specs.OverlayLaws.{HoldsContours, overlay_of}
 use Rattle.polygon_overlay.specs.Overlays.{MeetsWhole, once}
 use Rattle.polygon_overlay.specs.Sizing.{Amounts, IsSized, IsFilledBy, WindWhere, moved_across, moved_up, moved}
@@ -18,19 +20,50 @@ pub record HoldsAlone (least greatest : ℤ) (keep_all : Bool) (contours : List 
   pub holds : HoldsContours keep_all contours [] held
   pub is_held : IsHeld least greatest held
 
--- all contours of the region that is held, counterclockwise, by corners alone
-abbrev pub region_of : FillRule → Precision → List (Entry Count) → List (List Point)
-region_of fill precision held = all_contours (overlay_of (answering_of default_options) fill Subject precision held)
+-- The contours are those of the region that the fill rule makes of others, one after another, counterclockwise, by corners alone.
+pub record IsRegionOf (least greatest : ℤ) (fill : FillRule) (precision : Precision) (contours region : List (List Point)) : Type 0 where
+  pub held : List (Entry Count)
+  pub alone : HoldsAlone least greatest false contours held
+  pub is : region ≡ flat_overlay_of default_options fill Subject precision held
 
--- The region of contours is answered, and held again with its upright steps moved. What these wind round more often than 0 is answered, and held
--- with its level steps moved.
+-- A region's upright steps are moved. What these wind round more often than 0 is a region, whose level steps are moved.
+pub record IsMovedTo (least greatest : ℤ) (by : Amounts) (precision : Precision) (region levels : List (List Point)) : Type 0 where
+  pub wide : List (List Point)
+  pub across : IsRegionOf least greatest Positive precision (map (moved (moved_across by.left by.right)) region) wide
+  pub up : levels ≡ map (moved (moved_up by.bottom by.top)) wide
+
+-- The region of contours is moved so.
+pub record AreMoved (least greatest : ℤ) (by : Amounts) (fill : FillRule) (precision : Precision) (contours levels : List (List Point)) : Type 0 where
+  pub region : List (List Point)
+  pub of_region : IsRegionOf least greatest fill precision contours region
+  pub moves : IsMovedTo least greatest by precision region levels
+
+-- What it is moved to is held.
 pub record HoldsMoved (least greatest : ℤ) (keep_all : Bool) (by : Amounts) (fill : FillRule) (precision : Precision) (contours : List (List Point))
     (held : List (Entry Count)) : Type 0 where
-  pub given : List (Entry Count)
-  pub of_given : HoldsAlone least greatest false contours given
-  pub wide : List (Entry Count)
-  pub across : HoldsAlone least greatest false (map (moved (moved_across by.left by.right)) (region_of fill precision given)) wide
-  pub up : HoldsAlone least greatest keep_all (map (moved (moved_up by.bottom by.top)) (region_of Positive precision wide)) held
+  pub levels : List (List Point)
+  pub are : AreMoved least greatest by fill precision contours levels
+  pub alone : HoldsAlone least greatest keep_all levels held
+
+-- The contours wind more often than 0 round just the rational points that lie inside, along level and upright steps.
+pub record FillJust (Inside : RationalPoint → Type 0) (contours : List (List Point)) : Type 0 where
+  pub fills : (p : RationalPoint) → IsRational p → (Inside p → IsFilledBy Positive contours p) × (IsFilledBy Positive contours p → Inside p)
+  pub straight : AreLevelOrUpright contours
+
+-- So does the region of level and upright contours round what they fill, and what it is moved to round the sized region.
+pub record MovedFillTheSized : Type 0 where
+  pub region :
+      (least greatest : ℤ) (fill : FillRule) (precision : Precision) (contours region : List (List Point)) →
+      AreLevelOrUpright contours → IsRegionOf least greatest fill precision contours region → FillJust (IsFilledBy fill contours) region
+  pub moved :
+      (least greatest : ℤ) (by : Amounts) (fill : FillRule) (precision : Precision) (contours levels : List (List Point)) →
+      AreLevelOrUpright contours → AreMoved least greatest by fill precision contours levels → FillJust (IsSized by (IsFilledBy fill contours)) levels
+
+-- All points of a region lie in each box in which all points of the contours do.
+abbrev pub RegionsStayInTheBox : Type 0
+RegionsStayInTheBox =
+    (least greatest : ℤ) (box : Bounds) (fill : FillRule) (precision : Precision) (contours region : List (List Point)) →
+    IsRegionOf least greatest fill precision contours region → All (All (LiesWithin box)) contours → All (All (LiesWithin box)) region
 
 -- The test tells whether it is so.
 abbrev pub Tells : Type 0 → Bool → Type 0

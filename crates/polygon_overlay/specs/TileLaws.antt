@@ -30,6 +30,15 @@ AnswersStayLevelOrUpright =
     IsHeld least greatest held → o.least ≡ 0 → AllLevelOrUpright (edges_of (normal boolean held))
     → AreLevelOrUpright (all_contours (overlay_of o fill rule precision held))
 
+-- What is answered for level and upright contours winds round their region at each rational point, edges included.
+abbrev pub StraightMapsAnswerTheirRegion : Type 0
+StraightMapsAnswerTheirRegion =
+    (least greatest : ℤ) (keep_all : Bool) (subjects clips : List (List Point)) (held : List (Entry Count)) (o : Answering) (fill : FillRule)
+    (rule : OverlayRule) (precision : Precision) (p : RationalPoint) → AreLevelOrUpright subjects → AreLevelOrUpright clips →
+    HoldsContours keep_all subjects clips held → IsHeld least greatest held → o.least ≡ 0 → IsRational p
+    → contour_winding (all_contours (overlay_of o fill rule precision held)) p
+    ≡ turns_of o.clockwise (region fill rule (record { subject = contour_winding subjects p; clip = contour_winding clips p }))
+
 -- The contours of a tile are those of the map, each of their points clamped into it: what is held of them is answered by the region in the tile.
 abbrev pub TilesAnswerTheirRegion : Type 0
 TilesAnswerTheirRegion =

@@ -5,6 +5,7 @@
 //! sliced along lines) and `slice_laws` of `polygon_strings`.
 #![tactic(auto)]
 
+pub mod checks;
 pub mod edge_overlay;
 pub mod given_laws;
 pub mod hierarchies;

@@ -9,30 +9,38 @@
 //! are answered by no shapes. Both at once would leave a hole that turned round twice, so there are three overlays: each of as many edges as the
 //! answer before it has.
 
-ghost use Rattle.std.specs.Prelude.{◌≡◌, ◌↔◌, ◌<◌, ◌+◌, ◌≤ℤ◌, ◌+ℤ◌, neg_ℤ, cond, IsTrue, IfOk, IfErr, OnOk, IsOkUnless};
+ghost use Rattle.std.specs.Prelude.{◌≡◌, ◌↔◌, ◌<◌, ◌+◌, ◌≤ℤ◌, ◌+ℤ◌, neg_ℤ, false, cond, IsTrue, IfOk, IfErr, OnOk, IsOkUnless};
 ghost use Rattle.std.specs.Prelude.{◌∷◌, ◌++◌, List, length, map, drop, slice_index_or, All};
 ghost use Rattle.std.specs.Ordering.{int_eq};
-ghost use Rattle.plane_base.specs.GivenViews as given;
+ghost use Rattle.plane_base.specs.Counts.{Count, Entry};
+ghost use Rattle.plane_base.specs.Flat.{parts};
+ghost use Rattle.plane_base.specs.PathViews.{paths_of_shape};
 ghost use Rattle.plane_base.specs.Plane.{Point, IsCoordinate};
+ghost use Rattle.plane_base.specs.Regions.{Positive, Subject};
 ghost use Rattle.plane_base.specs.Views.{point_of, points_of};
 ghost use Rattle.segment_split.specs.LineLaws.{is_level_or_upright, AllLevelOrUpright};
 ghost use Rattle.segment_arrangement.specs.RuleViews.{fill_rule_of};
-ghost use Rattle.contour_walk.specs.BindingLaws.{all_contours};
-ghost use Rattle.contour_walk.specs.ShapeViews.{shapes_of, next_of};
+ghost use Rattle.contour_walk.specs.ShapeViews.{IsFlat, shapes_of, next_of};
 ghost use Rattle.contour_walk.specs.WalkLaws.{contour_steps};
+ghost use Rattle.polygon_overlay.specs.Asking.{IsAnswered};
 ghost use Rattle.polygon_overlay.specs.Calls.{contours_of, AreInRange};
 ghost use Rattle.polygon_overlay.specs.Simplified.{IsNotSimplified};
 ghost use Rattle.polygon_overlay.specs.Sizing.{moved, moved_across, moved_up};
-ghost use Rattle.polygon_overlay.specs.SizingCalls.{HasRoom, HasRoomAlong, StaysInRange, Fits, moved_along, IsRegionOf, AreSized, IsNotSized};
+ghost use Rattle.polygon_overlay.specs.SizingCalls.{HasRoom, HasRoomAlong, HasRoomInTurn, StaysInRange, StaysInTurn, Fits, FitsInTurn, moved_along};
+ghost use Rattle.polygon_overlay.specs.SizingCalls.{AreSized, AreSizedInTurn, IsNotMoved, IsNotSized, IsNotSizedInTurn};
+ghost use Rattle.polygon_overlay.specs.SizingLaws.{HoldsAlone, IsRegionOf, IsMovedTo, AreMoved};
 ghost use Rattle.polygon_overlay.specs.SizingViews.{amounts_of};
 ghost use Rattle.polygon_overlay.specs.Tiles.{AreLevelOrUpright};
 
-use crate::laws::{answers_stay_in_the_box, holding_goes_on, sources_are_held};
+use crate::laws::{holding_goes_on, sources_are_held};
 use crate::overlay::Overlay;
 use crate::point_box::is_less;
-use crate::sizing_laws::sized_is_the_neighbourhood;
+use crate::sizing_laws::{
+    moved_fill_the_sized, regions_stay_in_the_box, sized_is_the_neighbourhood,
+};
 use contour_walk::options::IntOverlayOptions;
 use plane_base::fault::Fault;
+use plane_base::flat::FlatContoursBuffer;
 use plane_base::int::OverlayInt;
 use plane_base::path::{IntContour, IntPath, IntShape, IntShapes};
 use plane_base::point::IntPoint;
@@ -74,13 +82,39 @@ pub fn sized<I: OverlayInt, R: IntShapeResource<I>>(
         (contours_of I.value (R.paths source.now))) }
 {
     sized_is_the_neighbourhood();
-    answers_stay_in_the_box();
-    let corners = IntOverlayOptions::default();
-    let region = region_of(alloc, source, fill_rule, corners, solver)?;
-    let sides = moved(alloc, &region.shapes, by, true)?;
-    let wide = region_of(alloc, &sides, FillRule::Positive, corners, solver)?;
-    let levels = moved(alloc, &wide.shapes, by, false)?;
-    region_of(alloc, &levels, FillRule::Positive, options, solver)
+    regions_stay_in_the_box();
+    let levels = moved_source(alloc, source, fill_rule, by, solver)?;
+    shapes_of_levels(alloc, &levels, options, solver)
+}
+
+/// The region that the fill rule makes of a source, sized by the first amounts and then by the second, as `sized` of the shapes of `sized` is: its
+/// shapes, by the options. Grown and then shrunk by as much it is closed: gaps and notches are filled that are no wider than both amounts. Shrunk
+/// and then grown it is opened: what is no wider is gone.
+///
+/// Each step of the source is level or upright, and its points stay in range with each amount in turn: `are_level_or_upright` and `fits_in_turn` test
+/// that. Refused as the queries of five overlays are, or with `Memory`.
+pub fn sized_in_turn<I: OverlayInt, R: IntShapeResource<I>>(
+    alloc: Global,
+    source: &R,
+    fill_rule: FillRule,
+    first: Sizing<I>,
+    second: Sizing<I>,
+    options: IntOverlayOptions,
+    solver: Solver,
+) -> Result<IntShapes<I>, Fault>
+    requires ready { R.is_ready source.now }
+    requires in_range { AreInRange I.least I.greatest (contours_of I.value (R.paths source.now)) }
+    requires straight { AreLevelOrUpright (contours_of I.value (R.paths source.now)) }
+    requires fits { FitsInTurn I.least I.greatest (amounts_of I.value first) (amounts_of I.value second) (contours_of I.value (R.paths source.now)) }
+    ensures sized { IfOk result (λ shapes. AreSizedInTurn I.least I.greatest (amounts_of I.value first) (amounts_of I.value second) options
+        (fill_rule_of fill_rule) solver.precision (contours_of I.value (R.paths source.now)) (shapes_of I.value shapes.shapes.items)) }
+    ensures refused { IfErr result (IsNotSizedInTurn I.least I.greatest (amounts_of I.value first) (amounts_of I.value second) options
+        (fill_rule_of fill_rule) solver.precision (contours_of I.value (R.paths source.now))) }
+{
+    moved_fill_the_sized();
+    regions_stay_in_the_box();
+    let levels = moved_source(alloc, source, fill_rule, first, solver)?;
+    sized(alloc, &levels, FillRule::Positive, second, options, solver)
 }
 
 /// Whether each step of each contour of a source is level or upright. It takes no memory.
@@ -107,6 +141,26 @@ pub fn fits<I: OverlayInt, R: IntShapeResource<I>>(source: &R, by: Sizing<I>) ->
     for shape in 0..source.shape_count() {
         for index in 0..source.shape_len(shape) {
             if !all_fit(source.shape_path(shape, index), by) {
+                return false;
+            }
+        }
+    }
+    true
+}
+
+/// Whether all points of a source stay in range when they are moved by each of the first amounts, and what they are moved to by each of the second.
+/// It takes no memory.
+pub fn fits_in_turn<I: OverlayInt, R: IntShapeResource<I>>(
+    source: &R,
+    first: Sizing<I>,
+    second: Sizing<I>,
+) -> bool
+    requires { R.is_ready source.now }
+    ensures { IsTrue result ↔ FitsInTurn I.least I.greatest (amounts_of I.value first) (amounts_of I.value second) (contours_of I.value (R.paths source.now)) }
+{
+    for shape in 0..source.shape_count() {
+        for index in 0..source.shape_len(shape) {
+            if !all_fit_in_turn(source.shape_path(shape, index), first, second) {
                 return false;
             }
         }
@@ -156,6 +210,40 @@ fn stays_in_range<I: OverlayInt>(point: IntPoint<I>, by: Sizing<I>) -> bool
     has_room(by.left, by.right, point.x) && has_room(by.bottom, by.top, point.y)
 }
 
+// Whether all points stay in range, and what they are moved to.
+fn all_fit_in_turn<I: OverlayInt>(
+    points: &[IntPoint<I>],
+    first: Sizing<I>,
+    second: Sizing<I>,
+) -> bool
+    ensures { IsTrue result ↔ All (StaysInTurn I.least I.greatest (amounts_of I.value first) (amounts_of I.value second)) (points_of I.value points.now) }
+{
+    for point in points {
+        if !stays_in_turn(*point, first, second) {
+            return false;
+        }
+    }
+    true
+}
+
+fn stays_in_turn<I: OverlayInt>(point: IntPoint<I>, first: Sizing<I>, second: Sizing<I>) -> bool
+    ensures { IsTrue result ↔ StaysInTurn I.least I.greatest (amounts_of I.value first) (amounts_of I.value second) (point_of I.value point) }
+{
+    has_room_in_turn(first.left, first.right, second.left, second.right, point.x)
+        && has_room_in_turn(first.bottom, first.top, second.bottom, second.top, point.y)
+}
+
+// Whether a number stays in range, moved back by one amount and on by another, and what it is moved to does by two more.
+fn has_room_in_turn<I: OverlayInt>(back: I, on: I, then_back: I, then_on: I, number: I) -> bool
+    ensures { IsTrue result ↔ HasRoomInTurn I.least I.greatest (I.value back) (I.value on) (I.value then_back) (I.value then_on) (I.value number) }
+{
+    if !has_room(back, on, number) {
+        return false;
+    }
+    has_room(then_back, then_on, outward(back, on, false, number))
+        && has_room(then_back, then_on, outward(back, on, true, number))
+}
+
 // Whether a number stays in range, moved back by one amount and on by another.
 fn has_room<I: OverlayInt>(back: I, on: I, number: I) -> bool
     ensures { IsTrue result ↔ HasRoom I.least I.greatest (I.value back) (I.value on) (I.value number) }
@@ -178,62 +266,109 @@ fn is_at_most(a: i128, b: i128) -> bool
     a <= b
 }
 
-// The shapes of the region that the fill rule makes of a source, held alone.
-fn region_of<I: OverlayInt, R: IntShapeResource<I>>(
+// The contours of the region that the fill rule makes of a source.
+pub(crate) fn region_of<I: OverlayInt, R: IntShapeResource<I>>(
     alloc: Global,
     source: &R,
     fill_rule: FillRule,
+    solver: Solver,
+) -> Result<FlatContoursBuffer<I>, Fault>
+    requires ready { R.is_ready source.now }
+    requires in_range { AreInRange I.least I.greatest (contours_of I.value (R.paths source.now)) }
+    ensures is { IfOk result (λ region. IsRegionOf I.least I.greatest (fill_rule_of fill_rule) solver.precision
+        (contours_of I.value (R.paths source.now)) (contours_of I.value (parts region.points.items region.ranges.items))) }
+    ensures well_formed { IfOk result (λ region. IsFlat region) }
+    ensures refused { IfErr result (IsNotSimplified false solver.precision (contours_of I.value (R.paths source.now))) }
+{
+    holding_goes_on();
+    sources_are_held();
+    let corners = IntOverlayOptions::default();
+    let mut overlay = Overlay::new_custom(alloc, 0, corners, solver)?;
+    let mut region = FlatContoursBuffer::new(alloc);
+    overlay.contours_of_source(source, fill_rule, &mut region)?;
+    Ok(region)
+}
+
+// What the region that the fill rule makes of a source is moved to.
+pub(crate) fn moved_source<I: OverlayInt, R: IntShapeResource<I>>(
+    alloc: Global,
+    source: &R,
+    fill_rule: FillRule,
+    by: Sizing<I>,
+    solver: Solver,
+) -> Result<IntShape<I>, Fault>
+    requires ready { R.is_ready source.now }
+    requires in_range { AreInRange I.least I.greatest (contours_of I.value (R.paths source.now)) }
+    requires fits { Fits I.least I.greatest (amounts_of I.value by) (contours_of I.value (R.paths source.now)) }
+    ensures is { IfOk result (λ levels. AreMoved I.least I.greatest (amounts_of I.value by) (fill_rule_of fill_rule) solver.precision
+        (contours_of I.value (R.paths source.now)) (contours_of I.value (paths_of_shape levels))) }
+    ensures refused { IfErr result (IsNotMoved I.least I.greatest (amounts_of I.value by) (fill_rule_of fill_rule) solver.precision
+        (contours_of I.value (R.paths source.now))) }
+{
+    regions_stay_in_the_box();
+    let region = region_of(alloc, source, fill_rule, solver)?;
+    moved_region(alloc, &region, by, solver)
+}
+
+// What a region is moved to.
+pub(crate) fn moved_region<I: OverlayInt>(
+    alloc: Global,
+    region: &FlatContoursBuffer<I>,
+    by: Sizing<I>,
+    solver: Solver,
+) -> Result<IntShape<I>, Fault>
+    requires well_formed { IsFlat region.now }
+    requires in_range { AreInRange I.least I.greatest (contours_of I.value (parts region.now.points.items region.now.ranges.items)) }
+    requires fits { Fits I.least I.greatest (amounts_of I.value by) (contours_of I.value (parts region.now.points.items region.now.ranges.items)) }
+    ensures is { IfOk result (λ levels. IsMovedTo I.least I.greatest (amounts_of I.value by) solver.precision
+        (contours_of I.value (parts region.now.points.items region.now.ranges.items)) (contours_of I.value (paths_of_shape levels))) }
+    ensures refused { IfErr result (IsNotSimplified false solver.precision
+        (map (moved (moved_across (I.value by.left) (I.value by.right))) (contours_of I.value (parts region.now.points.items region.now.ranges.items)))) }
+{
+    regions_stay_in_the_box();
+    let sides = moved(alloc, region, by, true)?;
+    let wide = region_of(alloc, &sides, FillRule::Positive, solver)?;
+    moved(alloc, &wide, by, false)
+}
+
+// The shapes of what moved contours wind round more often than 0.
+fn shapes_of_levels<I: OverlayInt>(
+    alloc: Global,
+    levels: &IntShape<I>,
     options: IntOverlayOptions,
     solver: Solver,
 ) -> Result<IntShapes<I>, Fault>
-    requires ready { R.is_ready source.now }
-    requires in_range { AreInRange I.least I.greatest (contours_of I.value (R.paths source.now)) }
-    ensures answered { IfOk result (λ shapes. IsRegionOf I.least I.greatest options (fill_rule_of fill_rule) solver.precision
-        (contours_of I.value (R.paths source.now)) (shapes_of I.value shapes.shapes.items)) }
-    ensures refused { IfErr result (IsNotSimplified options.preserve_input_collinear solver.precision (contours_of I.value (R.paths source.now))) }
+    requires { AreInRange I.least I.greatest (contours_of I.value (paths_of_shape levels.now)) }
+    ensures is { IfOk result (λ shapes. (held : List (Entry Count)) ×
+        HoldsAlone I.least I.greatest options.preserve_input_collinear (contours_of I.value (paths_of_shape levels.now)) held ×
+        IsAnswered I.least I.greatest options Positive Subject solver.precision held (shapes_of I.value shapes.shapes.items)) }
+    ensures refused { IfErr result (IsNotSimplified options.preserve_input_collinear solver.precision (contours_of I.value (paths_of_shape levels.now))) }
 {
     holding_goes_on();
     sources_are_held();
     let mut overlay = Overlay::new_custom(alloc, 0, options, solver)?;
-    overlay.overlay_of_source(source, fill_rule)
+    overlay.overlay_of_source(levels, FillRule::Positive)
 }
 
-// The contours of shapes, their upright steps moved, or else their level ones.
+// The contours of a region, their upright steps moved, or else their level ones.
 fn moved<I: OverlayInt>(
     alloc: Global,
-    shapes: &[IntShape<I>],
+    region: &FlatContoursBuffer<I>,
     by: Sizing<I>,
     is_across: bool,
 ) -> Result<IntShape<I>, Fault>
-    requires { All (All (HasRoomAlong I.least I.greatest is_across (amounts_of I.value by))) (all_contours (shapes_of I.value shapes.now)) }
-    ensures is { IfOk result (λ shape. given.contours_of I.value shape.contours.items
-        ≡ map (moved (moved_along is_across (amounts_of I.value by))) (all_contours (shapes_of I.value shapes.now))) }
+    requires well_formed { IsFlat region.now }
+    requires room { All (All (HasRoomAlong I.least I.greatest is_across (amounts_of I.value by)))
+        (contours_of I.value (parts region.now.points.items region.now.ranges.items)) }
+    ensures is { IfOk result (λ shape. contours_of I.value (paths_of_shape shape)
+        ≡ map (moved (moved_along is_across (amounts_of I.value by))) (contours_of I.value (parts region.now.points.items region.now.ranges.items))) }
     ensures memory { IsOkUnless result Fault.Memory }
 {
-    let mut contours = Vec::new(alloc);
-    for shape in shapes {
-        add_moved(alloc, &mut contours, &shape.contours, by, is_across)?;
+    let mut contours = Vec::with_capacity(alloc, region.ranges.len())?;
+    for index in 0..region.ranges.len() {
+        contours.push(moved_contour(alloc, region.path(index), by, is_across)?)?;
     }
     Ok(IntShape { contours })
-}
-
-// Adds the contours of a shape, moved.
-fn add_moved<I: OverlayInt>(
-    alloc: Global,
-    kept: &mut Vec<IntContour<I>>,
-    contours: &[IntContour<I>],
-    by: Sizing<I>,
-    is_across: bool,
-) -> Result<(), Fault>
-    requires { All (All (HasRoomAlong I.least I.greatest is_across (amounts_of I.value by))) (given.contours_of I.value contours.now) }
-    ensures is { OnOk result (given.contours_of I.value kept.new.items ≡ given.contours_of I.value kept.old.items
-        ++ map (moved (moved_along is_across (amounts_of I.value by))) (given.contours_of I.value contours.now)) }
-    ensures memory { IsOkUnless result Fault.Memory }
-{
-    for contour in contours {
-        kept.push(moved_contour(alloc, &contour.points, by, is_across)?)?;
-    }
-    Ok(())
 }
 
 // A contour by its moved steps.

@@ -1,6 +1,7 @@
 //! Laws of tiles, each the contract of a function that does nothing.
 
-ghost use Rattle.polygon_overlay.specs.TileLaws.{ClampedWindsAlike, AnswersStayLevelOrUpright, TilesAnswerTheirRegion, GridsAreTiles, TilesUnite};
+ghost use Rattle.polygon_overlay.specs.TileLaws.{ClampedWindsAlike, AnswersStayLevelOrUpright, StraightMapsAnswerTheirRegion, TilesAnswerTheirRegion};
+ghost use Rattle.polygon_overlay.specs.TileLaws.{GridsAreTiles, TilesUnite};
 
 use crate::given_laws::held_winds_as_given;
 use contour_walk::answer_laws::{answers_are_orderly, answers_wind};
@@ -25,6 +26,21 @@ pub fn answers_stay_level_or_upright()
     redrawn_maps_are_balanced();
     answers_are_orderly();
     corners_stay();
+    redrawn_of_level_and_upright::<ShapeCountBoolean>();
+}
+
+/// The contours of a map of level and upright edges are answered by their region, at each rational point.
+pub fn straight_maps_answer_their_region()
+    ensures { StraightMapsAnswerTheirRegion }
+{
+    passes_rearrange::<ShapeCountBoolean>();
+    redrawing_comes_to_rest::<ShapeCountBoolean>();
+    redrawn_maps_are_balanced();
+    filled_is_bounded();
+    answers_are_orderly();
+    answers_wind();
+    whole_meetings_keep_windings();
+    held_winds_as_given();
     redrawn_of_level_and_upright::<ShapeCountBoolean>();
 }
 

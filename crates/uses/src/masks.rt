@@ -1,33 +1,32 @@
 //! Masks: level and upright edges, grown and shrunk by whole distances, and checked for widths, spaces and enclosures.
 //!
-//! A width is checked by shrinking the mask and growing it again by the same amounts, left and right together one less than the width, bottom and top
-//! too: what is gone is what no square of the width in the mask covers. A space is checked by growing first: what has come is what no square of the
-//! space outside covers. These are widths and spaces across: of two corners that face each other diagonally nothing is told, however near they are.
+//! Widths and spaces are told across: of two corners that face each other diagonally nothing is told, however near they are.
 
-ghost use Rattle.std.specs.Prelude.{◌≡◌, ◌↔◌, pos, neg_ℤ, ◌≤ℤ◌, IsTrue, IfOk, IfErr, IfSome, IfNone};
+ghost use Rattle.std.specs.Prelude.{◌↔◌, pos, ◌≤ℤ◌, IsTrue, IfOk, IfErr, IfSome, IfNone};
 ghost use Rattle.polygon_overlay.specs.Builders.{default_options, default_precision};
 ghost use Rattle.polygon_overlay.specs.Calls.{contours_of};
+ghost use Rattle.polygon_overlay.specs.CheckCalls.{AreWidthErrors, AreSpaceErrors, AreNoWidthErrors, AreNoSpaceErrors};
 ghost use Rattle.polygon_overlay.specs.PathViews.{paths_of_shapes};
-ghost use Rattle.polygon_overlay.specs.Plane.{IsCoordinate};
 ghost use Rattle.polygon_overlay.specs.Regions.{NonZero};
 ghost use Rattle.polygon_overlay.specs.ShapeViews.{shapes_of};
 ghost use Rattle.polygon_overlay.specs.Singles.{IsSingleRefused};
 ghost use Rattle.polygon_overlay.specs.SizingCalls.{AreSized, IsNotSized, Fits};
 ghost use Rattle.polygon_overlay.specs.SizingViews.{amounts_of};
-ghost use Rattle.uses.specs.Rules.{IsMask, IsSide, CanBeChecked, CanBeEnclosed, AreWidthErrors, AreSpaceErrors, AreEnclosureErrors};
-ghost use Rattle.uses.specs.Rules.{evenly, halves, opposite, FitsAgain, AreSizedTwice, AreRest, IsNotSizedTwice, AreNoWidths, AreNoSpaces, AreNoEnclosures};
+ghost use Rattle.uses.specs.Rules.{IsMask, CanBeChecked, CanBeEnclosed, AreEnclosureErrors, AreRest, AreNoEnclosures};
 
 use polygon_overlay::arrangement::fill_rule::FillRule;
 use polygon_overlay::arrangement::overlay_rule::OverlayRule;
-use polygon_overlay::laws::{answers_stay_in_the_box, holding_goes_on, sources_are_held};
+use polygon_overlay::checks::{evenly, is_side, space_errors as near, width_errors as narrow};
+use polygon_overlay::laws::{holding_goes_on, sources_are_held};
 use polygon_overlay::plane::fault::Fault;
 use polygon_overlay::plane::int::OverlayInt;
 use polygon_overlay::plane::path::IntShapes;
 use polygon_overlay::plane::range::source_in_range;
 use polygon_overlay::single::SingleIntOverlay;
 use polygon_overlay::sizing::{Sizing, are_level_or_upright, fits, sized};
+use polygon_overlay::sizing_laws::grown_is_near;
 use polygon_overlay::split::solver::Solver;
-use polygon_overlay::tile_laws::tiles_answer_their_region;
+use polygon_overlay::tile_laws::straight_maps_answer_their_region;
 use polygon_overlay::walk::options::IntOverlayOptions;
 use std::alloc::Global;
 
@@ -64,19 +63,19 @@ pub fn width_errors<I: OverlayInt>(
     mask: &IntShapes<I>,
     width: I,
 ) -> Result<Option<IntShapes<I>>, Fault>
-    ensures told { IfOk result (λ found. IfSome found (λ shapes. AreWidthErrors (I.value width)
-        (contours_of I.value (paths_of_shapes mask.now.shapes.items)) (shapes_of I.value shapes.shapes.items))) }
+    ensures told { IfOk result (λ found. IfSome found (λ shapes. AreWidthErrors I.least I.greatest (I.value width) default_options NonZero
+        default_precision (contours_of I.value (paths_of_shapes mask.now.shapes.items)) (shapes_of I.value shapes.shapes.items))) }
     ensures untold { IfOk result (λ found. IfNone found (CanBeChecked I.least I.greatest (I.value width)
         (contours_of I.value (paths_of_shapes mask.now.shapes.items)) → ⊥)) }
-    ensures refused { IfErr result (AreNoWidths I.least I.greatest (I.value width) (contours_of I.value (paths_of_shapes mask.now.shapes.items))) }
+    ensures refused { IfErr result (AreNoWidthErrors I.least I.greatest (I.value width) default_options NonZero default_precision
+        (contours_of I.value (paths_of_shapes mask.now.shapes.items))) }
 {
     if !can_be_checked(mask, width) {
         return Ok(None);
     }
-    answers_stay_in_the_box();
-    let opened = sized_twice(alloc, mask, inward(width), outward(width))?;
-    let narrow = rest(alloc, mask, &opened)?;
-    Ok(Some(narrow))
+    let options = IntOverlayOptions::default();
+    let solver = Solver::default();
+    Ok(Some(narrow(alloc, mask, FillRule::NonZero, width, options, solver)?))
 }
 
 /// Where parts of a mask are nearer to each other than a space, or sides of a notch: each point outside the mask that no square of this width outside
@@ -86,19 +85,19 @@ pub fn space_errors<I: OverlayInt>(
     mask: &IntShapes<I>,
     space: I,
 ) -> Result<Option<IntShapes<I>>, Fault>
-    ensures told { IfOk result (λ found. IfSome found (λ shapes. AreSpaceErrors (I.value space)
-        (contours_of I.value (paths_of_shapes mask.now.shapes.items)) (shapes_of I.value shapes.shapes.items))) }
+    ensures told { IfOk result (λ found. IfSome found (λ shapes. AreSpaceErrors I.least I.greatest (I.value space) default_options NonZero
+        default_precision (contours_of I.value (paths_of_shapes mask.now.shapes.items)) (shapes_of I.value shapes.shapes.items))) }
     ensures untold { IfOk result (λ found. IfNone found (CanBeChecked I.least I.greatest (I.value space)
         (contours_of I.value (paths_of_shapes mask.now.shapes.items)) → ⊥)) }
-    ensures refused { IfErr result (AreNoSpaces I.least I.greatest (I.value space) (contours_of I.value (paths_of_shapes mask.now.shapes.items))) }
+    ensures refused { IfErr result (AreNoSpaceErrors I.least I.greatest (I.value space) default_options NonZero default_precision
+        (contours_of I.value (paths_of_shapes mask.now.shapes.items))) }
 {
     if !can_be_checked(mask, space) {
         return Ok(None);
     }
-    answers_stay_in_the_box();
-    let closed = sized_twice(alloc, mask, outward(space), inward(space))?;
-    let near = rest(alloc, &closed, mask)?;
-    Ok(Some(near))
+    let options = IntOverlayOptions::default();
+    let solver = Solver::default();
+    Ok(Some(near(alloc, mask, FillRule::NonZero, space, options, solver)?))
 }
 
 /// Where a mask doesn't enclose another by a distance: each point that it doesn't hold, no further from the inner mask than that, in x and in y.
@@ -121,6 +120,7 @@ pub fn enclosure_errors<I: OverlayInt>(
     if !can_be_enclosed(inner, outer, distance) {
         return Ok(None);
     }
+    grown_is_near();
     let grown = sized_once(alloc, inner, evenly(distance))?;
     let beyond = rest(alloc, &grown, outer)?;
     Ok(Some(beyond))
@@ -135,19 +135,6 @@ fn is_mask<I: OverlayInt>(mask: &IntShapes<I>) -> bool
         return false;
     }
     are_level_or_upright(mask)
-}
-
-fn is_side<I: OverlayInt>(side: I) -> bool
-    ensures { IsTrue result ↔ IsSide I.least I.greatest (I.value side) }
-{
-    let number = side.to_i64();
-    if number < 1 {
-        return false;
-    }
-    if !I::in_range(number) {
-        return false;
-    }
-    I::in_range(-number)
 }
 
 fn can_be_checked<I: OverlayInt>(mask: &IntShapes<I>, side: I) -> bool
@@ -184,58 +171,6 @@ fn can_be_enclosed<I: OverlayInt>(inner: &IntShapes<I>, outer: &IntShapes<I>, di
     fits(inner, evenly(distance))
 }
 
-// ---- amounts
-
-fn evenly<I: OverlayInt>(distance: I) -> Sizing<I>
-    ensures { amounts_of I.value result ≡ evenly (I.value distance) }
-{
-    Sizing {
-        left: distance,
-        right: distance,
-        bottom: distance,
-        top: distance,
-    }
-}
-
-// One less than a side in two parts.
-fn outward<I: OverlayInt>(side: I) -> Sizing<I>
-    requires { IsSide I.least I.greatest (I.value side) }
-    ensures { amounts_of I.value result ≡ halves (I.value side) }
-{
-    let whole = side.to_i64() - 1;
-    let half = I::from_i64(whole / 2);
-    let other = I::from_i64(whole - whole / 2);
-    Sizing {
-        left: half,
-        right: other,
-        bottom: half,
-        top: other,
-    }
-}
-
-// The same, inward.
-fn inward<I: OverlayInt>(side: I) -> Sizing<I>
-    requires { IsSide I.least I.greatest (I.value side) }
-    ensures { amounts_of I.value result ≡ opposite (halves (I.value side)) }
-{
-    let by = outward(side);
-    let half = negated(by.left);
-    let other = negated(by.right);
-    Sizing {
-        left: half,
-        right: other,
-        bottom: half,
-        top: other,
-    }
-}
-
-fn negated<I: OverlayInt>(number: I) -> I
-    requires { IsCoordinate I.least I.greatest (neg_ℤ (I.value number)) }
-    ensures { I.value result ≡ neg_ℤ (I.value number) }
-{
-    I::from_i64(-number.to_i64())
-}
-
 // ---- overlays
 
 fn sized_once<I: OverlayInt>(
@@ -255,25 +190,6 @@ fn sized_once<I: OverlayInt>(
     sized(alloc, mask, FillRule::NonZero, by, options, solver)
 }
 
-fn sized_twice<I: OverlayInt>(
-    alloc: Global,
-    mask: &IntShapes<I>,
-    first: Sizing<I>,
-    second: Sizing<I>,
-) -> Result<IntShapes<I>, Fault>
-    requires is_mask { IsMask I.least I.greatest (contours_of I.value (paths_of_shapes mask.now.shapes.items)) }
-    requires fits { Fits I.least I.greatest (amounts_of I.value first) (contours_of I.value (paths_of_shapes mask.now.shapes.items)) }
-    requires fits_again { FitsAgain I.least I.greatest (amounts_of I.value first) (amounts_of I.value second)
-        (contours_of I.value (paths_of_shapes mask.now.shapes.items)) }
-    ensures sized { IfOk result (λ shapes. AreSizedTwice I.least I.greatest (amounts_of I.value first) (amounts_of I.value second)
-        (contours_of I.value (paths_of_shapes mask.now.shapes.items)) (shapes_of I.value shapes.shapes.items)) }
-    ensures refused { IfErr result (IsNotSizedTwice I.least I.greatest (amounts_of I.value first) (amounts_of I.value second)
-        (contours_of I.value (paths_of_shapes mask.now.shapes.items))) }
-{
-    let between = sized_once(alloc, mask, first)?;
-    sized_once(alloc, &between, second)
-}
-
 // What the one covers without the other.
 fn rest<I: OverlayInt>(
     alloc: Global,
@@ -289,6 +205,6 @@ fn rest<I: OverlayInt>(
 {
     holding_goes_on();
     sources_are_held();
-    tiles_answer_their_region();
+    straight_maps_answer_their_region();
     one.overlay(alloc, other, OverlayRule::Difference, FillRule::NonZero)
 }

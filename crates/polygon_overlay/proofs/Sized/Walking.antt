@@ -1,9 +1,12 @@
 -- Walks over sources and round contours: what holds of each path so far, and of the steps that are left.
-use Rattle.std.proofs.Common.{◌≡◌, ℕ, ◌+◌, ◌<◌, ◌≤◌, List, [], ◌∷◌, ◌++◌, length, map, take, drop, get_or, All, refl, sym, ap, ◌∙◌, subst, append_assoc, append-nil, arith}
+use Rattle.std.proofs.Common.{◌≡◌, ℕ, ◌+◌, ◌<◌, ◌≤◌, List, [], ◌∷◌, ◌++◌, length, map, take, drop, get_or, All, ℤ, refl, sym, ap, ◌∙◌, subst, append_assoc, append-nil, arith}
 use Rattle.std.specs.Prelude.{flat_map}
 use Rattle.std.proofs.Math.ListN.{drop_of_length-le}
 use Rattle.std.proofs.lemmas.List.{drop-map, take_all, get_or_default}
+use Rattle.plane_base.specs.GivenViews as given
 use Rattle.plane_base.specs.Plane.{Point, Edge}
+use Rattle.plane_base.specs.Views.{points_of}
+use Rattle.plane_base.specs.declared.path.IntPath.{IntPath}
 use Rattle.plane_base.proofs.Facts.Lists.Placed.{before, all_before, list_more, placed}
 use Rattle.plane_base.proofs.Facts.Lists.Taken.{All-taken_more}
 use Rattle.plane_base.proofs.Facts.Lists.Views.{drop-mapped, All-mapped}
@@ -87,3 +90,9 @@ module _ {X Y : Type 0} (P : Y → Type 0) (f : List X → Y) (shapes : List (Li
   all_paths end so_far =
       let last = all_before shapes paths together s end in
       subst (λ ps. All P (map f ps)) (take_all (before shapes s) paths (omega (arith, last))) so_far
+
+-- the paths of a shape are its contours
+pub paths_are_contours : {I : Type 0} (value : I → ℤ) (contours : List (IntPath I))
+    → map (points_of value) (map (λ (c : IntPath I). c.points.items) contours) ≡ given.contours_of value contours
+paths_are_contours value [] = refl
+paths_are_contours value (c ∷ cs) = ap (λ ps. points_of value c.points.items ∷ ps) (paths_are_contours value cs)

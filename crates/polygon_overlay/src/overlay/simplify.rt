@@ -15,6 +15,7 @@ ghost use Rattle.contour_walk.specs.ShapeViews.{shapes_of, flat_of, IsFlat};
 ghost use Rattle.contour_walk.specs.WalkLaws.{borders};
 ghost use Rattle.polygon_overlay.specs.Asking.{IsAnswered};
 ghost use Rattle.polygon_overlay.specs.Builders.{IsHeld};
+ghost use Rattle.polygon_overlay.specs.FlatCalls.{flat_overlay_of};
 ghost use Rattle.polygon_overlay.specs.Overlays.{redrawn_of, IsSweepRefused, IsQueryRefused};
 ghost use Rattle.polygon_overlay.specs.Simplified.{IsPerfect, IsSimplified, IsSourceSimplified, IsFlatSimplified, shapes_if_any};
 
@@ -262,6 +263,23 @@ impl<I: OverlayInt> Overlay<I> {
     {
         self.hold_redrawn(resource)?;
         self.overlay_of_redrawn(fill_rule)
+    }
+
+    // The contours of that overlay, in a flat buffer.
+    pub(crate) fn contours_of_source<R: IntShapeResource<I>>(
+        &mut self,
+        resource: &R,
+        fill_rule: FillRule,
+        output: &mut FlatContoursBuffer<I>,
+    ) -> Result<(), Fault>
+        requires ready { R.is_ready resource.now }
+        requires in_range { AreInRange I.least I.greatest (contours_of I.value (R.paths resource.now)) }
+        ensures laid { FindsSimplified (contours_of I.value (R.paths resource.now)) (λ held done. flat_of I.value output.new
+            ≡ flat_overlay_of self.old.options (fill_rule_of fill_rule) Subject self.old.solver.precision held) self.old self.new result }
+        ensures well_formed { OnOk result (IsFlat output.new) }
+    {
+        self.hold_redrawn(resource)?;
+        self.leave_contours(output, fill_rule)
     }
 
     // Holds the contours of a source alone, and redraws them.

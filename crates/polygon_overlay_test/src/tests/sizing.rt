@@ -5,7 +5,9 @@ use contour_walk::options::IntOverlayOptions;
 use plane_base::fault::Fault;
 use plane_base::path::{IntShape, IntShapes};
 use plane_base::range::source_in_range;
-use polygon_overlay::sizing::{Sizing, are_level_or_upright, fits, sized};
+use polygon_overlay::sizing::{
+    Sizing, are_level_or_upright, fits, fits_in_turn, sized, sized_in_turn,
+};
 use row_words::Words;
 use segment_arrangement::fill_rule::FillRule;
 use segment_split::solver::Solver;
@@ -89,6 +91,98 @@ fn sizes_rows(rt: HostRuntime) {
         if !line.starts_with("#") {
             assert!(rt; is_sized(rt.alloc(), line), "{line}");
         }
+    }
+}
+
+// The region of a source, sized twice by the default solver. There is none where the source can't be sized so.
+fn sized_in_turn_if_it_can_be(
+    alloc: Global,
+    source: &IntShape<i32>,
+    fill_rule: FillRule,
+    first: Sizing<i32>,
+    second: Sizing<i32>,
+    options: IntOverlayOptions,
+) -> Result<Option<IntShapes<i32>>, Fault> {
+    if !source_in_range(source) {
+        return Ok(None);
+    }
+    if !are_level_or_upright(source) {
+        return Ok(None);
+    }
+    if !fits_in_turn(source, first, second) {
+        return Ok(None);
+    }
+    let solver = Solver::default();
+    Ok(Some(sized_in_turn(alloc, source, fill_rule, first, second, options, solver)?))
+}
+
+// Whether contours are sized twice as a row says.
+fn is_sized_in_turn(alloc: Global, row: &str) -> bool {
+    let mut words = Words::of(alloc, row);
+    let options = options_from(&mut words);
+    let fill_rule = fill_from(&mut words);
+    let first = amounts_from(&mut words);
+    let second = amounts_from(&mut words);
+    let contours = contours_from(&mut words);
+    let source = IntShape { contours };
+    let wanted = shapes_from(&mut words);
+    let found = sized_in_turn_if_it_can_be(alloc, &source, fill_rule, first, second, options);
+    words.are_read() && found == Ok(Some(wanted))
+}
+
+// A row has options and a fill rule, the amounts of left, right, bottom and top, and those by which it is sized again, contours, and the shapes.
+const ROWS_IN_TURN: &str = "\
+# a gap of 4 is closed by 2, and stays by 1
+corners NonZero 2 2 2 2 -2 -2 -2 -2 2 4 0 0 10 0 10 10 0 10 4 14 0 24 0 24 10 14 10 1 1 4 0 10 0 0 24 0 24 10
+corners NonZero 1 1 1 1 -1 -1 -1 -1 2 4 0 0 10 0 10 10 0 10 4 14 0 24 0 24 10 14 10 2 1 4 0 10 0 0 10 0 10 10 1 4 14 10 14 0 24 0 24 10
+# a bar 4 wide is opened by 1, and gone by 2
+corners NonZero -1 -1 -1 -1 1 1 1 1 1 4 0 0 4 0 4 20 0 20 1 1 4 0 20 0 0 4 0 4 20
+corners NonZero -2 -2 -2 -2 2 2 2 2 1 4 0 0 4 0 4 20 0 20 0
+# amounts that are exchanged on the way back move what they close
+corners NonZero 1 2 0 0 -2 -1 0 0 1 4 0 0 10 0 10 10 0 10 1 1 4 1 10 1 0 11 0 11 10
+# a region that winds twice where two squares overlap
+corners NonZero 1 1 1 1 -1 -1 -1 -1 2 4 0 0 10 0 10 10 0 10 4 5 0 15 0 15 10 5 10 1 1 4 0 10 0 0 15 0 15 10
+";
+
+#[test]
+fn sizes_rows_in_turn(rt: HostRuntime) {
+    for line in ROWS_IN_TURN.lines() {
+        if !line.starts_with("#") {
+            assert!(rt; is_sized_in_turn(rt.alloc(), line), "{line}");
+        }
+    }
+}
+
+// Whether contours can be sized twice by amounts, as a row says.
+fn is_told_in_turn(alloc: Global, row: &str) -> bool {
+    let mut words = Words::of(alloc, row);
+    let first = amounts_from(&mut words);
+    let second = amounts_from(&mut words);
+    let contours = contours_from(&mut words);
+    let source = IntShape { contours };
+    let are_fitting = words.next() == "fits";
+    let is_right = fits_in_turn(&source, first, second) == are_fitting;
+    words.are_read() && is_right
+}
+
+// A row has amounts, those of the second time, contours, and whether they fit.
+const TOLD_IN_TURN: &str = "\
+1 1 1 1 1 1 1 1 1 4 0 0 10 0 10 10 0 10 fits
+1 1 1 1 1 1 1 1 0 fits
+0 1 0 0 0 1 0 0 1 1 524285 0 fits
+0 1 0 0 0 1 0 0 1 1 524286 0 beyond
+0 1 0 0 0 -1 0 0 1 1 524286 0 fits
+0 1 0 0 -1 0 0 0 1 1 524286 0 beyond
+1 0 0 0 1 0 0 0 1 1 -524286 0 fits
+1 0 0 0 1 0 0 0 1 1 -524287 0 beyond
+0 0 1 0 0 0 1 0 1 1 0 -524287 beyond
+0 0 0 1 0 0 0 1 1 1 0 524286 beyond
+";
+
+#[test]
+fn tells_what_can_be_sized_in_turn(rt: HostRuntime) {
+    for line in TOLD_IN_TURN.lines() {
+        assert!(rt; is_told_in_turn(rt.alloc(), line), "{line}");
     }
 }
 

@@ -1,57 +1,76 @@
-use Rattle.std.proofs.Common.{◌≡◌, ◌+◌, ◌++◌, [], map, drop, sym, ap, ◌∙◌, subst, All, arith}
-use Rattle.std.proofs.lemmas.List.{length-map, map-append, drop_all}
+use Rattle.std.proofs.Common.{◌≡◌, ◌+◌, ◌<◌, length, ◌++◌, ◌∷◌, [], map, drop, ap, ◌∙◌, All, arith}
+use Rattle.std.proofs.lemmas.List.{length-map, map-append, drop_all, get_or_default}
 use Rattle.std.proofs.lemmas.Result.{err_from_is_err_and}
-use Rattle.plane_base.specs.GivenViews.{contours_of}
-use Rattle.plane_base.specs.declared.path.IntShape.{IntShape}
+use Rattle.plane_base.specs.Flat.{part, parts}
+use Rattle.plane_base.specs.GivenViews as given
+use Rattle.plane_base.specs.Views.{points_of}
+use Rattle.plane_base.specs.declared.path.IntPath.{IntPath}
 use Rattle.plane_base.proofs.Facts.Lists.Views.{All-mapped, drop-mapped}
-use Rattle.contour_walk.specs.BindingLaws.{all_contours}
-use Rattle.contour_walk.specs.ShapeViews.{shapes_of}
+use Rattle.polygon_overlay.specs.Calls.{contours_of}
 use Rattle.polygon_overlay.specs.Sizing.{moved}
 use Rattle.polygon_overlay.specs.SizingCalls.{HasRoomAlong, moved_along}
 use Rattle.polygon_overlay.specs.SizingViews.{amounts_of}
-use Rattle.polygon_overlay.proofs.LocationLaws.{all_in_shapes}
-use Rattle.polygon_overlay.proofs.Sized.Walking.{grown, ended}
+use Rattle.polygon_overlay.proofs.Sized.Walking.{grown, ended, paths_are_contours}
 use Rattle.polygon_overlay.proofs.sizing.moved.Goals as goal
 
-pub loop-shape-init : goal.loop-shape-init
-loop-shape-init g c =
+pub moved_contour-requires : goal.moved_contour-requires
+moved_contour-requires g c =
     let value = g.I.OverlayInt.value in
-    let move = moved (moved_along c.args.is_across (amounts_of value c.args.by)) in
-    ap (λ cs. contours_of value cs ++ map move (all_contours (shapes_of value c.args.shapes.now))) c.new-contours.ensures.items
+    let region = c.args.region.now in
+    let Room = All (HasRoomAlong g.I.OverlayInt.least g.I.OverlayInt.greatest c.args.is_across (amounts_of value c.args.by)) in
+    let paths = parts region.points.items region.ranges.items in
+    let inside : c.loop-index.index < length paths = omega (arith, length-map region.ranges.items (part region.points.items), c.loop-index-test.true) in
+    All-mapped Room (points_of value) paths c.loop-index.index c.path.result.now inside
+    (c.path.ensures ∙ get_or_default paths c.loop-index.index [] c.path.result.now inside) c.requires.room
 
-pub add_moved-requires : goal.add_moved-requires
-add_moved-requires g c =
-    let Room = All (HasRoomAlong g.I.OverlayInt.least g.I.OverlayInt.greatest c.args.is_across (amounts_of g.I.OverlayInt.value c.args.by)) in
-    subst (λ cs. All Room (contours_of g.I.OverlayInt.value cs)) (sym c.deref.ensures.value)
-    (All-mapped (All Room) (λ (shape : IntShape g.row.I.Denot). contours_of g.I.OverlayInt.value shape.contours.items) c.args.shapes.now c.loop-shape.shape-index
-    c.shape-item.result c.loop-shape-test.true c.shape-item.is (all_in_shapes Room (shapes_of g.I.OverlayInt.value c.args.shapes.now) c.requires))
-
-pub loop-shape-preserved : goal.loop-shape-preserved
-loop-shape-preserved g c =
+pub loop-index-init : goal.loop-index-init
+loop-index-init g c =
     let value = g.I.OverlayInt.value in
-    let f = λ (shape : IntShape g.row.I.Denot). contours_of value shape.contours.items in
+    let region = c.args.region.now in
     let move = moved (moved_along c.args.is_across (amounts_of value c.args.by)) in
-    let shapes = c.args.shapes.now in
-    let i = c.loop-shape.shape-index in
-    let so_far = contours_of value c.loop-shape.contours.items in
-    let here = contours_of value c.shape-item.result.contours.items in
-    let rest = all_contours (drop (i + 1) (shapes_of value shapes)) in
-    let next = drop-mapped f shapes i c.shape-item.result c.loop-shape-test.true c.shape-item.is in
-    grown so_far (contours_of value c.add_moved.new.kept.items) (map move here) (map move rest) (map move (all_contours (drop i (shapes_of value shapes))))
-    (map move (all_contours (shapes_of value shapes)))
-    (c.in_ok-add_moved.ensures.is ∙ ap (λ cs. so_far ++ map move (contours_of value cs)) c.deref.ensures.value)
-    (ap (λ ss. map move (all_contours ss)) next ∙ map-append move here rest) c.loop-shape.invariant
+    ap (λ cs. given.contours_of value cs ++ map move (contours_of value (parts region.points.items region.ranges.items))) c.in_ok-contours.ensures.items
+
+pub loop-index-preserved : goal.loop-index-preserved
+loop-index-preserved g c =
+    let value = g.I.OverlayInt.value in
+    let region = c.args.region.now in
+    let paths = parts region.points.items region.ranges.items in
+    let f = λ (contour : IntPath g.row.I.Denot). points_of value contour.points.items in
+    let move = moved (moved_along c.args.is_across (amounts_of value c.args.by)) in
+    let i = c.loop-index.index in
+    let so_far = given.contours_of value c.loop-index.contours.items in
+    let here = move (points_of value c.path.result.now) in
+    let rest = map move (drop (i + 1) (contours_of value paths)) in
+    let inside : i < length paths = omega (arith, length-map region.ranges.items (part region.points.items), c.loop-index-test.true) in
+    let next =
+    drop-mapped (points_of value) paths i c.path.result.now inside (c.path.ensures ∙ get_or_default paths i [] c.path.result.now inside) in
+    let pushed : given.contours_of value c.push.new.self.items ≡ so_far ++ here ∷ [] =
+    ap (given.contours_of value) c.in_ok-push.ensures.items
+    ∙ (map-append f c.loop-index.contours.items (c.in_ok-moved_contour.field-0 ∷ []) ∙ ap (λ ps. so_far ++ ps ∷ []) c.in_ok-moved_contour.ensures.is) in
+    grown so_far (given.contours_of value c.push.new.self.items) (here ∷ []) rest (map move (drop i (contours_of value paths)))
+    (map move (contours_of value paths)) pushed
+    (ap (map move) next) c.loop-index.invariant
 
 pub returns-clause-is : goal.returns-clause-is
 returns-clause-is g c =
     let value = g.I.OverlayInt.value in
-    let f = λ (shape : IntShape g.row.I.Denot). contours_of value shape.contours.items in
+    let region = c.args.region.now in
+    let paths = parts region.points.items region.ranges.items in
     let move = moved (moved_along c.args.is_across (amounts_of value c.args.by)) in
-    let so_far = contours_of value c.loop-shape.contours.items in
-    let none : drop c.loop-shape.shape-index (shapes_of value c.args.shapes.now) ≡ [] =
-    drop_all c.loop-shape.shape-index (shapes_of value c.args.shapes.now) (omega (arith, length-map c.args.shapes.now f, c.loop-shape-test.false)) in
-    ended so_far (map move (all_contours (drop c.loop-shape.shape-index (shapes_of value c.args.shapes.now)))) (map move (all_contours (shapes_of value c.args.shapes.now)))
-    (ap (λ ss. map move (all_contours ss)) none) c.loop-shape.invariant
+    let none : drop c.loop-index.index (contours_of value paths) ≡ [] =
+    drop_all c.loop-index.index (contours_of value paths)
+    (omega (arith, length-map paths (points_of value), length-map region.ranges.items (part region.points.items), c.loop-index-test.false)) in
+    paths_are_contours value c.loop-index.contours.items
+    ∙ ended (given.contours_of value c.loop-index.contours.items) (map move (drop c.loop-index.index (contours_of value paths)))
+    (map move (contours_of value paths))
+    (ap (map move) none) c.loop-index.invariant
 
-pub returns-in_err-add_moved-clause-is : goal.returns-in_err-add_moved-clause-is
-returns-in_err-add_moved-clause-is g c = rw ((err_from_is_err_and c.from_residual.result c.from_residual.ensures.1).1) tt
+pub returns-in_err-contours-clause-is : goal.returns-in_err-contours-clause-is
+returns-in_err-contours-clause-is g c = rw ((err_from_is_err_and c.from_residual.result c.from_residual.ensures.1).1) tt
+
+pub returns-in_err-moved_contour-clause-is : goal.returns-in_err-moved_contour-clause-is
+returns-in_err-moved_contour-clause-is g c = rw ((err_from_is_err_and c.from_residual-in_err-moved_contour.result
+    c.from_residual-in_err-moved_contour.ensures.1).1) tt
+
+pub returns-in_err-push-clause-is : goal.returns-in_err-push-clause-is
+returns-in_err-push-clause-is g c = rw ((err_from_is_err_and c.from_residual-in_err-push.result c.from_residual-in_err-push.ensures.1).1) tt

@@ -41,4 +41,4 @@ returns-clause-told g c =
     enclosures_told g.I.OverlayInt.least g.I.OverlayInt.greatest (value c.args.distance) (contours_of value (paths_of_shapes c.args.inner.now.shapes.items))
     (contours_of value (paths_of_shapes c.args.outer.now.shapes.items)) (contours_of value (paths_of_shapes c.in_ok-grown.grown.shapes.items)) (amounts_of value c.evenly.result) c.evenly.ensures
     (shapes_of value c.in_ok-grown.grown.shapes.items) (same_shapes value c.in_ok-grown.grown) c.in_ok-grown.ensures.sized
-    (shapes_of value c.in_ok-beyond.beyond.shapes.items) (c.can_be_enclosed.ensures.0 c.if-not-can_be_enclosed.false) c.in_ok-beyond.ensures.rest
+    c.grown_is_near.ensures (shapes_of value c.in_ok-beyond.beyond.shapes.items) (c.can_be_enclosed.ensures.0 c.if-not-can_be_enclosed.false) c.in_ok-beyond.ensures.rest
