@@ -228,6 +228,13 @@ uint32_t polygon_c_sized(const polygon_c_point *subject, size_t subject_points, 
                          polygon_c_point *points, size_t points_room, size_t *contours, size_t contours_room, size_t *shapes, size_t shapes_room,
                          polygon_c_sizes *sizes);
 
+/* See polygon_sized_in_turn. */
+uint32_t polygon_c_sized_in_turn(const polygon_c_point *subject, size_t subject_points, const size_t *subject_lengths, size_t subject_contours,
+                                 int32_t left, int32_t right, int32_t bottom, int32_t top, int32_t then_left, int32_t then_right,
+                                 int32_t then_bottom, int32_t then_top, const uint32_t *query, size_t query_words, polygon_c_point *points,
+                                 size_t points_room, size_t *contours, size_t contours_room, size_t *shapes, size_t shapes_room,
+                                 polygon_c_sizes *sizes);
+
 /* See polygon_width. */
 uint32_t polygon_c_width(const polygon_c_point *subject, size_t subject_points, const size_t *subject_lengths, size_t subject_contours,
                          int32_t width, const uint32_t *query, size_t query_words, polygon_c_point *points, size_t points_room,
@@ -460,6 +467,26 @@ static inline uint32_t polygon_sized(const polygon_c_contours *contours, const p
                            words.all, POLYGON_C_QUERY_WORDS, (polygon_c_point *)polygon_c_somewhere(answer->points), answer->points_room,
                            (size_t *)polygon_c_somewhere(answer->contours), answer->contours_room, (size_t *)polygon_c_somewhere(answer->shapes),
                            answer->shapes_room, &answer->sizes);
+}
+
+/*
+ * Sizes so twice: what polygon_sized answers for the first amounts is sized by the second, as where a mask is grown and shrunk again, which closes it, or
+ * shrunk and grown again, which opens it. Two calls take longer. All else is as of polygon_sized, but that POLYGON_C_RANGE
+ * is told also where what a point is moved to would be out of range, once moved again.
+ */
+static inline uint32_t polygon_sized_in_turn(const polygon_c_contours *contours, const polygon_c_sizing *first,
+                                             const polygon_c_sizing *second, const polygon_c_query *query, polygon_c_shapes *answer) {
+    const polygon_c_words words = polygon_c_words_of(query);
+    if (!polygon_c_are_there(contours) || !polygon_c_is_there(answer->points, answer->points_room) ||
+        !polygon_c_is_there(answer->contours, answer->contours_room) || !polygon_c_is_there(answer->shapes, answer->shapes_room)) {
+        return POLYGON_C_LENGTHS;
+    }
+    return polygon_c_sized_in_turn((const polygon_c_point *)polygon_c_somewhere(contours->points), contours->points_len,
+                                   (const size_t *)polygon_c_somewhere(contours->lengths), contours->lengths_len, first->left, first->right,
+                                   first->bottom, first->top, second->left, second->right, second->bottom, second->top, words.all,
+                                   POLYGON_C_QUERY_WORDS, (polygon_c_point *)polygon_c_somewhere(answer->points), answer->points_room,
+                                   (size_t *)polygon_c_somewhere(answer->contours), answer->contours_room,
+                                   (size_t *)polygon_c_somewhere(answer->shapes), answer->shapes_room, &answer->sizes);
 }
 
 /*

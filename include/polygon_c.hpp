@@ -215,6 +215,14 @@ inline Shapes sized(const Contours &contours, const Sizing &by, const Query &que
     return room.answer();
 }
 
+// What they fill, sized by the first amounts and then by the second, as where a mask is closed or opened.
+inline Shapes sized_in_turn(const Contours &contours, const Sizing &first, const Sizing &second, const Query &query = Query()) {
+    const flat::Given one(contours);
+    flat::Room room(one.points_len);
+    room.fill([&](polygon_c_shapes &answer) { return polygon_sized_in_turn(&one, &first, &second, &query, &answer); });
+    return room.answer();
+}
+
 // What of such contours is narrower than a width: what no square of it covers.
 inline Shapes width_errors(const Contours &contours, std::int32_t width, const Query &query = Query()) {
     const flat::Given one(contours);

@@ -69,6 +69,13 @@ uint32_t polygon_c_sized64(const polygon_c_point64 *subject, size_t subject_poin
                            polygon_c_point64 *points, size_t points_room, size_t *contours, size_t contours_room, size_t *shapes, size_t shapes_room,
                            polygon_c_sizes *sizes);
 
+/* See polygon_sized_in_turn. */
+uint32_t polygon_c_sized_in_turn64(const polygon_c_point64 *subject, size_t subject_points, const size_t *subject_lengths, size_t subject_contours,
+                                   int64_t left, int64_t right, int64_t bottom, int64_t top, int64_t then_left, int64_t then_right,
+                                   int64_t then_bottom, int64_t then_top, const uint32_t *query, size_t query_words, polygon_c_point64 *points,
+                                   size_t points_room, size_t *contours, size_t contours_room, size_t *shapes, size_t shapes_room,
+                                   polygon_c_sizes *sizes);
+
 /* See polygon_width. */
 uint32_t polygon_c_width64(const polygon_c_point64 *subject, size_t subject_points, const size_t *subject_lengths, size_t subject_contours,
                            int64_t width, const uint32_t *query, size_t query_words, polygon_c_point64 *points, size_t points_room,
@@ -243,6 +250,22 @@ static inline uint32_t polygon_sized64(const polygon_c_contours64 *contours, con
                              words.all, POLYGON_C_QUERY_WORDS, (polygon_c_point64 *)polygon_c_somewhere(answer->points), answer->points_room,
                              (size_t *)polygon_c_somewhere(answer->contours), answer->contours_room, (size_t *)polygon_c_somewhere(answer->shapes),
                              answer->shapes_room, &answer->sizes);
+}
+
+/* See polygon_sized_in_turn. */
+static inline uint32_t polygon_sized_in_turn64(const polygon_c_contours64 *contours, const polygon_c_sizing64 *first,
+                                               const polygon_c_sizing64 *second, const polygon_c_query *query, polygon_c_shapes64 *answer) {
+    const polygon_c_words words = polygon_c_words_of(query);
+    if (!polygon_c_are_there64(contours) || !polygon_c_is_there(answer->points, answer->points_room) ||
+        !polygon_c_is_there(answer->contours, answer->contours_room) || !polygon_c_is_there(answer->shapes, answer->shapes_room)) {
+        return POLYGON_C_LENGTHS;
+    }
+    return polygon_c_sized_in_turn64((const polygon_c_point64 *)polygon_c_somewhere(contours->points), contours->points_len,
+                                     (const size_t *)polygon_c_somewhere(contours->lengths), contours->lengths_len, first->left, first->right,
+                                     first->bottom, first->top, second->left, second->right, second->bottom, second->top, words.all,
+                                     POLYGON_C_QUERY_WORDS, (polygon_c_point64 *)polygon_c_somewhere(answer->points), answer->points_room,
+                                     (size_t *)polygon_c_somewhere(answer->contours), answer->contours_room,
+                                     (size_t *)polygon_c_somewhere(answer->shapes), answer->shapes_room, &answer->sizes);
 }
 
 /* See polygon_width. */

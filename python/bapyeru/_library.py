@@ -73,6 +73,7 @@ _CALLS = {
     "polygon_c_slice": (_STATUS, [*_CONTOURS * 2, *_QUERY, *_ARRAY * 3, _TO]),
     "polygon_c_clip": (_STATUS, [*_CONTOURS * 2, *_QUERY, *_ARRAY * 2, _TO]),
     "polygon_c_sized": (_STATUS, [*_CONTOURS, *[ctypes.c_int32] * 4, *_QUERY, *_ARRAY * 3, _TO]),
+    "polygon_c_sized_in_turn": (_STATUS, [*_CONTOURS, *[ctypes.c_int32] * 8, *_QUERY, *_ARRAY * 3, _TO]),
     "polygon_c_width": (_STATUS, [*_CONTOURS, ctypes.c_int32, *_QUERY, *_ARRAY * 3, _TO]),
     "polygon_c_space": (_STATUS, [*_CONTOURS, ctypes.c_int32, *_QUERY, *_ARRAY * 3, _TO]),
     "polygon_c_relate": (_STATUS, [*_CONTOURS * 2, *_QUERY, _TO]),
@@ -85,6 +86,7 @@ EXPORTS = {
     # (with coordinates of 64 bits)
     **{f"{export}64": it for export, it in _CALLS.items()},
     "polygon_c_sized64": (_STATUS, [*_CONTOURS, *[ctypes.c_int64] * 4, *_QUERY, *_ARRAY * 3, _TO]),
+    "polygon_c_sized_in_turn64": (_STATUS, [*_CONTOURS, *[ctypes.c_int64] * 8, *_QUERY, *_ARRAY * 3, _TO]),
     "polygon_c_width64": (_STATUS, [*_CONTOURS, ctypes.c_int64, *_QUERY, *_ARRAY * 3, _TO]),
     "polygon_c_space64": (_STATUS, [*_CONTOURS, ctypes.c_int64, *_QUERY, *_ARRAY * 3, _TO]),
     "polygon_c_version": (ctypes.c_uint32, []),

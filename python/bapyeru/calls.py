@@ -251,28 +251,43 @@ def clip_lines(shape, lines, fill="nonzero", depth=1, outside=False, border=True
 
 
 @overload
-def sized(contours: Contours, by: Union[int, Sequence[int]], fill: str = "nonzero", *, flat: Literal[False] = False, **options: Any) -> List[Shape]: ...
+def sized(
+    contours: Contours, by: Union[int, Sequence[int]], fill: str = "nonzero", *, then: Union[None, int, Sequence[int]] = None, flat: Literal[False] = False,
+    **options: Any,
+) -> List[Shape]: ...
 @overload
-def sized(contours: Contours, by: Union[int, Sequence[int]], fill: str = "nonzero", *, flat: Literal[True], **options: Any) -> FlatShapes: ...
-def sized(contours, by, fill="nonzero", *, flat=False, **options):
+def sized(
+    contours: Contours, by: Union[int, Sequence[int]], fill: str = "nonzero", *, then: Union[None, int, Sequence[int]] = None, flat: Literal[True],
+    **options: Any,
+) -> FlatShapes: ...
+def sized(contours, by, fill="nonzero", *, then=None, flat=False, **options):
     """The shapes of what contours fill, grown or shrunk by whole distances: first in x, then in y. Each edge that is given is level or upright, and so is each
     that is answered. What is shrunk by as much as it is wide is gone, and gaps and holes that are grown over are filled.
 
     Arguments:
         contours: a group.
         by: how far left sides move to the left, right sides to the right, bottoms down and tops up, inward where it is below 0; or one number for all four.
+        then: the same for what comes of that: so by 5 and then by -5 gaps narrower than 10 are closed, and the other way round what is narrower is gone.
         fill, flat, options: as of `overlay`.
 
-    A contour with an edge that is neither level nor upright is `Unfit`. Where a point that is moved by one of the amounts would be out of range, in x or in y,
-    that is `OutOfRange`.
+    A contour with an edge that is neither level nor upright is `Unfit`. Where a point that is moved by one of the amounts, and then by one of the second, would
+    be out of range, in x or in y, that is `OutOfRange`.
     """
-    amounts = [_arrays.integer(it, "an amount") for it in (_arrays.listed(by, "by") if hasattr(by, "__len__") else [by] * 4)]
+    amounts, query = _amounts(by, "by"), _query("subject", fill, options)
+    if then is None:
+        given = [_arrays.Sizable(contours, amounts, "contours")]
+        return _shaped(FlatShapes, flat, _asked("polygon_c_sized", given, query, _library.Sizes(), _LENGTHS, *amounts))
+    second = _amounts(then, "then")
+    given = [_arrays.Sizable(contours, [max(map(abs, amounts)) + max(map(abs, second))], "contours")]
+    return _shaped(FlatShapes, flat, _asked("polygon_c_sized_in_turn", given, query, _library.Sizes(), _LENGTHS, *amounts, *second))
+
+
+def _amounts(by, name):
+    amounts = [_arrays.integer(it, "an amount") for it in (_arrays.listed(by, name) if hasattr(by, "__len__") else [by] * 4)]
     if len(amounts) != 4:
-        raise TypeError(f"by: one amount is wanted, or four, and not {len(amounts)}")
+        raise TypeError(f"{name}: one amount is wanted, or four, and not {len(amounts)}")
     # (by more than the range is wide all points leave it)
-    amounts = [max(-(2**40), min(it, 2**40)) for it in amounts]
-    given, query = [_arrays.Sizable(contours, amounts, "contours")], _query("subject", fill, options)
-    return _shaped(FlatShapes, flat, _asked("polygon_c_sized", given, query, _library.Sizes(), _LENGTHS, *amounts))
+    return [max(-(2**40), min(it, 2**40)) for it in amounts]
 
 
 @overload

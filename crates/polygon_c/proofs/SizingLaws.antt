@@ -1,15 +1,14 @@
--- What a call that sizes a region answers, and why it is refused.
+-- What a call about a mask answers, and why it is refused.
 use Rattle.std.proofs.Common.{◌≡◌, ℕ, ℤ, List, sym, subst, refl, inl, inr, ap₂, ◌∙◌}
 use Rattle.plane_base.specs.Plane.{Point}
 use Rattle.plane_base.specs.declared.fault.Fault.{Fault}
 use Rattle.polygon_overlay.specs.Sizing.{Amounts}
-use Rattle.polygon_overlay.specs.SizingCalls.{Fits}
 use Rattle.polygon_overlay.specs.Tiles.{AreLevelOrUpright}
 use Rattle.polygon_c.specs.Answers.{Passes}
 use Rattle.polygon_c.specs.Faults.{refusal_of}
 use Rattle.polygon_c.specs.Flat.{Arrays, flat}
 use Rattle.polygon_c.specs.Given.{Given, subjects_of}
-use Rattle.polygon_c.specs.Sizings.{amounts, IsSizingOf, IsSizingRefused, PassesSizing, AnswersSizing, IsNotResized}
+use Rattle.polygon_c.specs.Sizings.{amounts, PassesFitting, AnswersOfMask, IsUntoldOfMask}
 use Rattle.polygon_c.specs.declared.query.Request.{Request}
 use Rattle.polygon_c.specs.declared.refusal.Refusal.{Refusal}
 use Rattle.polygon_c.specs.declared.refusal.Refusal.TheVariants.{Slant, Range}
@@ -20,39 +19,37 @@ pub amounts_are :
 amounts_are left left' right right' bottom bottom' top top' e f g h =
     ap₂ (λ l r. amounts l r bottom top) e f ∙ ap₂ (λ b t. amounts left' right' b t) g h
 
-module _ {P : Type 0} (plane : P → Point) (least greatest : ℤ) (by : Amounts) (q : List ℕ) (g : Given P) (r : Request) (contours : List (List Point))
+pub of_both : (C : Amounts → Amounts → Type 0) {a b c d : Amounts} → a ≡ b → c ≡ d → C a c → C b d
+of_both C {a} {b} {c} {d} e f is = subst (λ y. C b y) f (subst (λ x. C x c) e is)
+
+module _ {P : Type 0} (plane : P → Point) (least greatest : ℤ) (Fit : List (List Point) → Type 0)
+    (IsRefusedFor : Request → List (List Point) → Fault → Type 0) (q : List ℕ) (g : Given P) (r : Request) (contours : List (List Point))
     (passes : Passes plane least greatest q g r) (are : contours ≡ subjects_of plane g) where
   -- What is so of the contours is so of those that the arrays cut: here that a test is failed,
-  pub is_slanted : (AreLevelOrUpright contours → ⊥) → IsNotResized plane least greatest by q g Slant
+  pub is_slanted : (AreLevelOrUpright contours → ⊥) → IsUntoldOfMask plane least greatest Fit IsRefusedFor q g Slant
   is_slanted is_not = inr (inl (r, passes, (λ straight. is_not (subst AreLevelOrUpright (sym are) straight)), refl))
 
-  pub leaves_range : AreLevelOrUpright contours → (Fits least greatest by contours → ⊥) → IsNotResized plane least greatest by q g Range
-  leaves_range straight is_not = inr (inr (inl (
+  pub fits_not : AreLevelOrUpright contours → (Fit contours → ⊥) → IsUntoldOfMask plane least greatest Fit IsRefusedFor q g Range
+  fits_not straight is_not = inr (inr (inl (
     r,
     passes,
     subst AreLevelOrUpright are straight,
-    (λ fits. is_not (subst (Fits least greatest by) (sym are) fits)),
+    (λ fits. is_not (subst Fit (sym are) fits)),
     refl,
   )))
 
   -- that all are,
-  pub passes_sizing : AreLevelOrUpright contours → Fits least greatest by contours → PassesSizing plane least greatest by q g r
-  passes_sizing straight fits =
-      record { passes = passes; straight = subst AreLevelOrUpright are straight; fitting = subst (Fits least greatest by) are fits }
+  pub passes_fitting : AreLevelOrUpright contours → Fit contours → PassesFitting plane least greatest Fit q g r
+  passes_fitting straight fits = record { passes = passes; straight = subst AreLevelOrUpright are straight; fitting = subst Fit are fits }
 
   -- why the engine refuses,
-  pub not_resized : AreLevelOrUpright contours → Fits least greatest by contours → (fault : Fault) (why : Refusal)
-      → IsSizingRefused least greatest by r contours fault → why ≡ refusal_of fault → IsNotResized plane least greatest by q g why
-  not_resized straight fits fault why refused told = inr (inr (inr (
-    r,
-    fault,
-    passes_sizing straight fits,
-    subst (λ cs. IsSizingRefused least greatest by r cs fault) are refused,
-    told,
-  )))
+  pub untold : AreLevelOrUpright contours → Fit contours → (fault : Fault) (why : Refusal) → IsRefusedFor r contours fault → why ≡ refusal_of fault
+      → IsUntoldOfMask plane least greatest Fit IsRefusedFor q g why
+  untold straight fits fault why refused told =
+      inr (inr (inr (r, fault, passes_fitting straight fits, subst (λ cs. IsRefusedFor r cs fault) are refused, told)))
 
   -- and what it answers.
-  pub resized : (at : Point → P) → AreLevelOrUpright contours → Fits least greatest by contours → (shapes : List (List (List Point)))
-      → IsSizingOf least greatest by r contours shapes → (answer : Arrays P) → answer ≡ flat at shapes → AnswersSizing plane at least greatest by q g answer
-  resized at straight fits shapes is answer laid =
-      (r, passes_sizing straight fits, (shapes, subst (λ cs. IsSizingOf least greatest by r cs shapes) are is, laid))
+  pub told : (at : Point → P) (Is : Request → List (List Point) → List (List (List Point)) → Type 0) → AreLevelOrUpright contours → Fit contours
+      → (shapes : List (List (List Point))) → Is r contours shapes → (answer : Arrays P) → answer ≡ flat at shapes
+      → AnswersOfMask plane at least greatest Fit Is q g answer
+  told at Is straight fits shapes is answer laid = (r, passes_fitting straight fits, (shapes, subst (λ cs. Is r cs shapes) are is, laid))

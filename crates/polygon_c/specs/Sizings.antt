@@ -4,7 +4,7 @@ use Rattle.plane_base.specs.Plane.{Point}
 use Rattle.plane_base.specs.declared.fault.Fault.{Fault}
 use Rattle.segment_arrangement.specs.RuleViews.{fill_rule_of}
 use Rattle.polygon_overlay.specs.Sizing.{Amounts}
-use Rattle.polygon_overlay.specs.SizingCalls.{Fits, AreSized, IsNotSized}
+use Rattle.polygon_overlay.specs.SizingCalls.{Fits, FitsInTurn, AreSized, AreSizedInTurn, IsNotSized, IsNotSizedInTurn}
 use Rattle.polygon_overlay.specs.Tiles.{AreLevelOrUpright}
 use Rattle.polygon_c.specs.Answers.{Passes, IsUnasked}
 use Rattle.polygon_c.specs.Faults.{refusal_of}
@@ -33,6 +33,15 @@ IsSizingOf least greatest by r contours shapes =
 abbrev pub IsSizingRefused : ℤ → ℤ → Amounts → Request → List (List Point) → Fault → Type 0
 IsSizingRefused least greatest by r contours fault =
     IsNotSized least greatest by r.options (fill_rule_of r.fill_rule) r.solver.precision contours fault
+
+-- The same of a region that is sized twice.
+abbrev pub IsSizingInTurnOf : ℤ → ℤ → Amounts → Amounts → Request → List (List Point) → List (List (List Point)) → Type 0
+IsSizingInTurnOf least greatest first second r contours shapes =
+    AreSizedInTurn least greatest first second r.options (fill_rule_of r.fill_rule) r.solver.precision contours shapes
+
+abbrev pub IsSizingInTurnRefused : ℤ → ℤ → Amounts → Amounts → Request → List (List Point) → Fault → Type 0
+IsSizingInTurnRefused least greatest first second r contours fault =
+    IsNotSizedInTurn least greatest first second r.options (fill_rule_of r.fill_rule) r.solver.precision contours fault
 
 -- ---- calls about a mask: `Fit` is what its contours are tested for at last, `Is` what the engine answers, and `IsRefusedFor` why it doesn't
 
@@ -90,3 +99,23 @@ IsSizingCall = IsSizingCallIn status_of plane_point c_point (negsuc 524287) (pos
 
 abbrev pub IsWideSizingCall : Amounts → List ℕ → Given CPoint64 → Arrays CPoint64 → Arrays CPoint64 → Sizes → Sizes → ℕ → Type 0
 IsWideSizingCall = IsSizingCallIn wide_status_of wide_plane_point wide_c_point (negsuc 68719476735) (pos 68719476735)
+
+-- ---- calls that size twice
+
+abbrev pub AnswersInTurn : {P : Type 0} → (P → Point) → (Point → P) → ℤ → ℤ → Amounts → Amounts → List ℕ → Given P → Arrays P → Type 0
+AnswersInTurn plane at least greatest first second q g answer =
+    AnswersOfMask plane at least greatest (FitsInTurn least greatest first second) (IsSizingInTurnOf least greatest first second) q g answer
+
+abbrev pub IsNotResizedInTurn : {P : Type 0} → (P → Point) → ℤ → ℤ → Amounts → Amounts → List ℕ → Given P → Refusal → Type 0
+IsNotResizedInTurn plane least greatest first second q g why =
+    IsUntoldOfMask plane least greatest (FitsInTurn least greatest first second) (IsSizingInTurnRefused least greatest first second) q g why
+
+abbrev pub IsInTurnCall : Amounts → Amounts → List ℕ → Given CPoint → Arrays CPoint → Arrays CPoint → Sizes → Sizes → ℕ → Type 0
+IsInTurnCall first second q g =
+    IsCallIn status_of (AnswersInTurn plane_point c_point (negsuc 524287) (pos 524287) first second q g)
+    (IsNotResizedInTurn plane_point (negsuc 524287) (pos 524287) first second q g)
+
+abbrev pub IsWideInTurnCall : Amounts → Amounts → List ℕ → Given CPoint64 → Arrays CPoint64 → Arrays CPoint64 → Sizes → Sizes → ℕ → Type 0
+IsWideInTurnCall first second q g =
+    IsCallIn wide_status_of (AnswersInTurn wide_plane_point wide_c_point (negsuc 68719476735) (pos 68719476735) first second q g)
+    (IsNotResizedInTurn wide_plane_point (negsuc 68719476735) (pos 68719476735) first second q g)

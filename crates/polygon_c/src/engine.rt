@@ -10,7 +10,7 @@ ghost use Rattle.polygon_overlay.specs.Checks.{IsSide, evenly};
 ghost use Rattle.polygon_overlay.specs.ClipCalls.{IsClipOf};
 ghost use Rattle.polygon_overlay.specs.SliceCalls.{IsSliceOf};
 ghost use Rattle.polygon_overlay.specs.Location.{in_shapes, AreLocated};
-ghost use Rattle.polygon_overlay.specs.SizingCalls.{Fits};
+ghost use Rattle.polygon_overlay.specs.SizingCalls.{Fits, FitsInTurn};
 ghost use Rattle.polygon_overlay.specs.SizingViews.{amounts_of};
 ghost use Rattle.polygon_overlay.specs.Tiles.{AreLevelOrUpright};
 ghost use Rattle.plane_base.specs.Plane.{IsWithin};
@@ -19,7 +19,7 @@ ghost use Rattle.polygon_c.specs.Calls.{IsNotSliced, IsNotClipped};
 ghost use Rattle.polygon_c.specs.Nesting.{IsHierarchyOf};
 ghost use Rattle.polygon_c.specs.Answers.{IsOverlayOf, IsNotOverlaid, AreRelationsOf, IsNotRelated};
 ghost use Rattle.polygon_c.specs.Checkings.{AreWidthsOf, AreWidthsRefused, AreSpacesOf, AreSpacesRefused};
-ghost use Rattle.polygon_c.specs.Sizings.{IsSizingOf, IsSizingRefused};
+ghost use Rattle.polygon_c.specs.Sizings.{IsSizingOf, IsSizingRefused, IsSizingInTurnOf, IsSizingInTurnRefused};
 
 use crate::query::Request;
 use polygon_overlay::checks::{space_errors, width_errors};
@@ -31,7 +31,9 @@ use polygon_overlay::plane::path::{IntPath, IntShape, IntShapes};
 use polygon_overlay::plane::point::IntPoint;
 use polygon_overlay::point_location::IntPointContainment;
 use polygon_overlay::relate::{PredicateOverlay, Relations, lie_apart};
-use polygon_overlay::sizing::{Sizing, sized as sized_region};
+use polygon_overlay::sizing::{
+    Sizing, sized as sized_region, sized_in_turn as sized_region_in_turn,
+};
 use polygon_overlay::string::clip::IntClip;
 use polygon_overlay::string::slice::IntSlice;
 use polygon_overlay::walk::hierarchy::{ChildLink, FlatShapeHierarchy};
@@ -190,6 +192,34 @@ pub(crate) fn sized<I: OverlayInt>(
         contours,
         request.fill_rule,
         by,
+        request.options,
+        request.solver,
+    )
+}
+
+// What contours fill, sized twice.
+pub(crate) fn sized_in_turn<I: OverlayInt>(
+    alloc: Global,
+    request: Request,
+    contours: &FlatContoursBuffer<I>,
+    first: Sizing<I>,
+    second: Sizing<I>,
+) -> Result<IntShapes<I>, Fault>
+    requires ready { IsFlat contours.now }
+    requires in_range { AreFlatInRange I.value I.least I.greatest contours.now }
+    requires straight { AreLevelOrUpright (flat_contours I.value contours.now) }
+    requires fits { FitsInTurn I.least I.greatest (amounts_of I.value first) (amounts_of I.value second) (flat_contours I.value contours.now) }
+    ensures answered { IfOk result (λ shapes. IsSizingInTurnOf I.least I.greatest (amounts_of I.value first) (amounts_of I.value second) request
+        (flat_contours I.value contours.now) (shapes_of I.value shapes.shapes.items)) }
+    ensures refused { IfErr result (IsSizingInTurnRefused I.least I.greatest (amounts_of I.value first) (amounts_of I.value second) request
+        (flat_contours I.value contours.now)) }
+{
+    sized_region_in_turn(
+        alloc,
+        contours,
+        request.fill_rule,
+        first,
+        second,
         request.options,
         request.solver,
     )

@@ -2,11 +2,12 @@ use Rattle.std.proofs.Common.{[], sym, subst, inl, ◌∙◌}
 use Rattle.std.proofs.lemmas.Bool.{false≢true}
 use Rattle.std.proofs.lemmas.Result.{err_from_is_err_and}
 use Rattle.contour_walk.specs.ShapeViews.{shapes_of}
+use Rattle.polygon_overlay.specs.SizingCalls.{Fits}
 use Rattle.polygon_overlay.specs.SizingViews.{amounts_of}
 use Rattle.polygon_c.specs.Flat.{lists_of}
 use Rattle.polygon_c.specs.Given.{given, flat_contours}
-use Rattle.polygon_c.specs.Sizings.{IsNotResized}
-use Rattle.polygon_c.proofs.SizingLaws.{is_slanted, leaves_range, not_resized, resized}
+use Rattle.polygon_c.specs.Sizings.{IsSizingOf, IsSizingRefused, IsNotResized}
+use Rattle.polygon_c.proofs.SizingLaws.{is_slanted, fits_not, untold, told}
 use Rattle.polygon_c.proofs.sized.sized.Goals as goal
 
 pub returns-then-not-are_level_or_upright-clause-refused : goal.returns-then-not-are_level_or_upright-clause-refused
@@ -14,7 +15,9 @@ returns-then-not-are_level_or_upright-clause-refused g c =
     let asked = c.in_ok-asked.asked in
     let is = c.in_ok-asked.ensures in
     let alone = given c.args.subject.now c.args.subject_lengths.now [] [] in
-    is_slanted g.P.CPointOf.plane g.I.OverlayInt.least g.I.OverlayInt.greatest (amounts_of g.I.OverlayInt.value c.args.by) c.args.query.now alone asked.request
+    is_slanted g.P.CPointOf.plane g.I.OverlayInt.least g.I.OverlayInt.greatest (Fits g.I.OverlayInt.least g.I.OverlayInt.greatest
+    (amounts_of g.I.OverlayInt.value c.args.by)) (IsSizingRefused g.I.OverlayInt.least g.I.OverlayInt.greatest (amounts_of g.I.OverlayInt.value c.args.by))
+    c.args.query.now alone asked.request
     (flat_contours g.I.OverlayInt.value asked.subjects) is.passes is.subjects.are
     (λ straight. false≢true (sym c.if-not-are_level_or_upright.true ∙ c.are_level_or_upright.ensures.1 straight))
 
@@ -23,7 +26,9 @@ returns-then-not-fits-clause-refused g c =
     let asked = c.in_ok-asked.asked in
     let is = c.in_ok-asked.ensures in
     let alone = given c.args.subject.now c.args.subject_lengths.now [] [] in
-    leaves_range g.P.CPointOf.plane g.I.OverlayInt.least g.I.OverlayInt.greatest (amounts_of g.I.OverlayInt.value c.args.by) c.args.query.now alone asked.request
+    fits_not g.P.CPointOf.plane g.I.OverlayInt.least g.I.OverlayInt.greatest (Fits g.I.OverlayInt.least g.I.OverlayInt.greatest
+    (amounts_of g.I.OverlayInt.value c.args.by)) (IsSizingRefused g.I.OverlayInt.least g.I.OverlayInt.greatest (amounts_of g.I.OverlayInt.value c.args.by))
+    c.args.query.now alone asked.request
     (flat_contours g.I.OverlayInt.value asked.subjects) is.passes is.subjects.are (c.are_level_or_upright.ensures.0 c.if-not-are_level_or_upright.false)
     (λ fit. false≢true (sym c.if-not-fits.true ∙ c.fits.ensures.1 fit))
 
@@ -33,7 +38,9 @@ returns-in_err-shapes-clause-refused g c =
     let asked = c.in_ok-asked.asked in
     let is = c.in_ok-asked.ensures in
     let alone = given c.args.subject.now c.args.subject_lengths.now [] [] in
-    rw p.1 (not_resized g.P.CPointOf.plane g.I.OverlayInt.least g.I.OverlayInt.greatest (amounts_of g.I.OverlayInt.value c.args.by) c.args.query.now alone
+    rw p.1 (untold g.P.CPointOf.plane g.I.OverlayInt.least g.I.OverlayInt.greatest
+    (Fits g.I.OverlayInt.least g.I.OverlayInt.greatest (amounts_of g.I.OverlayInt.value c.args.by))
+    (IsSizingRefused g.I.OverlayInt.least g.I.OverlayInt.greatest (amounts_of g.I.OverlayInt.value c.args.by)) c.args.query.now alone
     asked.request (flat_contours g.I.OverlayInt.value asked.subjects) is.passes is.subjects.are
     (c.are_level_or_upright.ensures.0 c.if-not-are_level_or_upright.false) (c.fits.ensures.0 c.if-not-fits.false)
     c.in_err-shapes.field-0.0 p.0 c.in_err-shapes.ensures.refused p.2)
@@ -42,7 +49,8 @@ pub returns-in_err-lay-clause-refused : goal.returns-in_err-lay-clause-refused
 returns-in_err-lay-clause-refused g c =
     let p = err_from_is_err_and c.from_residual-in_err-lay.result c.from_residual-in_err-lay.ensures.1 in
     let alone = given c.args.subject.now c.args.subject_lengths.now [] [] in
-    rw p.1 (subst (IsNotResized g.P.CPointOf.plane g.I.OverlayInt.least g.I.OverlayInt.greatest (amounts_of g.I.OverlayInt.value c.args.by) c.args.query.now alone)
+    rw p.1 (subst (IsNotResized g.P.CPointOf.plane g.I.OverlayInt.least g.I.OverlayInt.greatest (amounts_of g.I.OverlayInt.value c.args.by) c.args.query.now
+    alone)
     (sym p.2) (inl (c.in_ok-asked.asked.request, c.in_ok-asked.ensures.passes)))
 
 pub returns-clause-answered : goal.returns-clause-answered
@@ -50,7 +58,10 @@ returns-clause-answered g c =
     let asked = c.in_ok-asked.asked in
     let is = c.in_ok-asked.ensures in
     let alone = given c.args.subject.now c.args.subject_lengths.now [] [] in
-    resized g.P.CPointOf.plane g.I.OverlayInt.least g.I.OverlayInt.greatest (amounts_of g.I.OverlayInt.value c.args.by) c.args.query.now alone asked.request
+    told g.P.CPointOf.plane g.I.OverlayInt.least g.I.OverlayInt.greatest (Fits g.I.OverlayInt.least g.I.OverlayInt.greatest
+    (amounts_of g.I.OverlayInt.value c.args.by)) (IsSizingRefused g.I.OverlayInt.least g.I.OverlayInt.greatest (amounts_of g.I.OverlayInt.value c.args.by))
+    c.args.query.now alone asked.request
     (flat_contours g.I.OverlayInt.value asked.subjects) is.passes is.subjects.are g.P.CPointOf.at
+    (IsSizingOf g.I.OverlayInt.least g.I.OverlayInt.greatest (amounts_of g.I.OverlayInt.value c.args.by))
     (c.are_level_or_upright.ensures.0 c.if-not-are_level_or_upright.false) (c.fits.ensures.0 c.if-not-fits.false)
     (shapes_of g.I.OverlayInt.value c.in_ok-shapes.shapes.shapes.items) c.in_ok-shapes.ensures.answered (lists_of c.in_ok-lay.field-0) c.in_ok-lay.ensures
