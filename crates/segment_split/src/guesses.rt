@@ -61,7 +61,8 @@ fn slots_for(many: usize) -> usize {
     many.max(FEWEST).min(MOST).next_power_of_two()
 }
 
-// The slot of a height, among a power of two of them.
+// The slot of a height: as far along so many as its product, in its upper bits, is along all numbers.
 fn slot_of(y: i64, slots: usize) -> usize {
-    (y.cast_unsigned().wrapping_mul(SPREAD) >> 32) as usize & slots.saturating_sub(1)
+    let upper = y.cast_unsigned().wrapping_mul(SPREAD) >> 32;
+    (upper.wrapping_mul(slots as u64) >> 32) as usize
 }
