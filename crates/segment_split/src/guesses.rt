@@ -7,7 +7,7 @@ ghost use Rattle.std.specs.Prelude.{IsOkUnless};
 use plane_base::fault::Fault;
 use std::alloc::Global;
 
-// Heights are spread over the slots by the upper bits of their product with this odd number, 2^64 over the golden ratio.
+// Heights are spread over the slots by products with this odd number, 2^64 over the golden ratio.
 const SPREAD: u64 = 0x9E37_79B9_7F4A_7C15;
 
 const FEWEST: usize = 64;
@@ -61,8 +61,10 @@ fn slots_for(many: usize) -> usize {
     many.max(FEWEST).min(MOST).next_power_of_two()
 }
 
-// The slot of a height: as far along so many as its product, in its upper bits, is along all numbers.
+// The slot of a height: as far along so many as its hash, in its upper bits, is along all numbers. It is multiplied twice, since heights
+// at one distance from each other may crowd in few slots after one product.
 fn slot_of(y: i64, slots: usize) -> usize {
-    let upper = y.cast_unsigned().wrapping_mul(SPREAD) >> 32;
-    (upper.wrapping_mul(slots as u64) >> 32) as usize
+    let product = y.cast_unsigned().wrapping_mul(SPREAD);
+    let hash = (product ^ product >> 32).wrapping_mul(SPREAD);
+    ((hash >> 32).wrapping_mul(slots as u64) >> 32) as usize
 }
