@@ -189,7 +189,9 @@ pub(super) fn is_upright<I: OverlayInt>(s: XSegment<I>) -> bool
     s.a.x.to_i64() == s.b.x.to_i64()
 }
 
-// The same of the row of a height, whose place is given.
+// The same of the row of a height, whose place is given. It is kept out of the loop over keys, which would take its sets' words before
+// it knows that any key comes or goes.
+#[inline(never)]
 fn change_row<I: OverlayInt>(
     lines: &mut Lines<I>,
     place: usize,
@@ -217,6 +219,7 @@ fn change_row<I: OverlayInt>(
 
 // Lets the last of so many keys that end at a point come, or those that begin there go. The place is that of the point's row. Answers
 // how many are left.
+#[inline(always)]
 pub(super) fn change_all<I: OverlayInt>(
     lines: &mut Lines<I>,
     keys: &[Key<I>],
@@ -252,6 +255,7 @@ pub(super) fn change_all<I: OverlayInt>(
 
 // Stops at a point: lays the steps along and up to the last stops on its lines, unless they count for nothing. The place is that
 // of the first row that isn't below the point.
+#[inline(always)]
 pub(super) fn visit<I: OverlayInt>(
     laid: &mut Vec<Key<I>>,
     lines: &mut Lines<I>,
