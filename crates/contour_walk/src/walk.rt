@@ -25,7 +25,7 @@ ghost use Rattle.contour_walk.specs.LinearWalks.{is_left, left_of, left_places, 
 ghost use Rattle.contour_walk.specs.LinearWalks.{left_after, walk_within, left_within, contour_within, left_by_within, walks_by};
 ghost use Rattle.contour_walk.specs.Nearest.{Numbered, nearest};
 ghost use Rattle.contour_walk.specs.NodeRings.{AreRings};
-ghost use Rattle.contour_walk.specs.NearestViews.{IsNearest};
+ghost use Rattle.contour_walk.specs.NearestViews.{numbered, IsNearest};
 ghost use Rattle.contour_walk.specs.ShapeViews.{contour_of, walks_of, ContoursAreWithin};
 ghost use Rattle.contour_walk.specs.Walks.{Border, same_point, far_end, is_same, top_link, between, walked};
 
@@ -461,53 +461,41 @@ fn search<I: OverlayInt, D>(
     let mut first = behind;
     let n = places.len();
     for done in 0..n {
-        let spoke = spoke_at(links, states, places[n - 1 - done], starts, turning.v);
-        first = nearer(turning.clockwise, turning.v, turning.from, spoke, first);
+        let Some(spoke) = spoke_at(links, states, places[n - 1 - done], starts, turning.v) else {
+            continue;
+        };
+        first = Some(nearer(turning.clockwise, turning.v, turning.from, spoke, first));
     }
     first
 }
 
-// The nearest of those that were seen before and of a link more, if there is one.
+// The nearest of those that were seen before and of a link more.
 #[inline(always)]
 fn nearer<I: OverlayInt>(
     clockwise: bool,
     v: IntPoint<I>,
     from: IntPoint<I>,
-    spoke: Option<Spoke<I>>,
+    spoke: Spoke<I>,
     behind: Option<Nearest<I>>,
-) -> Option<Nearest<I>>
+) -> Nearest<I>
     requires v_in_range { IsWithin I.least I.greatest (point_of I.value v) }
     requires from_in_range { IsWithin I.least I.greatest (point_of I.value from) }
-    requires spoke_in_range { IfSome spoke (λ s. IsWithin I.least I.greatest (point_of I.value s.far)) }
+    requires spoke_in_range { IsWithin I.least I.greatest (point_of I.value spoke.far) }
     requires behind_in_range { IfSome behind (λ n. IsWithin I.least I.greatest (point_of I.value n.far)) }
     ensures is { (seen : List Numbered) →
         IfBegun behind seen (IsNearest I.value clockwise (point_of I.value v) (point_of I.value from) seen) →
-        IfBegun result (spoke_list I.value spoke ++ seen)
-        (IsNearest I.value clockwise (point_of I.value v) (point_of I.value from) (spoke_list I.value spoke ++ seen)) }
-    ensures in_range { IfSome result (λ n. IsWithin I.least I.greatest (point_of I.value n.far)) }
+        IsNearest I.value clockwise (point_of I.value v) (point_of I.value from) (numbered I.value spoke.far spoke.place ∷ seen) result }
+    ensures in_range { IsWithin I.least I.greatest (point_of I.value result.far) }
 {
-    let Some(Spoke { far, place }) = spoke else {
-        return behind;
-    };
+    let Spoke { far, place } = spoke;
     let turned = half_turns(clockwise, v, from, far);
-    let Some(
-        Nearest {
-            far: near,
-            place: number,
-            turned: before,
-        },
-    ) = behind
-    else {
-        return Some(Nearest { far, place, turned });
+    let Some(before) = behind else {
+        return Nearest { far, place, turned };
     };
-    if is_before(clockwise, v, before, near, turned, far) {
-        return Some(Nearest {
-            far: near,
-            place: number,
-            turned: before,
-        });
+    if is_before(clockwise, v, before.turned, before.far, turned, far) {
+        return before;
     }
-    Some(Nearest { far, place, turned })
+    Nearest { far, place, turned }
 }
 
 // The place of the topmost link that is left where a link starts that is left.

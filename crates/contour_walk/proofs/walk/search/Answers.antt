@@ -30,10 +30,27 @@ loop-done-preserved g c =
     let behind = flat_map f (drop (length places - c.loop-done.done) places) in
     let step = next_back places c.loop-done.done i (get_or places i 0) c.loop-done-test.true refl (any_default places i 0 (get_or places i 0) inside) in (
       λ seen h.
-          subst (λ (l : List Numbered). IfBegun c.nearer-first.result l (IsNearest value c.args.turning.clockwise v (point_of value c.args.turning.from) l))
-          (ap (λ l. l ++ (behind ++ seen)) c.spoke_at-spoke.ensures.is ∙ (sym (append_assoc (f (get_or places i 0)) behind seen) ∙ ap (λ ps. flat_map f ps ++ seen) (sym step)))
-          (c.nearer-first.ensures.is (behind ++ seen) (c.loop-done.invariant.0 seen h)),
-      c.nearer-first.ensures.in_range,
+          subst (λ (l : List Numbered). IsNearest value c.args.turning.clockwise v (point_of value c.args.turning.from) l c.nearer.result)
+          (ap (λ l. l ++ (behind ++ seen)) c.in-Some.ensures.is ∙ (sym (append_assoc (f (get_or places i 0)) behind seen) ∙ ap (λ ps. flat_map f ps ++ seen) (sym step)))
+          (c.nearer.ensures.is (behind ++ seen) (c.loop-done.invariant.0 seen h)),
+      c.nearer.ensures.in_range,
+    )
+
+pub loop-done-preserved-in_default : goal.loop-done-preserved-in_default
+loop-done-preserved-in_default g c =
+    let value = g.I.OverlayInt.value in
+    let v = point_of value c.args.turning.v in
+    let f = spoke_at c.args.starts v (link_edges value c.args.links.now) c.args.states.now in
+    let places = c.args.places.now in
+    let i = length places - 1 - c.loop-done.done in
+    let inside : i < length places = omega (arith, c.loop-done-test.true) in
+    let behind = flat_map f (drop (length places - c.loop-done.done) places) in
+    let step = next_back places c.loop-done.done i (get_or places i 0) c.loop-done-test.true refl (any_default places i 0 (get_or places i 0) inside) in (
+      λ seen h.
+          subst (λ (l : List Numbered). IfBegun c.loop-done.first l (IsNearest value c.args.turning.clockwise v (point_of value c.args.turning.from) l))
+          (ap (λ l. l ++ (behind ++ seen)) c.in_default.ensures.is ∙ (sym (append_assoc (f (get_or places i 0)) behind seen) ∙ ap (λ ps. flat_map f ps ++ seen) (sym step)))
+          (c.loop-done.invariant.0 seen h),
+      c.loop-done.invariant.1,
     )
 
 pub returns-clause-is : goal.returns-clause-is

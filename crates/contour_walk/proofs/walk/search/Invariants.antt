@@ -12,10 +12,10 @@ use Rattle.contour_walk.proofs.walk.search.Given as goal
 abbrev pub invariant-loop-done : goal.invariant-loop-done
 invariant-loop-done g l =
     let value = g.I.OverlayInt.value in
-    let v = point_of value l.turning.v in
+    let v = point_of value l.fn.turning.v in
     let f = spoke_at l.starts v (link_edges value l.links) l.states in
     ((seen : List Numbered) →
-    IfBegun l.fn.behind seen (IsNearest value l.turning.clockwise v (point_of value l.turning.from) seen) →
+    IfBegun l.fn.behind seen (IsNearest value l.fn.turning.clockwise v (point_of value l.fn.turning.from) seen) →
     IfBegun l.first (flat_map f (drop (length l.places - l.done) l.places) ++ seen)
-    (IsNearest value l.turning.clockwise v (point_of value l.turning.from) (flat_map f (drop (length l.places - l.done) l.places) ++ seen)))
+    (IsNearest value l.fn.turning.clockwise v (point_of value l.fn.turning.from) (flat_map f (drop (length l.places - l.done) l.places) ++ seen)))
     × IfSome l.first (λ n. IsWithin g.I.OverlayInt.least g.I.OverlayInt.greatest (point_of value n.far))
