@@ -246,5 +246,9 @@ fn place_of_link<I: OverlayInt, D>(
 fn order_to<I: OverlayInt, D>(link: &OverlayLink<I, D>, a: IntPoint<I>, b: IntPoint<I>) -> Ordering
     ensures { result ≡ edge_order (link_edge_of I.value link.now) (record { a = point_of I.value a; b = point_of I.value b }) }
 {
-    link.a.point.cmp(&a).then(link.b.point.cmp(&b))
+    let by_start = link.a.point.cmp(&a);
+    if by_start.is_ne() {
+        return by_start;
+    }
+    link.b.point.cmp(&b)
 }
