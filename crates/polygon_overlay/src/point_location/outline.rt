@@ -28,8 +28,7 @@ ghost use Rattle.polygon_overlay.specs.Stretches.{end_before, AreStretches, Look
 use crate::point_box::{PointBox, is_less};
 use crate::point_location::resolved::edge_at;
 use crate::point_location::stretches::{
-    FEW, Look, Stretch, differ, end_of, is_clear, is_off, is_under, join_all, join_equals, opens,
-    runs_of,
+    FEW, Look, Stretch, differ, end_of, is_clear, is_off, is_under, join_all, join_equals, runs_of,
 };
 use plane_base::fault::Fault;
 use plane_base::int::OverlayInt;
@@ -189,7 +188,19 @@ fn look_at<I: OverlayInt>(
     ensures looked { LooksPast number stretch
         (IsParityBetween (contour_edges (points_of I.value points.now)) (whole (point_of I.value point)) stretch.first stretch.end) result }
 {
-    if opens(stretch, number, point) {
+    if is_clear(stretch.bounds, point) {
+        return Look {
+            left: stretch.from,
+            is_so: false,
+        };
+    }
+    if is_under(stretch.bounds, point) {
+        return Look {
+            left: stretch.from,
+            is_so: ends_are_parted(points, stretch.first, stretch.end, point),
+        };
+    }
+    if stretch.from < number {
         return Look {
             left: number,
             is_so: false,
@@ -197,31 +208,8 @@ fn look_at<I: OverlayInt>(
     }
     Look {
         left: stretch.from,
-        is_so: run_is_odd(points, stretch, point),
+        is_so: edges_are_odd(points, stretch.first, stretch.end, point),
     }
-}
-
-// Whether an odd number of a stretch's edges pass below the point.
-fn run_is_odd<I: OverlayInt>(
-    points: &[IntPoint<I>],
-    stretch: Stretch<I>,
-    point: IntPoint<I>,
-) -> bool
-    requires in_range { All (IsWithin I.least I.greatest) (points_of I.value points.now) }
-    requires point_in_range { IsWithin I.least I.greatest (point_of I.value point) }
-    requires some { stretch.first < stretch.end }
-    requires within { stretch.end ≤ length points.now }
-    requires boxed { (k : ℕ) (d : List Point) → stretch.first ≤ k → k < stretch.end
-        → All (LiesWithin (bounds_of I.value stretch.bounds)) (slice_index_or (edge_ends (points_of I.value points.now)) k d) }
-    ensures { IsParityBetween (contour_edges (points_of I.value points.now)) (whole (point_of I.value point)) stretch.first stretch.end result }
-{
-    if is_clear(stretch.bounds, point) {
-        return false;
-    }
-    if is_under(stretch.bounds, point) {
-        return ends_are_parted(points, stretch.first, stretch.end, point);
-    }
-    edges_are_odd(points, stretch.first, stretch.end, point)
 }
 
 // Whether one of the two ends of a run of edges lies to the right of the point, and the other doesn't.

@@ -20,7 +20,7 @@ ghost use Rattle.polygon_overlay.specs.Stretches.{end_before, AreStretches, Look
 use crate::point_box::PointBox;
 use crate::point_location::outline::{Outline, is_inside, outline_of};
 use crate::point_location::stretches::{
-    FEW, Look, Stretch, differ, end_of, is_off, join_all, join_equals, opens, runs_of,
+    FEW, Look, Stretch, differ, end_of, is_off, join_all, join_equals, runs_of,
 };
 use plane_base::fault::Fault;
 use plane_base::int::OverlayInt;
@@ -314,15 +314,15 @@ fn look_at<I: OverlayInt>(
     ensures looked { LooksPast number field (λ found. found ≡ false
         → NoneContains (shapes_of I.value shapes.now) order.now (whole (point_of I.value point)) field.first field.end) result }
 {
-    if opens(field, number, point) {
-        return Look {
-            left: number,
-            is_so: false,
-        };
-    }
     if is_off(field.bounds, point) {
         return Look {
             left: field.from,
+            is_so: false,
+        };
+    }
+    if field.from < number {
+        return Look {
+            left: number,
             is_so: false,
         };
     }

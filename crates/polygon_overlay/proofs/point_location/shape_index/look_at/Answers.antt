@@ -6,15 +6,6 @@ use Rattle.polygon_overlay.specs.PointBoxes.{bounds_of}
 use Rattle.polygon_overlay.proofs.IndexLaws.{field_off}
 use Rattle.polygon_overlay.proofs.point_location.shape_index.look_at.Goals as goal
 
-pub returns-then-opens-clause-fewer : goal.returns-then-opens-clause-fewer
-returns-then-opens-clause-fewer g c = omega arith
-
-pub returns-then-opens-clause-found : goal.returns-then-opens-clause-found
-returns-then-opens-clause-found g c = λ e. absurd (false≢true e)
-
-pub returns-then-opens-clause-looked : goal.returns-then-opens-clause-looked
-returns-then-opens-clause-looked g c = inl (refl, c.opens.ensures c.if-opens.true, refl)
-
 pub returns-then-is_off-clause-fewer : goal.returns-then-is_off-clause-fewer
 returns-then-is_off-clause-fewer g c = c.requires.earlier
 
@@ -30,6 +21,15 @@ returns-then-is_off-clause-looked g c =
       λ _. field_off (shapes_of value c.args.shapes.now) c.args.order.now (point_of value c.args.point) (bounds_of value field.bounds) field.first field.end
           c.requires.within c.requires.boxed (sym c.is_off.ensures ∙ c.if-is_off.true),
     )
+
+pub returns-then-field-number-clause-fewer : goal.returns-then-field-number-clause-fewer
+returns-then-field-number-clause-fewer g c = omega arith
+
+pub returns-then-field-number-clause-found : goal.returns-then-field-number-clause-found
+returns-then-field-number-clause-found g c = λ e. absurd (false≢true e)
+
+pub returns-then-field-number-clause-looked : goal.returns-then-field-number-clause-looked
+returns-then-field-number-clause-looked g c = inl (refl, c.if-field-number.true, refl)
 
 pub returns-clause-fewer : goal.returns-clause-fewer
 returns-clause-fewer g c = c.requires.earlier
