@@ -53,6 +53,7 @@ mod AddingLaws
 mod PointBoxLaws
 mod ThinnedLaws
 mod ApartLaws
+mod ReachLaws
 mod StretchLaws
 mod OutlineLaws
 mod NoneLaws

@@ -1,12 +1,8 @@
 -- Boxes of points as the code has them.
-use Rattle.std.specs.Prelude.{ℤ, Bool, ◌||◌, int_lt}
+use Rattle.std.specs.Prelude.{ℤ}
 use Rattle.segment_split.specs.Groups.{Bounds}
 use Rattle.polygon_overlay.specs.declared.point_box.PointBox.{PointBox}
 
 -- the box over whole numbers
 abbrev pub bounds_of : {I : Type 0} → (I → ℤ) → PointBox I → Bounds
 bounds_of value box = record { left = value box.left; right = value box.right; bottom = value box.bottom; top = value box.top }
-
--- the test of `AreApart`
-abbrev pub are_apart : Bounds → Bounds → Bool
-are_apart b c = (int_lt b.right c.left || int_lt c.right b.left) || (int_lt b.top c.bottom || int_lt c.top b.bottom)

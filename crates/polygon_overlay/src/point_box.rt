@@ -4,7 +4,7 @@ ghost use Rattle.std.specs.Prelude.{◌≡◌, ◌≤ℤ◌, All, int_lt};
 ghost use Rattle.plane_base.specs.Plane.{Point};
 ghost use Rattle.plane_base.specs.Views.{point_of, points_of};
 ghost use Rattle.segment_split.specs.Groups.{LiesWithin};
-ghost use Rattle.polygon_overlay.specs.PointBoxes.{bounds_of, are_apart};
+ghost use Rattle.polygon_overlay.specs.PointBoxes.{bounds_of};
 
 use plane_base::int::OverlayInt;
 use plane_base::point::IntPoint;
@@ -66,17 +66,10 @@ impl<I: OverlayInt> PointBox<I> {
             top: greater(self.top, other.top),
         }
     }
-
-    /// Whether the two share no point: one ends before the other begins, in x or in y.
-    pub(crate) fn is_apart_from(self, other: PointBox<I>) -> bool
-        ensures { result ≡ are_apart (bounds_of I.value self) (bounds_of I.value other) }
-    {
-        (is_less(self.right, other.left) || is_less(other.right, self.left))
-            || (is_less(self.top, other.bottom) || is_less(other.top, self.bottom))
-    }
 }
 
-fn lesser<I: OverlayInt>(a: I, b: I) -> I
+/// The lesser of two coordinates.
+pub(crate) fn lesser<I: OverlayInt>(a: I, b: I) -> I
     ensures first { I.value result ≤ℤ I.value a }
     ensures second { I.value result ≤ℤ I.value b }
 {
@@ -86,7 +79,8 @@ fn lesser<I: OverlayInt>(a: I, b: I) -> I
     a
 }
 
-fn greater<I: OverlayInt>(a: I, b: I) -> I
+/// The greater of two coordinates.
+pub(crate) fn greater<I: OverlayInt>(a: I, b: I) -> I
     ensures first { I.value a ≤ℤ I.value result }
     ensures second { I.value b ≤ℤ I.value result }
 {

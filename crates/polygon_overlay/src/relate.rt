@@ -9,6 +9,7 @@ ghost use Rattle.polygon_overlay.specs.Builders.{IsHeld};
 mod apart;
 mod build;
 mod query;
+mod reach;
 mod single;
 mod sweep;
 

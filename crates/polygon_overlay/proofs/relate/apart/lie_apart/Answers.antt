@@ -1,24 +1,30 @@
-use Rattle.std.proofs.Common.{◌∙◌, sym, map}
+use Rattle.std.proofs.Common.{map}
 use Rattle.plane_base.specs.Views.{points_of}
-use Rattle.polygon_overlay.specs.PointBoxes.{bounds_of}
 use Rattle.polygon_overlay.specs.RelationLaws.{LieApart}
+use Rattle.polygon_overlay.specs.Singles.{AreDisjoint}
 use Rattle.polygon_overlay.proofs.ApartLaws.{apart_related}
-use Rattle.polygon_overlay.proofs.PointBoxLaws.{apart_told}
+use Rattle.polygon_overlay.proofs.relate.apart.lie_apart.Given.{Over}
+use Rattle.polygon_overlay.proofs.relate.apart.lie_apart.Goals.{After-holding_goes_on}
 use Rattle.polygon_overlay.proofs.relate.apart.lie_apart.Goals as goal
 
+-- what lies apart is disjoint
+told : (g : Over) (c : After-holding_goes_on g) → LieApart (map (points_of g.I.OverlayInt.value) (g.S.IntShapeResource.paths c.args.subj.now))
+    (map (points_of g.I.OverlayInt.value) (g.C.IntShapeResource.paths c.args.clip.now))
+    → AreDisjoint (map (points_of g.I.OverlayInt.value) (g.S.IntShapeResource.paths c.args.subj.now))
+    (map (points_of g.I.OverlayInt.value) (g.C.IntShapeResource.paths c.args.clip.now))
+told g c =
+    apart_related c.holding_goes_on.ensures c.apart_is_disjoint.ensures g.I.OverlayInt.least g.I.OverlayInt.greatest
+    (map (points_of g.I.OverlayInt.value) (g.S.IntShapeResource.paths c.args.subj.now))
+    (map (points_of g.I.OverlayInt.value) (g.C.IntShapeResource.paths c.args.clip.now)) c.requires.subj_in_range c.requires.clip_in_range
+
+pub returns-then-are_stacked : goal.returns-then-are_stacked
+returns-then-are_stacked g c = λ _. told g (goal.at.returns-then-are_stacked g c).After-holding_goes_on (c.are_stacked.ensures c.if-are_stacked.true)
+
+pub returns-then-is_steep : goal.returns-then-is_steep
+returns-then-is_steep g c = λ apart. told g (goal.at.returns-then-is_steep g c).After-holding_goes_on (c.are_beside.ensures apart)
+
+pub returns-then-are_beside : goal.returns-then-are_beside
+returns-then-are_beside g c = λ _. told g (goal.at.returns-then-are_beside g c).After-holding_goes_on (c.are_beside-2.ensures c.if-are_beside.true)
+
 pub returns : goal.returns
-returns g c = λ apart.
-    let value = g.I.OverlayInt.value in
-    let subjects = map (points_of value) (g.S.IntShapeResource.paths c.args.subj.now) in
-    let clips = map (points_of value) (g.C.IntShapeResource.paths c.args.clip.now) in
-    let one = bounds_of value c.box_of-one.result in
-    let other = bounds_of value c.box_of-other.result in
-    let lie : LieApart subjects clips = record {
-      one = one;
-      other = other;
-      ones_within = c.box_of-one.ensures;
-      others_within = c.box_of-other.ensures;
-      apart = apart_told one other (sym c.is_apart_from.ensures ∙ apart);
-    } in
-    apart_related c.holding_goes_on.ensures c.apart_is_disjoint.ensures g.I.OverlayInt.least g.I.OverlayInt.greatest subjects clips
-    c.requires.subj_in_range c.requires.clip_in_range lie
+returns g c = λ apart. told g (goal.at.returns g c).After-holding_goes_on (c.are_stacked-2.ensures apart)

@@ -2,16 +2,14 @@ use Rattle.std.proofs.Common.{◌+◌, take, map}
 use Rattle.std.specs.Prelude.{All}
 use Rattle.plane_base.specs.Views.{points_of}
 use Rattle.plane_base.proofs.Facts.Lists.Placed.{before}
-use Rattle.segment_split.specs.Groups.{LiesWithin}
-use Rattle.polygon_overlay.specs.PointBoxes.{bounds_of}
-use Rattle.polygon_overlay.proofs.relate.apart.box_of.Given as goal
+use Rattle.polygon_overlay.proofs.relate.reach.reach_of.Given as goal
 
--- The paths of the shapes before this one lie in the box.
+-- The points of the shapes before this one reach no farther.
 abbrev pub invariant-loop-shape : goal.invariant-loop-shape
-invariant-loop-shape g l = All (All (LiesWithin (bounds_of g.I.OverlayInt.value l.around)))
+invariant-loop-shape g l = All (All (g.W.Side.reaches (g.I.OverlayInt.value l.reach)))
     (map (points_of g.I.OverlayInt.value) (take (before (g.R.IntShapeResource.shapes l.source) l.shape) (g.R.IntShapeResource.paths l.source)))
 
 -- And those before this place in it.
 abbrev pub invariant-loop-index : goal.invariant-loop-index
-invariant-loop-index g l = All (All (LiesWithin (bounds_of g.I.OverlayInt.value l.around)))
+invariant-loop-index g l = All (All (g.W.Side.reaches (g.I.OverlayInt.value l.reach)))
     (map (points_of g.I.OverlayInt.value) (take (before (g.R.IntShapeResource.shapes l.source) l.shape + l.index) (g.R.IntShapeResource.paths l.source)))

@@ -1,0 +1,7 @@
+use Rattle.polygon_overlay.proofs.PointBoxLaws.{through}
+use Rattle.polygon_overlay.proofs.relate.reach.ToLeftSide.farther.Goals as goal
+
+pub returns-clause-kept : goal.returns-clause-kept
+returns-clause-kept g c = λ p h.
+    let value = g.I.OverlayInt.value in
+    through (value c.lesser.result) (value c.args.reach) p.x c.lesser.ensures.first h
