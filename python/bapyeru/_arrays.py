@@ -254,7 +254,7 @@ class Sizable(Contours):
     def __init__(self, given, amounts, name):
         super().__init__(given, name)
         reach = max(map(abs, amounts))
-        if len(self.points) and self.points._type_ is Point and not are_narrow((min(self.points) - reach, max(self.points) + reach)):
+        if self.points._type_ is Point and not are_narrow((min(self.points, default=0) - reach, max(self.points, default=0) + reach)):
             self.points = (Point64 * len(self.points))(*self.points)
 
     def fault(self, status):

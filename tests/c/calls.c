@@ -706,6 +706,71 @@ static void sized(void) {
     test(polygon_sized(&bar, &ones, &query, &answer) == POLYGON_C_ROOM && are_sizes(answer.sizes, 4, 1, 1) && is_left(&room, 0, 0, 0, 0), "no room for a bar");
 }
 
+/* Whether contours are sized so twice: to these shapes of one contour each. */
+static int is_sized_in_turn(const polygon_c_contours *contours, polygon_c_sizing first, polygon_c_sizing second, const polygon_c_point *wanted, size_t shapes) {
+    polygon_c_query query = query_of(POLYGON_C_CLIP, POLYGON_C_NONZERO);
+    const size_t points = 4 * shapes;
+    Room room;
+    polygon_c_shapes answer = with_room(&room, LENGTH(room.points), LENGTH(room.contours), LENGTH(room.shapes));
+    return polygon_sized_in_turn(contours, &first, &second, &query, &answer) == POLYGON_C_OK && are_sizes(answer.sizes, points, shapes, shapes) &&
+           !memcmp(room.points, wanted, points * sizeof *wanted) && is_left(&room, points, shapes, shapes, 0);
+}
+
+static int is_unsized_in_turn(uint32_t status, polygon_c_contours contours, polygon_c_sizing first, polygon_c_sizing second, polygon_c_query query) {
+    Room room;
+    polygon_c_shapes answer = with_room(&room, LENGTH(room.points), LENGTH(room.contours), LENGTH(room.shapes));
+    return polygon_sized_in_turn(&contours, &first, &second, &query, &answer) == status && are_sizes(answer.sizes, 12345, 12345, 12345) &&
+           is_left(&room, 0, 0, 0, 0);
+}
+
+static void sized_in_turn(void) {
+    static const polygon_c_point NEAR[] = {{0, 0}, {10, 0}, {10, 10}, {0, 10}, {14, 0}, {24, 0}, {24, 10}, {14, 10}};
+    static const polygon_c_point CLOSED[] = {{0, 10}, {0, 0}, {24, 0}, {24, 10}}, MOVED[] = {{1, 12}, {1, 3}, {12, 3}, {12, 12}};
+    static const polygon_c_point APART[] = {{0, 10}, {0, 0}, {10, 0}, {10, 10}, {14, 10}, {14, 0}, {24, 0}, {24, 10}};
+    static const polygon_c_point KITE[] = {{0, 0}, {10, 0}, {11, 10}, {0, 10}};
+    const polygon_c_contours near = {NEAR, 8, FOURS, 2}, kite = {KITE, 4, FOURS, 1};
+    const polygon_c_sizing ones = {1, 1, 1, 1}, twos = {2, 2, 2, 2}, less = {-1, -1, -1, -1}, least = {-2, -2, -2, -2}, five = {-5, -5, -5, -5};
+    const polygon_c_sizing four = {1, 2, 0, 4}, back = {-2, 0, -3, -2}, most = {0, 524276, 0, 0}, gone = {0, 524277, 0, 0}, wide = {0, 0, INT32_MIN, 0};
+    polygon_c_query query = query_of(POLYGON_C_SUBJECT, POLYGON_C_NONZERO), other = query;
+    polygon_c_shapes answer;
+    Room room;
+
+    test(is_sized_in_turn(&near, twos, least, CLOSED, 1) && is_sized_in_turn(&near, ones, less, APART, 2), "a gap that is closed, and one that isn't");
+    test(is_sized_in_turn(&near, less, ones, APART, 2) && is_sized_in_turn(&near, five, twos, CLOSED, 0), "squares that are opened, and gone");
+    test(is_sized_in_turn(&ONE, four, back, MOVED, 1) && is_sized_in_turn(&NONE, gone, wide, MOVED, 0), "four amounts each, and nothing sized");
+    test(is_unsized_in_turn(POLYGON_C_RANGE, ONE, gone, ones, query) && is_unsized_in_turn(POLYGON_C_RANGE, ONE, ones, gone, query),
+         "a square that leaves the range at last");
+    test(is_unsized_in_turn(POLYGON_C_RANGE, ONE, wide, wide, query) && is_unsized_in_turn(POLYGON_C_RANGE, ONE, ones, wide, query),
+         "amounts at the ends of 32 bits, twice");
+    test(is_unsized_in_turn(POLYGON_C_SLANT, kite, ones, wide, query), "an edge that slants, before a far second move");
+    other.precision = 9;
+    test(is_unsized_in_turn(POLYGON_C_PRECISION, kite, ones, ones, other), "a precision, before an edge that slants");
+    answer = with_room(&room, 7, 6, 5);
+    test(polygon_sized_in_turn(&near, &ones, &less, &query, &answer) == POLYGON_C_ROOM && are_sizes(answer.sizes, 8, 2, 2) && is_left(&room, 0, 0, 0, 0),
+         "no room for two squares");
+    answer = with_room(&room, 24, 6, 5);
+    test(polygon_sized_in_turn(&ONE, &most, &ones, &query, &answer) == POLYGON_C_OK && room.points[2].x == 524287,
+         "a square up to the end of the range in turn");
+}
+
+static void far_sized_in_turn(void) {
+    static const polygon_c_point64 KITE[] = {{0, 0}, {GREATEST, 0}, {GREATEST, 10}, {1, 10}};
+    const polygon_c_contours64 kite = {KITE, 4, FOURS, 1};
+    const polygon_c_sizing64 grown = {1, 2, 3, 4}, shrunk = {-1, -2, -3, -4}, most = {INT64_MIN, 0, 0, INT64_MAX}, far = {0, GREATEST - 7, 0, 0};
+    polygon_c_query query = query_of(POLYGON_C_SUBJECT, POLYGON_C_NONZERO);
+    Room64 room;
+    polygon_c_shapes64 answer = in_room(&room);
+    test(polygon_sized_in_turn64(&SMALL, &grown, &shrunk, &query, &answer) == POLYGON_C_OK && are_sizes(answer.sizes, 4, 1, 1) &&
+             is_at(room.points[0], 3, 7) && is_at(room.points[1], 3, 3) && is_at(room.points[2], 7, 3),
+         "a well grown and shrunk");
+    answer = in_room(&room);
+    test(polygon_sized_in_turn64(&SMALL, &grown, &far, &query, &answer) == POLYGON_C_RANGE64 &&
+             polygon_sized_in_turn64(&SMALL, &most, &most, &query, &answer) == POLYGON_C_RANGE64 && is_untouched(&room),
+         "a well grown by too much in turn");
+    answer = in_room(&room);
+    test(polygon_sized_in_turn64(&kite, &grown, &shrunk, &query, &answer) == POLYGON_C_SLANT && is_untouched(&room), "a far edge that slants, sized twice");
+}
+
 static void far_sized(void) {
     static const polygon_c_point64 KITE[] = {{0, 0}, {GREATEST, 0}, {GREATEST, 10}, {1, 10}};
     const polygon_c_contours64 kite = {KITE, 4, FOURS, 1};
@@ -764,6 +829,26 @@ static void checked(void) {
         test(is_unchecked(checks[at], POLYGON_C_RANGE, ONE, 524278), "a square that is moved too far");
         test(is_unchecked(checks[at], POLYGON_C_SLANT, kite, 1) && is_unchecked(checks[at], POLYGON_C_SLANT, kite, 0), "an edge that slants, before a side");
     }
+}
+
+static void far_checked(void) {
+    static const polygon_c_point64 KITE[] = {{0, 0}, {GREATEST, 0}, {GREATEST, 10}, {1, 10}};
+    const polygon_c_contours64 kite = {KITE, 4, FOURS, 1};
+    polygon_c_query query = query_of(POLYGON_C_SUBJECT, POLYGON_C_NONZERO);
+    Room64 room;
+    polygon_c_shapes64 answer = in_room(&room);
+    test(polygon_width64(&SMALL, 5, &query, &answer) == POLYGON_C_OK && are_sizes(answer.sizes, 4, 1, 1) && is_at(room.points[0], 3, 7) &&
+             is_at(room.points[1], 3, 3) && is_at(room.points[2], 7, 3),
+         "the width of a well");
+    answer = in_room(&room);
+    test(polygon_width64(&SMALL, 4, &query, &answer) == POLYGON_C_OK && are_sizes(answer.sizes, 0, 0, 0), "its width, and no more");
+    answer = in_room(&room);
+    test(polygon_space64(&SMALL, 1000, &query, &answer) == POLYGON_C_OK && are_sizes(answer.sizes, 0, 0, 0), "the space round a well");
+    answer = in_room(&room);
+    test(polygon_width64(&SMALL, 0, &query, &answer) == POLYGON_C_RANGE64 && polygon_space64(&SMALL, INT64_MIN, &query, &answer) == POLYGON_C_RANGE64 &&
+             polygon_space64(&ALL, 1, &query, &answer) == POLYGON_C_RANGE64 && is_untouched(&room),
+         "sides out of range, of 64 bits");
+    test(polygon_width64(&kite, 1, &query, &answer) == POLYGON_C_SLANT && is_untouched(&room), "a far edge that slants, checked");
 }
 
 static void simplified(void) {
@@ -865,6 +950,13 @@ static uint32_t by_sized(Room *room) {
     polygon_c_query query = query_of(POLYGON_C_SUBJECT, POLYGON_C_NONZERO);
     polygon_c_shapes answer = with_room(room, 24, 6, 5);
     return polygon_sized(&TWO, &ones, &query, &answer);
+}
+
+static uint32_t by_sized_in_turn(Room *room) {
+    const polygon_c_sizing ones = {1, 1, 1, 1}, less = {-1, -1, -1, -1};
+    polygon_c_query query = query_of(POLYGON_C_SUBJECT, POLYGON_C_NONZERO);
+    polygon_c_shapes answer = with_room(room, 24, 6, 5);
+    return polygon_sized_in_turn(&TWO, &ones, &less, &query, &answer);
 }
 
 static uint32_t by_width(Room *room) {
@@ -984,7 +1076,10 @@ int main(int count, char **words) {
     far_places();
     sized();
     far_sized();
+    sized_in_turn();
+    far_sized_in_turn();
     checked();
+    far_checked();
     simplified();
     texts();
     refusals(by_overlay, "an overlay without memory");
@@ -994,6 +1089,7 @@ int main(int count, char **words) {
     refusals(by_slice, "a slice without memory");
     refusals(by_clip, "a clip without memory");
     refusals(by_sized, "sizing without memory");
+    refusals(by_sized_in_turn, "sizing twice without memory");
     refusals(by_width, "a check without memory");
     refusals(by_relate, "relations without memory");
     refusals(by_places, "points without memory");

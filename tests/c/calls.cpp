@@ -92,6 +92,11 @@ void others() {
     test(same(clip(PARCEL, road), Contours{{{5, 0}, {5, 10}}}) && clip(PARCEL, road, outside).size() == 2, "a road, inside and outside");
     test(same(sized(PARCEL, {1, 2, 3, 4}), Shapes{Contours{{{-1, 14}, {-1, -3}, {12, -3}, {12, 14}}}}), "a parcel grown");
     test(same(sized(HOLED, {2, 2, 2, 2}), Shapes{Contours{{{-2, 12}, {-2, -2}, {12, -2}, {12, 12}}}}) && sized(PARCEL, {-5, -5, 0, 0}).empty(), "none left");
+    const Contours near = {PARCEL[0], box(14, 0, 24, 10)};
+    test(same(sized_in_turn(near, {2, 2, 2, 2}, {-2, -2, -2, -2}), Shapes{Contours{{{0, 10}, {0, 0}, {24, 0}, {24, 10}}}}), "a gap closed");
+    test(sized_in_turn(near, {-5, -5, 0, 0}, {5, 5, 0, 0}).empty(), "nothing left to grow");
+    test(same(space_errors(near, 5), Shapes{Contours{{{10, 10}, {10, 0}, {14, 0}, {14, 10}}}}) && space_errors(near, 4).empty(), "a gap");
+    test(same(width_errors(near, 11), overlay(near, Contours(), Query(POLYGON_C_SUBJECT))) && width_errors(near, 10).empty(), "widths");
     test(relate(POND, PARCEL).within == 1 && relate(PARCEL, POND).within == 0, "relations");
     test(contains_points({HOLED}, {{1, 1}, {5, 5}, {20, 0}}) == std::vector<bool>({true, false, false}), "points");
     test(contains_points(Shapes(), std::vector<Point>()).empty(), "no points");
@@ -108,6 +113,9 @@ void refusals() {
     test(thrown<OutOfRange>([&] { slice({box(0, 0, 1 << 19, 1)}, POND); }) == POLYGON_C_RANGE, "a far point");
     test(thrown<Unfit>([&] { sized({{{0, 0}, {10, 0}, {0, 10}}}, {1, 1, 1, 1}); }) == POLYGON_C_SLANT, "an edge that slants");
     test(thrown<OutOfRange>([&] { sized(PARCEL, {0, 1 << 19, 0, 0}); }) == POLYGON_C_RANGE, "a parcel grown too far");
+    test(thrown<OutOfRange>([&] { sized_in_turn(PARCEL, {0, 1 << 18, 0, 0}, {0, 1 << 18, 0, 0}); }) == POLYGON_C_RANGE, "a parcel grown too far in turn");
+    test(thrown<OutOfRange>([&] { width_errors(PARCEL, 0); }) == POLYGON_C_RANGE, "a width of 0");
+    test(thrown<Unfit>([&] { space_errors({{{0, 0}, {10, 0}, {0, 10}}}, 1); }) == POLYGON_C_SLANT, "an edge that slants, checked");
     test(thrown<OutOfRange>([&] { contains_points({HOLED}, {{0, -524289}}); }) == POLYGON_C_RANGE, "a far point that is asked for");
     test(thrown<Unknown>([] { flat::check(POLYGON_C_SIZE); }) == POLYGON_C_SIZE, "a size");
     test(thrown<OutOfRange>([&] { doubled_area({{{0, 1 << 19}}}); }) == POLYGON_C_RANGE, "a far corner");

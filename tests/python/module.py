@@ -137,7 +137,34 @@ def sizes():
     tell("lengths of what is sized", is_refused(bapyeru.Unfit, 8, sized, bapyeru.Flat(CORNERS, [3]), 1))
     for value in (*NO_INTEGERS, (1, 2, 3), (1, 2, 3, 4, 5), (1, 2, 3, 4.0), (), {1, 2, 3, 4}):
         tell(f"{value!r} as amounts", is_type_error(sized, PARCEL, value))
+    then = lambda given, by, back: sized(given, by, then=back)
+    tell("a gap that is closed, and one that isn't", then(near, 2, -2) == whole(0, 0, 24, 10) and then(near, 1, -1) == bapyeru.overlay(near))
+    tell("a bar that is opened, and gone", then(bar, -1, 1) == whole(0, 0, 4, 20) and then(bar, -2, 2) == [])
+    tell("amounts that are exchanged", then(PARCEL, (1, 2, 0, 0), (-2, -1, 0, 0)) == whole(1, 0, 11, 10))
+    tell("a top that stays", then(PARCEL, 5, (-5, -5, -5, 0)) == whole(0, 0, 10, 15))
+    twice = ((1, -1), (-1, 1), (1, 1), ((3, 0, -2, 1), (0, -2, 1, 1)))
+    tell("sized twice as by two calls", all(then(holed, *it) == sized(sized(holed, it[0])[0], it[1]) for it in twice))
+    tell("sized twice by no amount, and nothing", then(PARCEL, 0, 0) == bapyeru.overlay(PARCEL) and then([], 2**70, -(2**70)) == then([[]], 5, 5) == [])
+    tell("fills and options of both", sized([*PARCEL, *PARCEL], 1, "evenodd", then=-1) == [] and sized(PARCEL, 1, then=1, clockwise=True)[0][0][1] == (-2, 12))
+    tell("flat and sized twice", unlaid(sized(bapyeru.Flat(array.array("i", CORNERS), [4]), 1, then=1, flat=True)) == whole(-2, -2, 12, 12))
+    tell("beyond what is narrow, and back", then(PARCEL, 2**19, -(2**19)) == bapyeru.overlay(PARCEL))
+    tell("to the end of the range in turn", then(PARCEL, far - 20, 10) == whole(10 - far, 10 - far, far, far))
+    tell("out of range in turn", all(is_refused(bapyeru.OutOfRange, 12, then, PARCEL, *it) for it in ((far - 20, 11), (0, far - 9), (-(2**80), 0))))
+    tell("an edge that slants, sized twice", is_refused(bapyeru.Unfit, 14, then, [*PARCEL, [(0, 0), (9, 0), (0, 9)]], 1, 1))
+    for value in (*[it for it in NO_INTEGERS if it is not None], (1, 2, 3), (1, 2, 3, 4.0)):
+        tell(f"{value!r} as amounts in turn", is_type_error(then, PARCEL, 1, value))
     width, space = bapyeru.width_errors, bapyeru.space_errors
+    corner, frame = [*PARCEL, box(11, 11, 20, 20)], [*PARCEL, box(4, 4, 6, 6)]
+    tell("corners that face each other", space(corner, 9) == width([*PARCEL, box(10, 10, 20, 20)], 9) == [])
+    tell("the width of a frame, by fill", width(frame, 5) == [] and len(width(frame, 5, "evenodd")[0]) == 2)
+    tell("the space in a frame, by fill", space(frame, 3) == [] and space(frame, 3, "evenodd") == whole(4, 4, 6, 6))
+    tell("a check of nothing", width([], 1) == space([[]], 2**20) == [])
+    for check in (width, space):
+        tell(f"{check.__name__} of nothing, by 0", is_refused(bapyeru.OutOfRange, 9, check, [], 0))
+        tell(f"{check.__name__} of nothing, far below 0", is_refused(bapyeru.OutOfRange, 12, check, [], 5 - 2**33))
+        tell(f"{check.__name__}, flat", unlaid(check(bapyeru.Flat(array.array("i", CORNERS), [4]), 10, flat=True)) == [])
+        for value in (*NO_INTEGERS, (1, 2)):
+            tell(f"{value!r} as a side", is_type_error(check, PARCEL, value))
     tell("the width of a bar", width(bar, 4) == [] and width(bar, 5) == whole(0, 0, 4, 20))
     tell("the space between two masks", space(near, 4) == [] and space(near, 5) == whole(10, 0, 14, 10))
     tell("a side of 1", width(holed, 1) == space(holed, 1) == [] and space(holed, 2) == whole(4, 4, 5, 5))

@@ -39,6 +39,7 @@ mod simplify;
 mod sizing;
 mod stretches;
 mod tiles;
+mod widths;
 mod words;
 
 const SOLVERS: [Solver; 4] = [Solver::LIST, Solver::TREE, Solver::FRAG, Solver::AUTO];
