@@ -103,6 +103,14 @@ class Grid:
         self.boxes = [(x0, y0, x1, y1) for (x0, x1), ys in zip(itertools.pairwise(xs), columns) for y0, y1 in itertools.pairwise(ys)]
         whole = (xs[0], min(ys[0] for ys in columns), xs[-1], max(ys[-1] for ys in columns)) if columns else (0, 0, 0, 0)
         self.is_moved = min(whole) < limits[0] or max(whole) > limits[1]
+        self.reach = 0  # (how much further than a tile its contours are clamped)
+
+    def grown(self, reach, limits):
+        """The same grid, of which the outermost tiles go further by as much; and each asks for contours that far beyond it."""
+        xs = [self.xs[0] - reach, *self.xs[1:-1], self.xs[-1] + reach]
+        grid = Grid(xs, [[ys[0] - reach, *ys[1:-1], ys[-1] + reach] for ys in self.columns], limits)
+        grid.is_moved, grid.reach = self.is_moved, reach
+        return grid
 
     def move(self, tile):
         """What is taken from the coordinates of a tile before it is asked."""
@@ -125,6 +133,14 @@ def widest_of(limits):
 def most_parts(least, greatest, parts, widest):
     """As many parts as there are at most, where each of so many is cut until none is too wide."""
     return min(parts, greatest - least) + (greatest - least) // widest
+
+
+def limits_within(limits, reach):
+    """Limits of tiles that stay in these with all that is asked of them, where it reaches so far and sides go outward as far again."""
+    least, greatest = limits[0] + 3 * reach, limits[1] - 3 * reach
+    if least >= greatest:
+        raise Refused(f"sides that move by {reach} in all are too much for the program's range")
+    return least, greatest
 
 
 def refuse_more(tiles, box):

@@ -113,7 +113,9 @@ class Split:
     def take(self, number, line, word, xs, ys):
         """Lays a contour, whose line has this number, in all tiles that it reaches."""
         self.number, self.line, self.word = number, line, word
-        if is_box(xs):
+        if self.grid.reach:
+            self.take_near(xs, ys)
+        elif is_box(xs):
             self.take_box(xs, ys)
         else:
             self.halve(xs, ys, True)
@@ -133,6 +135,17 @@ class Split:
                 bottom, top = max(y0, cuts[row]), min(y1, cuts[row + 1])
                 is_whole = len(columns) == len(rows) == 1
                 self.lay(grid.first[column] + row, xs_here, [bottom if y == y0 else top for y in ys], is_whole)
+
+    def take_near(self, xs, ys):
+        """A contour in each tile that it comes near, clamped into the tile and what is that near to it."""
+        grid, reach = self.grid, self.grid.reach
+        for column in reached_near(grid.xs, min(xs), max(xs), reach):
+            cuts, left, right = grid.columns[column], grid.xs[column] - reach, grid.xs[column + 1] + reach
+            for row in reached_near(cuts, min(ys), max(ys), reach):
+                bottom, top = cuts[row] - reach, cuts[row + 1] + reach
+                found = thinned([min(max(x, left), right) for x in xs], [min(max(y, bottom), top) for y in ys])
+                if found[0]:
+                    self.lay(grid.first[column] + row, *found, False)
 
     def halve(self, xs, ys, is_whole):
         """A contour, halved by columns."""
@@ -178,6 +191,12 @@ class Split:
 def reached(cuts, least, greatest):
     """The first of the parts between cuts that a stretch reaches into, and the end of these parts."""
     return bisect.bisect_right(cuts, least) - 1, bisect.bisect_left(cuts, greatest)
+
+
+def reached_near(cuts, least, greatest, reach):
+    """The parts between cuts that a stretch comes so near."""
+    first, end = reached(cuts, least - reach, greatest + reach)
+    return range(max(first, 0), min(end, len(cuts) - 1))
 
 
 def split_part(path, begin, end, grid, cuts, kept):

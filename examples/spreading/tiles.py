@@ -13,7 +13,7 @@ import sys
 import time
 
 from .engines import Job, Pieces, Progress, in_turn, memory_told
-from .grid import Counts, even_grid, joint_box, weighed_grid
+from .grid import Counts, even_grid, joint_box, limits_within, weighed_grid
 from .levels import Levels, answered
 from .look import Given
 from .script import Refused, overlay_of, parts_of, write_taken
@@ -109,7 +109,7 @@ class Tile:
 def split_script(script, parts, grid, folder, pool, progress, processes):
     """What is asked of each tile that has something."""
     tiles = [Tile() for _ in grid.boxes]
-    cuts = hashlib.sha256(json.dumps([grid.xs, grid.columns, grid.is_moved]).encode()).hexdigest()
+    cuts = hashlib.sha256(json.dumps([grid.xs, grid.columns, grid.is_moved, grid.reach]).encode()).hexdigest()
     kept = [f"{folder}/{number}.part" for number in range(len(parts))]
     asked = itertools.repeat(script), *zip(*parts), itertools.repeat(grid), itertools.repeat(cuts), kept
     for (begin, end), path, rows in zip(parts, kept, in_turn(pool, 2 * processes, split_part, *asked)):
@@ -135,7 +135,15 @@ def lines_of(number, parts, folder):
 # ---- tiles and strips
 
 
-def tile_jobs(tiles, grid, overlay, folder, is_cut):
+def asked_of(number, grid, overlay, change):
+    """What a tile is asked: the overlay, and what becomes of the mask that it makes."""
+    if change is None:
+        return overlay
+    (x0, y0, x1, y1), (x, y) = grid.boxes[number], grid.move(number)
+    return b"\n".join([b"tile %d %d %d %d" % (x0 - x, y0 - y, x1 - x, y1 - y), *change.lines(), overlay])
+
+
+def tile_jobs(tiles, grid, overlay, folder, is_cut, change):
     """The job of each tile. Its borders are open where another tile stands beyond."""
     clockwise, jobs = b" cw " in overlay, []
     for number, tile in tiles.items():
@@ -145,7 +153,7 @@ def tile_jobs(tiles, grid, overlay, folder, is_cut):
         xs = (x0 if column else None, x1 if column < len(grid.columns) - 1 else None)
         ys = (y0 if row else None, y1 if row < len(rows) - 2 else None)
         given = Given(clockwise, grid.move(number)) if is_cut else Given(clockwise, grid.move(number), xs, ys)
-        jobs.append(Job(f"{folder}/{number}.answer", tile.pieces, overlay, tile.contours, given, tile.points))
+        jobs.append(Job(f"{folder}/{number}.answer", tile.pieces, asked_of(number, grid, overlay, change), tile.contours, given, tile.points))
     return jobs
 
 
@@ -179,14 +187,17 @@ def spread_tiles(options, script, folder, pool, told):
     times.append(time.monotonic())
     tiles, files, grid = {}, [], None
     if box is not None and box[0] < box[2] and box[1] < box[3]:
+        reach = options.change.reach() if options.change else 0
+        limits = limits_within(options.limits, reach)
         if options.tiles is None:
-            grid = weighed_grid(counts, options.tile_edges, options.limits)
+            grid = weighed_grid(counts, options.tile_edges, limits)
         else:
-            grid = even_grid(box, *options.tiles, options.limits)
+            grid = even_grid(box, *options.tiles, limits)
+        grid = grid.grown(reach, options.limits) if reach else grid
         tiles = split_script(script, parts, grid, folder / "parts", pool, progress, options.processes)
     times.append(time.monotonic())
     if tiles:
-        jobs = tile_jobs(tiles, grid, overlay, folder / "tiles", options.cut)
+        jobs = tile_jobs(tiles, grid, overlay, folder / "tiles", options.cut, options.change)
         number_of = dict(zip((job.answer for job in jobs), tiles))
 
         def fault(job):

@@ -162,6 +162,86 @@ def test_drawn(tell, spread, ask, program, compared):
         tell(f"tiles: drawn mask {seed}", spread(program, script, *tiles).stdout == wanted == turned(ask, script))
 
 
+# ---- sizes and checks, reckoned by unit squares
+
+
+def cells_of(shapes):
+    """The unit squares that shapes cover."""
+    falls, cells = collections.Counter(), set()
+    for points in (points for shape in shapes for points in shape):
+        for (x, y), (_, v) in zip(points, points[1:] + points[:1]):
+            for row in range(min(y, v), max(y, v)):
+                falls[row, x] += 1 if v < y else -1
+    count, before = 0, None
+    for (row, x), fall in sorted(falls.items()):
+        if count:
+            cells.update((k, row) for k in range(before, x))
+        count, before = count + fall, x
+    return cells
+
+
+def sized_cells(cells, amounts):
+    """Those from which some in reach is there, or where the amounts sum to less than 0 all are: by rows, and then by columns."""
+    for (back, on), (dx, dy) in ((amounts[:2], (1, 0)), (amounts[2:], (0, 1))):
+        if back + on >= 0:
+            cells = {(x + k * dx, y + k * dy) for x, y in cells for k in range(-back, on + 1)}
+        else:
+            places = {(x - back * dx, y - back * dy) for x, y in cells}
+            cells = {(x, y) for x, y in places if all((x + k * dx, y + k * dy) in cells for k in range(back, 1 - on))}
+    return cells
+
+
+def uncovered(cells, side):
+    """Those that no square of a side in them covers."""
+    square = [(x, y) for x in range(side) for y in range(side)]
+    whole = [(x, y) for x, y in cells if all((x + u, y + v) in cells for u, v in square)]
+    return cells - {(x + u, y + v) for x, y in whole for u, v in square}
+
+
+def outside(cells, side):
+    """All others that a square of a side may cover which reaches what lies between them."""
+    xs, ys = [x for x, _ in cells] or [0], [y for _, y in cells] or [0]
+    return {(x, y) for x in range(min(xs) - side, max(xs) + side + 1) for y in range(min(ys) - side, max(ys) + side + 1)} - cells
+
+
+def drawn_change(dice):
+    """Options of a size, of two, of a width or of a space, and what they make of unit squares."""
+    kind, side = dice.randrange(4), dice.randint(1, 5)
+    if kind == 0:
+        return [f"--width={side}"], lambda cells: uncovered(cells, side)
+    if kind == 1:
+        return [f"--space={side}"], lambda cells: uncovered(outside(cells, side), side)
+    first, second = ([dice.randint(-3, 3) for _ in range(4)] for _ in range(2))
+    second = [-amount for amount in first] if dice.random() < 0.5 else second
+    told = [f"--size={','.join(map(str, amounts))}" for amounts in (first, second)]
+    return told[: kind - 1], lambda cells: sized_cells(cells, first) if kind == 2 else sized_cells(sized_cells(cells, first), second)
+
+
+def test_sizes(tell, spread, ask, program):
+    """Masks sized and checked by tiles are those that unit squares tell, handed back."""
+    filled = 0
+    for seed in range(60):
+        dice, script = random.Random(-seed), drawn_mask(seed)
+        options, change = drawn_change(dice)
+        tiles = ("--tiles", f"{dice.randint(1, 4)},{dice.randint(1, 4)}") if seed % 5 else ("--tile-edges", "20")
+        direction = b"cw" if b" cw " in script else b"ccw"
+        cells = change(cells_of(contours_of(ask(script))))
+        squares_of = b"".join(contour(b"subject", box(x, y, 1, 1)) for x, y in sorted(cells))
+        wanted = contours_of(handed_back(ask, squares_of + LEVEL % (b"subject", b"nonzero", direction)))
+        filled += bool(wanted)
+        told = spread(program, script, *tiles, *options)
+        tell(f"tiles: mask {seed} by {' '.join(options)}", told.stdout == written(wanted, len(script.splitlines()) - 1), told.stderr.decode())
+        if seed % 20 == 0:
+            far = spread(program, moved(script, 3000000, -2000000), *tiles, *options).stdout
+            tell(f"tiles: mask {seed} so, beyond the range", far == moved_answer(told.stdout, 3000000, -2000000))
+    tell("tiles: half of what is sized is there", filled >= 30, f"{filled}")
+    script, tiles = drawn_mask(0), ("--tiles", "2,2")
+    for words in (("--size", "1"), (*tiles, "--size", "1,2"), (*tiles, "--width", "0"), (*tiles, "--size", "1", "--space", "2"), (*tiles, "--size=1.0")):
+        tell(f"tiles: no such call: {' '.join(words)}", spread(program, script, *words).returncode == 2)
+    told = spread(program, script, *tiles, "--size", "200000")
+    tell("tiles: sides that move too far", told.returncode == 1 and b"too much for the program's range" in told.stderr, told.stderr.decode())
+
+
 def test_levels(tell, spread, ask, program):
     """Tiles that are united two by two, and some more together."""
     script = chip(4000, b"union")
