@@ -18,7 +18,7 @@ use Rattle.polygon_overlay.specs.SizingCalls.{AreSized, IsNotSized}
 use Rattle.polygon_overlay.specs.Views.{points_of}
 use Rattle.uses.specs.Rules.{IsMask, CanBeEnclosed, AreEnclosureErrors, AreRest, AreNoEnclosures, of_grown, of_rest}
 use Rattle.uses.proofs.Contours.{same_contours}
-use Rattle.uses.proofs.Rules.Answers.{are_enclosure_errors}
+use Rattle.uses.proofs.Rules.Errors.{are_enclosure_errors}
 
 pub if_answered : {T E : Type 0} {P Q : T → Type 0} (r : Result T E) → ((t : T) → P t → Q t) → IfOk r P → IfOk r Q
 if_answered (Ok t) f h = f t h
