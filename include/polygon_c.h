@@ -48,7 +48,7 @@ enum {
     POLYGON_C_SIZE = 11,     /* a query has more words than the library knows: that is older than the header */
     POLYGON_C_RANGE64 = 12,  /* a coordinate is not from -68719476736 to 68719476735: see polygon_c64.h */
     POLYGON_C_JOIN = 13,     /* no join has this number, or numbers that are to be kept differ: see polygon_overlay_edges */
-    POLYGON_C_SLANT = 14     /* an edge is neither level nor upright: see polygon_sized, polygon_width */
+    POLYGON_C_SLANT = 14     /* an edge is neither horizontal nor vertical: see polygon_sized, polygon_width */
 };
 
 /* The version that this header is of: a million times its first number, a thousand times its second, and its third. */
@@ -447,12 +447,12 @@ static inline uint32_t polygon_clip(const polygon_c_contours *shape, const polyg
 }
 
 /*
- * Grows or shrinks what contours fill, of which each edge is level or upright: `by` says how far left sides move to the left, right sides to the
+ * Grows or shrinks what contours fill, of which each edge is horizontal or vertical: `by` says how far left sides move to the left, right sides to the
  * right, bottoms down and tops up, first in x and then in y, and inward where it is below 0. What is shrunk by as much as it is wide is gone, and gaps
- * and holes that are grown over are filled. The shapes are answered as polygon_overlay answers them, with level and upright edges. Of the query it reads
+ * and holes that are grown over are filled. The shapes are answered as polygon_overlay answers them, with horizontal and vertical edges. Of the query it reads
  * all but the rule and what is of lines; all its numbers are tested.
  *
- * After POLYGON_C_RANGE it tells POLYGON_C_SLANT, where an edge is neither level nor upright, and then POLYGON_C_RANGE again, where a point that is moved
+ * After POLYGON_C_RANGE it tells POLYGON_C_SLANT, where an edge is neither horizontal nor vertical, and then POLYGON_C_RANGE again, where a point that is moved
  * back by one amount, or on by the other, would be out of range, in x or in y.
  */
 static inline uint32_t polygon_sized(const polygon_c_contours *contours, const polygon_c_sizing *by, const polygon_c_query *query,
@@ -490,11 +490,11 @@ static inline uint32_t polygon_sized_in_turn(const polygon_c_contours *contours,
 }
 
 /*
- * What of contours, of which each edge is level or upright, is narrower than a width: each point of what they fill that no square of this width in it
- * covers, wherever the square stands. The shapes are answered as polygon_overlay answers them, with level and upright edges. Corners that face each
+ * What of contours, of which each edge is horizontal or vertical, is narrower than a width: each point of what they fill that no square of this width in it
+ * covers, wherever the square stands. The shapes are answered as polygon_overlay answers them, with horizontal and vertical edges. Corners that face each
  * other diagonally are told nowhere, however near they are. Of the query it reads all but the rule and what is of lines; all its numbers are tested.
  *
- * After POLYGON_C_RANGE it tells POLYGON_C_SLANT, where an edge is neither level nor upright, and then POLYGON_C_RANGE again, where the width is below 1,
+ * After POLYGON_C_RANGE it tells POLYGON_C_SLANT, where an edge is neither horizontal nor vertical, and then POLYGON_C_RANGE again, where the width is below 1,
  * or it or a point that is moved by it would be out of range.
  */
 static inline uint32_t polygon_width(const polygon_c_contours *contours, int32_t width, const polygon_c_query *query,

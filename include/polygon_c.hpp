@@ -207,7 +207,7 @@ inline Contours clip(const Contours &shape, const Contours &lines, const Query &
     return flat::cut(room.all, room.of_contours);
 }
 
-// What contours of level and upright edges fill, grown or shrunk.
+// What contours of horizontal and vertical edges fill, grown or shrunk.
 inline Shapes sized(const Contours &contours, const Sizing &by, const Query &query = Query()) {
     const flat::Given one(contours);
     flat::Room room(one.points_len);

@@ -1,4 +1,4 @@
-"""Loops: the boundary of a region of level and upright edges, each place of which has one filled area on its left.
+"""Loops: the boundary of a region of horizontal and vertical edges, each place of which has one filled area on its left.
 
 Where two filled squares touch in a corner, four edges meet, and contours may pass there from the border of one area to that of another. A loop
 doesn't: it turns left there and stays with its area. So loops with the area on the left outside and loops round what isn't filled tell areas apart,

@@ -8,7 +8,7 @@ by all that sides move, and then
     width W, or space W     in their place: a check
     overlay ..              the overlay that makes the mask
 
-The mask is sized as the library does it: the upright steps of a region that winds once are moved, the region of that is made, and then its level steps are
+The mask is sized as the library does it: the vertical steps of a region that winds once are moved, the region of that is made, and then its horizontal steps are
 moved. What they fill by `positive` is the mask, sized. It is clamped into the tile, and answered by the direction of the overlay. So a mask that is sized once
 takes three runs and the last; a check takes them for two sizes, and the last is the difference of the mask and of what was shrunk and grown, or grown and shrunk.
 """
@@ -62,7 +62,7 @@ class Change:
 
 
 def moved(xs, ys, back, on):
-    """The points to which the upright steps of a contour are moved: those that run up by the one amount, those that run down back by the other."""
+    """The points to which the vertical steps of a contour are moved: those that run up by the one amount, those that run down back by the other."""
     found_xs, found_ys = [], []
     for x, y, v in zip(xs, ys, ys[1:] + ys[:1]):
         if y != v:
@@ -73,7 +73,7 @@ def moved(xs, ys, back, on):
 
 
 def moved_up(xs, ys, down, up):
-    """The same of level steps: tops run to the left, bottoms to the right."""
+    """The same of horizontal steps: tops run to the left, bottoms to the right."""
     found_ys, found_xs = moved(ys, xs, -up, -down)
     return found_xs, found_ys
 

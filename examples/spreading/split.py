@@ -1,4 +1,4 @@
-"""Splitting a map of level and upright edges: each contour goes to each tile that it reaches, with its points clamped into the tile.
+"""Splitting a map of horizontal and vertical edges: each contour goes to each tile that it reaches, with its points clamped into the tile.
 
 A contour in one tile goes there as it is, and one that is flat goes nowhere. Any other is halved at the middle border of those that it crosses,
 clamped into both halves, thinned and halved again: n log t for n points and t tiles. Parts of the script are split side by side. Each leaves one
@@ -14,14 +14,14 @@ import pathlib
 from .grid import FINENESS, Counts
 from .script import LONGEST, Wrong, contours_of, lines_in
 
-NOT_STRAIGHT = "has an edge that is neither level nor upright, from %d %d to %d %d; without --tiles such maps are spread by groups"
+NOT_STRAIGHT = "has an edge that is neither horizontal nor vertical, from %d %d to %d %d; without --tiles such maps are spread by groups"
 
 
 # ---- what is looked at before
 
 
 def is_straight(xs, ys):
-    """Whether each edge of a contour is level or upright."""
+    """Whether each edge of a contour is horizontal or vertical."""
     return not any(map(operator.and_, map(operator.ne, xs, xs[-1:] + xs), map(operator.ne, ys, ys[-1:] + ys)))
 
 
@@ -100,7 +100,7 @@ def lines_of(word, xs, ys):
 
 
 def is_box(xs):
-    """Whether a contour of level and upright edges with these x is a rectangle."""
+    """Whether a contour of horizontal and vertical edges with these x is a rectangle."""
     return len(xs) == 4 and (xs[0] == xs[1] != xs[2] == xs[3] or xs[3] == xs[0] != xs[1] == xs[2])
 
 

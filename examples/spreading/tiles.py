@@ -1,4 +1,4 @@
-"""The other way to part a map, for level and upright edges alone: tiles, answered one by one and united.
+"""The other way to part a map, for horizontal and vertical edges alone: tiles, answered one by one and united.
 
 First the script is read: its lines are looked at, and its points counted. Then it is split by tiles, each tile is answered, and what meets on
 borders is united: within each strip, which is a column of tiles, and then between strips. What is printed is what a second run prints to which the

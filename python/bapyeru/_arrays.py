@@ -249,7 +249,7 @@ class Contours:
 
 
 class Sizable(Contours):
-    """Contours that are to be sized by amounts, or checked for a side: with coordinates of 64 bits where points would leave the range of 32 when they are moved."""
+    """Contours that are to be sized by amounts, or checked for a side: with coordinates of 64 bits where points would leave the range of 32 when moved."""
 
     def __init__(self, given, amounts, name):
         super().__init__(given, name)
@@ -263,7 +263,7 @@ class Sizable(Contours):
         return f"a point of the {self.name}, moved" if status == RANGE64 else super().fault(status)
 
     def slanted(self):
-        """Where edges are that are neither level nor upright."""
+        """Where edges are that are neither horizontal nor vertical."""
         points, first = list(pairs(self.points, len(self.points) // 2)), 0
         for contour, length in enumerate(self.lengths):
             own = points[first : first + length]

@@ -163,7 +163,7 @@ class Unknown(Refused, ValueError):
 
 
 class Unfit(Refused, ValueError):
-    """Lengths don't sum to what they cut, numbers of edges that are to be kept differ, or an edge is neither level nor upright."""
+    """Lengths don't sum to what they cut, numbers of edges that are to be kept differ, or an edge is neither horizontal nor vertical."""
 
 
 class OutOfRange(Refused, ValueError):

@@ -261,8 +261,8 @@ def sized(
     **options: Any,
 ) -> FlatShapes: ...
 def sized(contours, by, fill="nonzero", *, then=None, flat=False, **options):
-    """The shapes of what contours fill, grown or shrunk by whole distances: first in x, then in y. Each edge that is given is level or upright, and so is each
-    that is answered. What is shrunk by as much as it is wide is gone, and gaps and holes that are grown over are filled.
+    """The shapes of what contours fill, grown or shrunk by whole distances: first in x, then in y. Each edge that is given is horizontal or vertical, and so
+    is each that is answered. What is shrunk by as much as it is wide is gone, and gaps and holes that are grown over are filled.
 
     Arguments:
         contours: a group.
@@ -270,8 +270,8 @@ def sized(contours, by, fill="nonzero", *, then=None, flat=False, **options):
         then: the same for what comes of that: so by 5 and then by -5 gaps narrower than 10 are closed, and the other way round what is narrower is gone.
         fill, flat, options: as of `overlay`.
 
-    A contour with an edge that is neither level nor upright is `Unfit`. Where a point that is moved by one of the amounts, and then by one of the second, would
-    be out of range, in x or in y, that is `OutOfRange`.
+    A contour with an edge that is neither horizontal nor vertical is `Unfit`. Where a point that is moved by one of the amounts, and then by one of the second,
+    would be out of range, in x or in y, that is `OutOfRange`.
     """
     amounts, query = _amounts(by, "by"), _query("subject", fill, options)
     if then is None:
@@ -296,15 +296,15 @@ def width_errors(contours: Contours, width: int, fill: str = "nonzero", *, flat:
 def width_errors(contours: Contours, width: int, fill: str = "nonzero", *, flat: Literal[True], **options: Any) -> FlatShapes: ...
 def width_errors(contours, width, fill="nonzero", *, flat=False, **options):
     """The shapes of what of contours is narrower than a width: each point of what they fill that no square of this width in it covers, wherever the square
-    stands. Each edge is level or upright. Of two corners that face each other diagonally nothing is told, however near they are.
+    stands. Each edge is horizontal or vertical. Of two corners that face each other diagonally nothing is told, however near they are.
 
     Arguments:
         contours: a group.
         width: a whole number, 1 or more.
         fill, flat, options: as of `overlay`.
 
-    A contour with an edge that is neither level nor upright is `Unfit`. A width below 1, or one by which a point would be moved out of range, in x or in y, is
-    `OutOfRange`.
+    A contour with an edge that is neither horizontal nor vertical is `Unfit`. A width below 1, or one by which a point would be moved out of range, in x or in y,
+    is `OutOfRange`.
     """
     return _checked("polygon_c_width", contours, _arrays.integer(width, "width"), _query("subject", fill, options), flat)
 
@@ -314,8 +314,8 @@ def space_errors(contours: Contours, space: int, fill: str = "nonzero", *, flat:
 @overload
 def space_errors(contours: Contours, space: int, fill: str = "nonzero", *, flat: Literal[True], **options: Any) -> FlatShapes: ...
 def space_errors(contours, space, fill="nonzero", *, flat=False, **options):
-    """The shapes of where contours are nearer to each other than a space, or sides of a notch: each point outside of what they fill that no square of this width
-    outside covers. With the arguments of `width_errors`, and refused as it is.
+    """The shapes of where contours are nearer to each other than a space, or sides of a notch: each point outside of what they fill that no square of this
+    width outside covers. With the arguments of `width_errors`, and refused as it is.
     """
     return _checked("polygon_c_space", contours, _arrays.integer(space, "space"), _query("subject", fill, options), flat)
 

@@ -876,7 +876,7 @@ static void texts(void) {
         "the query has more words than are known",
         "a coordinate is not from -68719476736 to 68719476735",
         "no join has this number, or numbers that are to be kept differ",
-        "an edge is neither level nor upright",
+        "an edge is neither horizontal nor vertical",
         "no status has this number",
     };
     char text[128];

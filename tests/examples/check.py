@@ -3,7 +3,7 @@
 
     check.py SCRIPT ANSWER ..
 
-For each overlay the plane is cut into upright strips at every corner and crossing of the kept contours; in a strip no edge
+For each overlay the plane is cut into vertical strips at every corner and crossing of the kept contours; in a strip no edge
 ends and none meets another, so the windings are sums and the region is a stack of trapezoids. Their doubled area has to be
 that of the answer's contours and of the `area` line, and at the middle of each trapezoid the answer has to wind once where
 the region is and zero times elsewhere. No contour may have fewer than three points or a point that it passes straight.

@@ -3,8 +3,8 @@
 
     tiles.py MAP ANSWER
 
-Land: each tile is cut into upright strips at every corner and crossing. In a strip no edge ends and none meets another, so the windings are sums. Each piece has
-to wind once or not at all, and all pieces of a tile together once where an odd number of the map's contours lies round, and not at all elsewhere; nothing may
+Land: each tile is cut into vertical strips at every corner and crossing. In a strip no edge ends and none meets another, so the windings are sums. Each piece
+has to wind once or not at all, and all pieces of a tile together once where an odd number of the map's contours lies round, and not at all elsewhere; nothing may
 reach beyond the tile. Roads and ferries: each route is cut at the tile's border and at coasts, and what has its middle in the tile, its border too, has to be what
 the paths of the tile run along, in the route's direction and each stretch once: on land or a coast a road, over water a ferry. Crossings of the example are
 whole points, so equality is exact. The last line is 'N passed, M failed'.

@@ -114,7 +114,7 @@ def module():
 
 
 def sizes():
-    """Regions of level and upright edges, grown and shrunk."""
+    """Regions of horizontal and vertical edges, grown and shrunk."""
     box = lambda left, bottom, right, top: [(left, bottom), (right, bottom), (right, top), (left, top)]
     bar, holed, near = [box(0, 0, 4, 20)], [*PARCEL, [(4, 4), (4, 5), (5, 5), (5, 4)]], [*PARCEL, box(14, 0, 24, 10)]
     whole = lambda left, bottom, right, top: [[[(left, top), (left, bottom), (right, bottom), (right, top)]]]

@@ -9,7 +9,7 @@ from spreading import split
 from spreading.grid import Counts, Grid
 from spreading.script import NARROW, WIDE
 
-LEVEL = b"overlay %s %s auto %s corners\n"
+OVERLAY = b"overlay %s %s auto %s corners\n"
 RULES = (b"subject", b"clip", b"intersect", b"union", b"difference", b"inverse", b"xor")
 FILLS = (b"evenodd", b"nonzero", b"positive", b"negative", b"atleast:2")
 
@@ -47,7 +47,7 @@ def handed_back(ask, script):
     reply = ask(script)
     again = b"".join(contour(b"subject", points) for shape in contours_of(reply) for points in shape)
     direction = b"cw" if b" cw " in script else b"ccw"
-    return written(contours_of(ask(again + LEVEL % (b"subject", b"nonzero", direction))), reply.count(b"ok\n"))
+    return written(contours_of(ask(again + OVERLAY % (b"subject", b"nonzero", direction))), reply.count(b"ok\n"))
 
 
 def turned(ask, script):
@@ -98,7 +98,7 @@ def drawn_mask(seed):
     dice = random.Random(seed)
     lines = list((squares, boxes, plate, stairs)[seed % 4](dice, dice.choice((6, 8, 12, 20))))
     dice.shuffle(lines)
-    return b"".join(lines) + LEVEL % (RULES[seed // 4 % 7], FILLS[seed // 28 % 5], (b"ccw", b"cw")[seed // 140 % 2])
+    return b"".join(lines) + OVERLAY % (RULES[seed // 4 % 7], FILLS[seed // 28 % 5], (b"ccw", b"cw")[seed // 140 % 2])
 
 
 def chip(bars, rule):
@@ -109,14 +109,14 @@ def chip(bars, rule):
         long, wide = dice.randint(unit, 4 * unit), unit // 7
         x, y = dice.randint(-500000, 500000 - long), dice.randint(-500000, 500000 - long)
         lines.append(contour(b"clip" if k % 2 else b"subject", box(x, y, wide, long) if k % 2 else box(x, y, long, wide)))
-    return b"".join(lines) + LEVEL % (rule, b"nonzero", b"ccw")
+    return b"".join(lines) + OVERLAY % (rule, b"nonzero", b"ccw")
 
 
 def comb(teeth):
     """A bar up the middle with teeth to either side: its outline is longer than a line may be."""
     lines = [contour(b"subject", box(-5, -10 * teeth, 10, 20 * teeth))]
     lines.extend(contour(b"subject", box(-100000, 20 * k - 10 * teeth, 200000, 10)) for k in range(teeth))
-    return b"".join(lines) + LEVEL % (b"subject", b"nonzero", b"ccw")
+    return b"".join(lines) + OVERLAY % (b"subject", b"nonzero", b"ccw")
 
 
 # ---- examples
@@ -147,7 +147,7 @@ EXAMPLES = (
 
 def test_examples(tell, spread, program):
     for name, contours, rule, tiles, options, wanted in EXAMPLES:
-        told = spread(program, contours + LEVEL % (rule, b"nonzero", b"ccw"), "--tiles", tiles, *options)
+        told = spread(program, contours + OVERLAY % (rule, b"nonzero", b"ccw"), "--tiles", tiles, *options)
         tell(f"tiles: {name}", told.returncode == 0 and told.stdout == written(wanted, contours.count(b"\n")))
 
 
@@ -227,7 +227,7 @@ def test_sizes(tell, spread, ask, program):
         direction = b"cw" if b" cw " in script else b"ccw"
         cells = change(cells_of(contours_of(ask(script))))
         squares_of = b"".join(contour(b"subject", box(x, y, 1, 1)) for x, y in sorted(cells))
-        wanted = contours_of(handed_back(ask, squares_of + LEVEL % (b"subject", b"nonzero", direction)))
+        wanted = contours_of(handed_back(ask, squares_of + OVERLAY % (b"subject", b"nonzero", direction)))
         filled += bool(wanted)
         told = spread(program, script, *tiles, *options)
         tell(f"tiles: mask {seed} by {' '.join(options)}", told.stdout == written(wanted, len(script.splitlines()) - 1), told.stderr.decode())
@@ -297,12 +297,12 @@ def test_range(tell, spread, ask, program):
         script, x, y = drawn_mask(seed), 10**9 * (seed - 3), -(10 ** (4 * seed + 2))
         wanted = moved_answer(handed_back(ask, script), x, y)
         tell(f"tiles: beyond the range, {seed}", spread(program, moved(script, x, y), "--tiles", "3,3").stdout == wanted)
-    wide = b"subject 0 0 3000000 0 3000000 10 0 10\n" + LEVEL % (b"subject", b"nonzero", b"ccw")
+    wide = b"subject 0 0 3000000 0 3000000 10 0 10\n" + OVERLAY % (b"subject", b"nonzero", b"ccw")
     told = spread(program, wide, "--tiles", "1,1")
     tell("tiles: too wide to be united", told.returncode == 1 and b"from 0 0 to 3000000 10 is larger than the program takes" in told.stderr)
     pieces = [[[(x, 10), (x, 0), (x + 10**6, 0), (x + 10**6, 10)]] for x in (0, 10**6, 2 * 10**6)]
     tell("tiles: cut, where it is too wide", spread(program, wide, "--tiles", "1,1", "--cut").stdout == written(pieces, 1))
-    high = contour(b"subject", box(0, 0, 9, 10**13)) + LEVEL % (b"subject", b"nonzero", b"ccw")
+    high = contour(b"subject", box(0, 0, 9, 10**13)) + OVERLAY % (b"subject", b"nonzero", b"ccw")
     for call in (("--tiles", "1,1"), ("--tile-edges", "9")):
         told = spread(program, high, *call)
         tell(f"tiles: too many, {call[0]}", told.returncode == 1 and b"from 0 0 to 9 10000000000000 would fall into more than 1,000,000 tiles" in told.stderr)
@@ -335,12 +335,12 @@ def test_wide(tell, spread, ask, program, folder):
 
     boxes = [box(x, y, 40, 40) for x in ends for y in ends]
     boxes += [box(least, 2**20 + 20, greatest - least, 5), box(-5, least, 10, greatest - least), box(0, 0, 2**21, 2**30)]
-    whole = b"".join(contour(b"clip" if k % 4 == 3 else b"subject", points) for k, points in enumerate(boxes)) + LEVEL % (b"xor", b"nonzero", b"ccw")
+    whole = b"".join(contour(b"clip" if k % 4 == 3 else b"subject", points) for k, points in enumerate(boxes)) + OVERLAY % (b"xor", b"nonzero", b"ccw")
     wanted = turned(ask_wide, whole)
     for call in (("--tiles", "1,1"), ("--tiles", "4,3"), ("--tile-edges", "9")):
         tell(f"tiles: as wide as the range, {' '.join(call)}", spread(program, whole, "--wide", *call, "--edges", "20").stdout == wanted)
     tell("tiles: too many where it isn't asked for", b"would fall into more than 1,000,000 tiles" in spread(program, whole, "--tiles", "4,3").stderr)
-    wide = contour(b"subject", box(0, 0, 3 * 10**11, 10)) + LEVEL % (b"subject", b"nonzero", b"ccw")
+    wide = contour(b"subject", box(0, 0, 3 * 10**11, 10)) + OVERLAY % (b"subject", b"nonzero", b"ccw")
     told = spread(program, wide, "--wide", "--tiles", "1,1")
     tell("tiles: wide, too wide", told.returncode == 1 and b"from 0 0 to 300000000000 10 is larger than the program takes" in told.stderr)
     pieces = [[[(x, 10), (x, 0), (x + 10**11, 0), (x + 10**11, 10)]] for x in (0, 10**11, 2 * 10**11)]
@@ -348,8 +348,8 @@ def test_wide(tell, spread, ask, program, folder):
 
 
 def test_refusals(tell, spread, program):
-    square, overlay = b"subject 0 0 4 0 4 4 0 4\n", LEVEL % (b"union", b"nonzero", b"ccw")
-    slope = b"line 3 has an edge that is neither level nor upright, from 2 0 to 0 2; without --tiles such maps are spread by groups"
+    square, overlay = b"subject 0 0 4 0 4 4 0 4\n", OVERLAY % (b"union", b"nonzero", b"ccw")
+    slope = b"line 3 has an edge that is neither horizontal nor vertical, from 2 0 to 0 2; without --tiles such maps are spread by groups"
     rows = (
         (square + b"\nsubject 0 0 2 0 0 2\n" + overlay, slope),
         (square + overlay.replace(b"corners", b"points"), b"tiles answer corners alone"),
@@ -399,7 +399,7 @@ def test_faults(tell, spread, program, wrapper, folder):
         return many
 
     lines = [contour(b"subject", box(10 * k, 0, 8, 8)) for k in range(8)]
-    script = b"".join(lines) + contour(b"subject", box(0, 3, 78, 1)) + contour(b"clip", box(70, 3, 2, 2)) + LEVEL % (b"xor", b"nonzero", b"ccw")
+    script = b"".join(lines) + contour(b"subject", box(0, 3, 78, 1)) + contour(b"clip", box(70, 3, 2, 2)) + OVERLAY % (b"xor", b"nonzero", b"ccw")
     other = script.replace(b"subject 10 0 18", b"subject 11 0 18", 1).replace(b"18 8 10 8", b"18 8 11 8", 1)
     tiles = "--tiles", "4,1"
     wanted, changed = (spread(program, asked_for, *tiles).stdout for asked_for in (script, other))

@@ -22,7 +22,7 @@ abbrev pub stepped_from : Bool → ℕ → List Contour → List Owned
 stepped_from output n [] = []
 stepped_from output n (c ∷ cs) = map (owned_step output n) (contour_steps c.points) ++ stepped_from output (suc n) cs
 
--- the region is above it, and it isn't upright
+-- the region is above it, and it isn't vertical
 abbrev pub is_swept : Owned → Bool
 is_swept o = o.above && int_lt o.edge.a.x o.edge.b.x
 
@@ -48,7 +48,7 @@ pub record AreSweepable (os : List Owned) : Type 0 where
   pub once : AllPairs (λ o p. o.edge ≢ p.edge) os
   pub rising : AreRising os
 
--- The edge isn't upright, and is parted from each of the others that it isn't.
+-- The edge isn't vertical, and is parted from each of the others that it isn't.
 pub record IsSought (os : List Owned) (e : Edge) : Type 0 where
   pub wide : e.a.x <ℤ e.b.x
   pub apart : (o : Owned) → Contains os o → e ≢ o.edge → parted e o.edge ≡ true

@@ -63,7 +63,7 @@ pub record CornersStay : Type 0 where
 abbrev pub anchor_order : Edge → Edge → Ordering
 anchor_order s t = ordering_then (point_order s.a t.a) (angle_order s t)
 
--- each contour goes on at each point, and has an anchor, which is not upright
+-- each contour goes on at each point, and has an anchor, which is not vertical
 pub record HaveAnchors (cs : List Contour) : Type 0 where
   pub go_on : All (λ c. NeverStays c.points) cs
   pub anchors : All (λ c. (e : Edge) × (anchor c.points ≡ Some e) × (e.a.x <ℤ e.b.x)) cs
@@ -81,7 +81,7 @@ WayDownDescends =
     contour_at cs n ≡ Some c → anchor c.points ≡ Some e → way_down (owned_from links zero cs) above e ≡ Some o
     → (d : Contour) × (f : Edge) × (contour_at cs o.contour ≡ Some d) × (anchor d.points ≡ Some f) × (anchor_order f e ≡ Less)
 
--- What passes under an edge that isn't upright begins before it, as anchors are ordered, reaches over the column at which it begins,
+-- What passes under an edge that isn't vertical begins before it, as anchors are ordered, reaches over the column at which it begins,
 -- and runs below its first end or from there.
 abbrev pub UnderIsEarlier : Type 0
 UnderIsEarlier =

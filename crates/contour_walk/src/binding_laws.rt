@@ -24,12 +24,12 @@ pub fn corners_stay()
     ensures { CornersStay }
 {}
 
-/// Each such contour has an anchor, which is not upright.
+/// Each such contour has an anchor, which is not vertical.
 pub fn contours_have_anchors()
     ensures { ContoursHaveAnchors }
 {}
 
-/// The way down from the anchor of a contour leads to a contour whose anchor comes before, where no anchor is upright.
+/// The way down from the anchor of a contour leads to a contour whose anchor comes before, where no anchor is vertical.
 pub fn way_down_descends()
     ensures { WayDownDescends }
 {}

@@ -1,7 +1,7 @@
 //! Holes into shapes that are given: all contours are bound together, as `bind` binds them.
 //!
 //! Degenerate cases: without shapes all holes are dropped, and no fault tells it; one shape takes all; a hole below which no edge lies goes
-//! to the first shape. It takes n log n time, but quadratic time where an anchor is upright, from 2^31 edges on, and at worst where holes
+//! to the first shape. It takes n log n time, but quadratic time where an anchor is vertical, from 2^31 edges on, and at worst where holes
 //! don't come in the order of their anchors.
 
 ghost use Rattle.std.specs.Prelude.{◌≡◌, ◌≤◌, ◌<◌, ◌+◌, ◌++◌, ◌∷◌, [], List, ℕ, Bool, IfOk, OnOk, OnErr, IsOkUnless, length, map, replicate, slice_index_or};

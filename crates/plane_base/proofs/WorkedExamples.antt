@@ -89,8 +89,8 @@ not_its_last = refl
 spans_leftward_nothing : spans east o (whole (pos 5) (pos 5)) ≡ false
 spans_leftward_nothing = refl
 
-upright_nothing : spans o north (whole (pos 0) (pos 5)) ≡ false
-upright_nothing = refl
+vertical_nothing : spans o north (whole (pos 0) (pos 5)) ≡ false
+vertical_nothing = refl
 
 by_first_end : edge_order (record { a = o; b = corner }) (record { a = north; b = east }) ≡ Less
 by_first_end = refl

@@ -37,8 +37,8 @@ is_same p q = int_eq p.x q.x && int_eq p.y q.y
 
 -- The first is horizontal and the second vertical, and each has its ends on both sides of the other.
 pub record CrossesSquarely (s t : Edge) : Type 0 where
-  pub level : s.b.y ≡ s.a.y
-  pub upright : t.b.x ≡ t.a.x
+  pub horizontal : s.b.y ≡ s.a.y
+  pub vertical : t.b.x ≡ t.a.x
   pub left : s.a.x <ℤ t.a.x
   pub right : t.a.x <ℤ s.b.x
   pub bottom : t.a.y <ℤ s.a.y

@@ -52,5 +52,5 @@ text_of status =
     if status == 11 then codes "the query has more words than are known" else
     if status == 12 then codes "a coordinate is not from -68719476736 to 68719476735" else
     if status == 13 then codes "no join has this number, or numbers that are to be kept differ" else
-    if status == 14 then codes "an edge is neither level nor upright" else
+    if status == 14 then codes "an edge is neither horizontal nor vertical" else
     codes "no status has this number"

@@ -5,7 +5,7 @@ use Rattle.plane_base.specs.declared.fault.Fault.{Fault}
 use Rattle.segment_arrangement.specs.RuleViews.{fill_rule_of}
 use Rattle.polygon_overlay.specs.Sizing.{Amounts}
 use Rattle.polygon_overlay.specs.SizingCalls.{Fits, FitsInTurn, AreSized, AreSizedInTurn, IsNotSized, IsNotSizedInTurn}
-use Rattle.polygon_overlay.specs.Tiles.{AreLevelOrUpright}
+use Rattle.polygon_overlay.specs.Tiles.{AreRectilinear}
 use Rattle.polygon_c.specs.Answers.{Passes, IsUnasked}
 use Rattle.polygon_c.specs.Faults.{refusal_of}
 use Rattle.polygon_c.specs.Flat.{Arrays, flat, sizes_of, HandsOut}
@@ -45,11 +45,11 @@ IsSizingInTurnRefused least greatest first second r contours fault =
 
 -- ---- calls about a mask: `Fit` is what its contours are tested for at last, `Is` what the engine answers, and `IsRefusedFor` why it doesn't
 
--- All tests are passed: each step is level or upright, and the contours fit.
+-- All tests are passed: each step is horizontal or vertical, and the contours fit.
 pub record PassesFitting {P : Type 0} (plane : P → Point) (least greatest : ℤ) (Fit : List (List Point) → Type 0) (q : List ℕ) (g : Given P)
     (r : Request) : Type 0 where
   pub passes : Passes plane least greatest q g r
-  pub straight : AreLevelOrUpright (subjects_of plane g)
+  pub straight : AreRectilinear (subjects_of plane g)
   pub fitting : Fit (subjects_of plane g)
 
 -- All tests are passed, and the lists are the flat form of what the engine answers.
@@ -59,14 +59,14 @@ AnswersOfMask plane at least greatest Fit Is q g answer =
     (r : Request) × PassesFitting plane least greatest Fit q g r
     × ((shapes : List (List (List Point))) × Is r (subjects_of plane g) shapes × (answer ≡ flat at shapes))
 
--- Why nothing is answered: a test fails that overlays make too; or none does, and a step is neither level nor upright; or all are, and the contours
+-- Why nothing is answered: a test fails that overlays make too; or none does, and a step is neither horizontal nor vertical; or all are, and the contours
 -- don't fit; or all tests are passed, and the engine refuses for a fault that is told so.
 abbrev pub IsUntoldOfMask : {P : Type 0} → (P → Point) → ℤ → ℤ → (List (List Point) → Type 0) → (Request → List (List Point) → Fault → Type 0)
     → List ℕ → Given P → Refusal → Type 0
 IsUntoldOfMask plane least greatest Fit IsRefusedFor q g why =
     IsUnasked plane least greatest q g why
-    ⊎ ((r : Request) × Passes plane least greatest q g r × (AreLevelOrUpright (subjects_of plane g) → ⊥) × (why ≡ refusal.Slant))
-    ⊎ ((r : Request) × Passes plane least greatest q g r × AreLevelOrUpright (subjects_of plane g) × (Fit (subjects_of plane g) → ⊥) × (why ≡ refusal.Range))
+    ⊎ ((r : Request) × Passes plane least greatest q g r × (AreRectilinear (subjects_of plane g) → ⊥) × (why ≡ refusal.Slant))
+    ⊎ ((r : Request) × Passes plane least greatest q g r × AreRectilinear (subjects_of plane g) × (Fit (subjects_of plane g) → ⊥) × (why ≡ refusal.Range))
     ⊎ ((r : Request) × (fault : Fault) × PassesFitting plane least greatest Fit q g r × IsRefusedFor r (subjects_of plane g) fault × (why ≡ refusal_of fault))
 
 -- Either there is an answer: its sizes are told, and it is handed out, or finds no room. Or there is none for the reason that the

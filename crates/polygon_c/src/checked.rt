@@ -1,4 +1,4 @@
-//! Masks of level and upright edges, checked for widths and spaces.
+//! Masks of horizontal and vertical edges, checked for widths and spaces.
 
 ghost use Rattle.std.specs.Prelude.{◌≡◌, ◌≢◌, ◌↔◌, [], IsTrue, IfOk, IfErr};
 ghost use Rattle.contour_walk.specs.ShapeViews.{IsFlat};
@@ -16,15 +16,15 @@ use crate::refusal::Refusal;
 use polygon_overlay::checks::{evenly, is_side};
 use polygon_overlay::plane::flat::FlatContoursBuffer;
 use polygon_overlay::plane::int::OverlayInt;
-use polygon_overlay::sizing::{are_level_or_upright, fits};
+use polygon_overlay::sizing::{are_rectilinear, fits};
 use std::alloc::Global;
 
-/// Writes, as `polygon_c_overlay` does, the shapes of what of contours of level and upright edges is narrower than a width: each point of what they
+/// Writes, as `polygon_c_overlay` does, the shapes of what of contours of horizontal and vertical edges is narrower than a width: each point of what they
 /// fill that no square of this width in it covers, wherever the square stands. Of the query it reads all but the overlay rule and what is of lines;
 /// all its numbers are tested.
 ///
-/// Statuses, sizes and what stays as it was are those of `polygon_c_overlay`. After `Range` comes `Slant`, where an edge is neither level nor
-/// upright, and then `Range` again, where the width is below 1, or it or a point moved by it is out of range.
+/// Statuses, sizes and what stays as it was are those of `polygon_c_overlay`. After `Range` comes `Slant`, where an edge is neither horizontal nor
+/// vertical, and then `Range` again, where the width is below 1, or it or a point moved by it is out of range.
 #[unsafe(no_mangle)]
 pub extern "C" fn polygon_c_width(
     alloc: Global,
@@ -74,7 +74,7 @@ pub extern "C" fn polygon_c_width64(
     }
 }
 
-/// Writes so where contours of level and upright edges are nearer to each other than a space, or sides of a notch: each point outside of what they
+/// Writes so where contours of horizontal and vertical edges are nearer to each other than a space, or sides of a notch: each point outside of what they
 /// fill that no square of this width outside covers. Statuses are those of `polygon_c_width`.
 #[unsafe(no_mangle)]
 pub extern "C" fn polygon_c_space(
@@ -138,7 +138,7 @@ fn widths<I: OverlayInt, P: CPointOf<I>>(
     ensures refused { IfErr result (AreNoWidths P.plane I.least I.greatest (I.value width) query.now (given subject.now subject_lengths.now [] [])) }
 {
     let asked: Asked<I> = ask(alloc, query, subject, subject_lengths, &[], &[])?;
-    if !are_level_or_upright(&asked.subjects) {
+    if !are_rectilinear(&asked.subjects) {
         return Err(Refusal::Slant);
     }
     if !can_be_checked(&asked.subjects, width) {
@@ -161,7 +161,7 @@ fn spaces<I: OverlayInt, P: CPointOf<I>>(
     ensures refused { IfErr result (AreNoSpaces P.plane I.least I.greatest (I.value space) query.now (given subject.now subject_lengths.now [] [])) }
 {
     let asked: Asked<I> = ask(alloc, query, subject, subject_lengths, &[], &[])?;
-    if !are_level_or_upright(&asked.subjects) {
+    if !are_rectilinear(&asked.subjects) {
         return Err(Refusal::Slant);
     }
     if !can_be_checked(&asked.subjects, space) {

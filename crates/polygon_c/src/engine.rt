@@ -12,7 +12,7 @@ ghost use Rattle.polygon_overlay.specs.SliceCalls.{IsSliceOf};
 ghost use Rattle.polygon_overlay.specs.Location.{in_shapes, AreLocated};
 ghost use Rattle.polygon_overlay.specs.SizingCalls.{Fits, FitsInTurn};
 ghost use Rattle.polygon_overlay.specs.SizingViews.{amounts_of};
-ghost use Rattle.polygon_overlay.specs.Tiles.{AreLevelOrUpright};
+ghost use Rattle.polygon_overlay.specs.Tiles.{AreRectilinear};
 ghost use Rattle.plane_base.specs.Plane.{IsWithin};
 ghost use Rattle.polygon_c.specs.Given.{flat_contours, AreFlatInRange};
 ghost use Rattle.polygon_c.specs.Calls.{IsNotSliced, IsNotClipped};
@@ -181,7 +181,7 @@ pub(crate) fn sized<I: OverlayInt>(
 ) -> Result<IntShapes<I>, Fault>
     requires ready { IsFlat contours.now }
     requires in_range { AreFlatInRange I.value I.least I.greatest contours.now }
-    requires straight { AreLevelOrUpright (flat_contours I.value contours.now) }
+    requires straight { AreRectilinear (flat_contours I.value contours.now) }
     requires fits { Fits I.least I.greatest (amounts_of I.value by) (flat_contours I.value contours.now) }
     ensures answered { IfOk result (λ shapes. IsSizingOf I.least I.greatest (amounts_of I.value by) request (flat_contours I.value contours.now)
         (shapes_of I.value shapes.shapes.items)) }
@@ -207,7 +207,7 @@ pub(crate) fn sized_in_turn<I: OverlayInt>(
 ) -> Result<IntShapes<I>, Fault>
     requires ready { IsFlat contours.now }
     requires in_range { AreFlatInRange I.value I.least I.greatest contours.now }
-    requires straight { AreLevelOrUpright (flat_contours I.value contours.now) }
+    requires straight { AreRectilinear (flat_contours I.value contours.now) }
     requires fits { FitsInTurn I.least I.greatest (amounts_of I.value first) (amounts_of I.value second) (flat_contours I.value contours.now) }
     ensures answered { IfOk result (λ shapes. IsSizingInTurnOf I.least I.greatest (amounts_of I.value first) (amounts_of I.value second) request
         (flat_contours I.value contours.now) (shapes_of I.value shapes.shapes.items)) }
@@ -234,7 +234,7 @@ pub(crate) fn widths<I: OverlayInt>(
 ) -> Result<IntShapes<I>, Fault>
     requires ready { IsFlat contours.now }
     requires in_range { AreFlatInRange I.value I.least I.greatest contours.now }
-    requires straight { AreLevelOrUpright (flat_contours I.value contours.now) }
+    requires straight { AreRectilinear (flat_contours I.value contours.now) }
     requires side { IsSide I.least I.greatest (I.value width) }
     requires fits { Fits I.least I.greatest (evenly (I.value width)) (flat_contours I.value contours.now) }
     ensures answered { IfOk result (λ shapes. AreWidthsOf I.least I.greatest (I.value width) request (flat_contours I.value contours.now)
@@ -260,7 +260,7 @@ pub(crate) fn spaces<I: OverlayInt>(
 ) -> Result<IntShapes<I>, Fault>
     requires ready { IsFlat contours.now }
     requires in_range { AreFlatInRange I.value I.least I.greatest contours.now }
-    requires straight { AreLevelOrUpright (flat_contours I.value contours.now) }
+    requires straight { AreRectilinear (flat_contours I.value contours.now) }
     requires side { IsSide I.least I.greatest (I.value space) }
     requires fits { Fits I.least I.greatest (evenly (I.value space)) (flat_contours I.value contours.now) }
     ensures answered { IfOk result (λ shapes. AreSpacesOf I.least I.greatest (I.value space) request (flat_contours I.value contours.now)

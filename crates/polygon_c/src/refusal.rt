@@ -35,7 +35,7 @@ pub enum Refusal {
     Size,
     /// No join has this number, or numbers of edges that lie on each other are to be kept, and differ.
     Join,
-    /// An edge of a region that is to be sized or checked is neither level nor upright.
+    /// An edge of a region that is to be sized or checked is neither horizontal nor vertical.
     Slant,
 }
 

@@ -1,4 +1,4 @@
-//! Regions of level and upright edges, grown or shrunk.
+//! Regions of horizontal and vertical edges, grown or shrunk.
 
 ghost use Rattle.std.specs.Prelude.{◌≡◌, ◌≢◌, [], IfOk, IfErr};
 ghost use Rattle.polygon_overlay.specs.SizingViews.{amounts_of};
@@ -14,15 +14,15 @@ use crate::laid::{Laid, lay};
 use crate::overlay::{Sizes, hand_out};
 use crate::refusal::Refusal;
 use polygon_overlay::plane::int::OverlayInt;
-use polygon_overlay::sizing::{Sizing, are_level_or_upright, fits, fits_in_turn};
+use polygon_overlay::sizing::{Sizing, are_rectilinear, fits, fits_in_turn};
 use std::alloc::Global;
 
-/// Grows or shrinks what contours of level and upright edges fill, and writes the shapes as `polygon_c_overlay` does. Left sides move to the left by
+/// Grows or shrinks what contours of horizontal and vertical edges fill, and writes the shapes as `polygon_c_overlay` does. Left sides move to the left by
 /// the first amount, right sides to the right by the second, bottoms down by the third and tops up by the fourth, first in x and then in y; below
 /// 0 they move inward. Of the query it reads all but the overlay rule and what is of lines; all its numbers are tested.
 ///
-/// Statuses, sizes and what stays as it was are those of `polygon_c_overlay`. After `Range` comes `Slant`, where an edge is neither level nor
-/// upright, and then `Range` again, where a point, moved by one of the amounts, would be out of range.
+/// Statuses, sizes and what stays as it was are those of `polygon_c_overlay`. After `Range` comes `Slant`, where an edge is neither horizontal nor
+/// vertical, and then `Range` again, where a point, moved by one of the amounts, would be out of range.
 #[unsafe(no_mangle)]
 pub extern "C" fn polygon_c_sized(
     alloc: Global,
@@ -193,7 +193,7 @@ fn sized<I: OverlayInt, P: CPointOf<I>>(
     ensures refused { IfErr result (IsNotResized P.plane I.least I.greatest (amounts_of I.value by) query.now (given subject.now subject_lengths.now [] [])) }
 {
     let asked: Asked<I> = ask(alloc, query, subject, subject_lengths, &[], &[])?;
-    if !are_level_or_upright(&asked.subjects) {
+    if !are_rectilinear(&asked.subjects) {
         return Err(Refusal::Slant);
     }
     if !fits(&asked.subjects, by) {
@@ -218,7 +218,7 @@ fn sized_in_turn<I: OverlayInt, P: CPointOf<I>>(
         (given subject.now subject_lengths.now [] [])) }
 {
     let asked: Asked<I> = ask(alloc, query, subject, subject_lengths, &[], &[])?;
-    if !are_level_or_upright(&asked.subjects) {
+    if !are_rectilinear(&asked.subjects) {
         return Err(Refusal::Slant);
     }
     if !fits_in_turn(&asked.subjects, first, second) {

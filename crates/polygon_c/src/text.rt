@@ -24,7 +24,7 @@ fn text(status: u32) -> &'static str
         11 => "the query has more words than are known",
         12 => "a coordinate is not from -68719476736 to 68719476735",
         13 => "no join has this number, or numbers that are to be kept differ",
-        14 => "an edge is neither level nor upright",
+        14 => "an edge is neither horizontal nor vertical",
         _ => "no status has this number",
     }
 }

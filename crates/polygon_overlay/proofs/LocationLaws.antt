@@ -775,12 +775,12 @@ on_whole s p =
     ap (λ t. int_eq t (pos 0) && is_le (point_order (scaled 1 s.a) p) && is_le (point_order p (scaled 1 s.b))) (side_of_whole s.a s.b p)
     ∙ ap₂ (λ a b. int_eq (turn s.a s.b p) (pos 0) && is_le (point_order a p) && is_le (point_order p b)) (once s.a) (once s.b)
 
-level_tells : (t : ℤ) → is_eq (int_cmp t (pos 0)) ≡ int_eq t (pos 0)
-level_tells t = refl
+horizontal_tells : (t : ℤ) → is_eq (int_cmp t (pos 0)) ≡ int_eq t (pos 0)
+horizontal_tells t = refl
 
 module _ (s : Edge) (p : Point) (o : Ordering) (is : o ≡ int_cmp (turn s.a s.b p) (pos 0)) (t : Bool) (level : t ≡ is_eq o) where
   on_line : t ≡ int_eq (turn s.a s.b p) (pos 0)
-  on_line = level ∙ (ap is_eq is ∙ level_tells (turn s.a s.b p))
+  on_line = level ∙ (ap is_eq is ∙ horizontal_tells (turn s.a s.b p))
 
   pub beside_line : t ≡ false → false ≡ lies_on s (whole p)
   beside_line off = sym (on_whole s p ∙ ap (λ b. b && is_le (point_order s.a p) && is_le (point_order p s.b)) (sym on_line ∙ off))

@@ -16,15 +16,15 @@ use Rattle.polygon_overlay.specs.Simplified.{IsNotSimplified}
 use Rattle.polygon_overlay.specs.Sizing.{Amounts, IsFilledBy, WindWhere, moved_across, moved}
 use Rattle.polygon_overlay.specs.SizingCalls.{IsNotMoved}
 use Rattle.polygon_overlay.specs.SizingLaws.{IsRegionOf, IsMovedTo, AreMoved}
-use Rattle.polygon_overlay.specs.Tiles.{AreLevelOrUpright}
+use Rattle.polygon_overlay.specs.Tiles.{AreRectilinear}
 
 -- ---- a region, moved twice
 
 -- The region is moved by the first amounts, and what this winds round more often than 0 is moved by the second.
-pub record IsMovedInTurn (least greatest : ℤ) (first second : Amounts) (precision : Precision) (region levels : List (List Point)) : Type 0 where
+pub record IsMovedInTurn (least greatest : ℤ) (first second : Amounts) (precision : Precision) (region shifted : List (List Point)) : Type 0 where
   pub between : List (List Point)
   pub once : IsMovedTo least greatest first precision region between
-  pub again : AreMoved least greatest second Positive precision between levels
+  pub again : AreMoved least greatest second Positive precision between shifted
 
 -- Memory was refused, or an overlay on the way.
 abbrev pub IsNotMovedInTurn : ℤ → ℤ → Amounts → Amounts → Precision → List (List Point) → Fault → Type 0
@@ -36,7 +36,7 @@ IsNotMovedInTurn least greatest first second precision region fault =
 -- ---- what one mask has without another
 
 -- The shapes are the overlay of both, by the options. Without a least area they wind once, in the output direction, round each rational point round
--- which the one winds more often than 0 and the other doesn't, and round no other, along level and upright edges.
+-- which the one winds more often than 0 and the other doesn't, and round no other, along horizontal and vertical edges.
 pub record IsDifferenceOf (least greatest : ℤ) (options : IntOverlayOptions) (precision : Precision) (one other : List (List Point))
     (shapes : List (List (List Point))) : Type 0 where
   pub held : List (Entry Count)
@@ -45,7 +45,7 @@ pub record IsDifferenceOf (least greatest : ℤ) (options : IntOverlayOptions) (
   pub winds :
       options.min_output_area ≡ 0
       → WindWhere (once (is_clockwise options.output_direction)) (λ p. IsFilledBy Positive one p × (IsFilledBy Positive other p → ⊥)) (all_contours shapes)
-  pub straight : options.min_output_area ≡ 0 → AreLevelOrUpright (all_contours shapes)
+  pub straight : options.min_output_area ≡ 0 → AreRectilinear (all_contours shapes)
 
 -- The two weren't taken, or their overlay was refused.
 abbrev pub IsNoDifference : Bool → Precision → List (List Point) → List (List Point) → Fault → Type 0
@@ -55,7 +55,7 @@ IsNoDifference keep_all precision one other fault =
 -- ---- answers
 
 -- The region of the contours is shrunk and grown again, and what is gone is answered. Without a least area this winds once, in the output
--- direction, round each rational point that is an error of the width, and round no other, along level and upright edges.
+-- direction, round each rational point that is an error of the width, and round no other, along horizontal and vertical edges.
 pub record AreWidthErrors (least greatest width : ℤ) (options : IntOverlayOptions) (fill : FillRule) (precision : Precision)
     (contours : List (List Point)) (shapes : List (List (List Point))) : Type 0 where
   pub mask : List (List Point)
@@ -66,7 +66,7 @@ pub record AreWidthErrors (least greatest width : ℤ) (options : IntOverlayOpti
   pub winds :
       options.min_output_area ≡ 0
       → WindWhere (once (is_clockwise options.output_direction)) (IsWidthError width (IsFilledBy fill contours)) (all_contours shapes)
-  pub straight : options.min_output_area ≡ 0 → AreLevelOrUpright (all_contours shapes)
+  pub straight : options.min_output_area ≡ 0 → AreRectilinear (all_contours shapes)
 
 -- The region of the contours is grown and shrunk again, and what has come is answered: so round each point that is an error of the space.
 pub record AreSpaceErrors (least greatest space : ℤ) (options : IntOverlayOptions) (fill : FillRule) (precision : Precision)
@@ -79,7 +79,7 @@ pub record AreSpaceErrors (least greatest space : ℤ) (options : IntOverlayOpti
   pub winds :
       options.min_output_area ≡ 0
       → WindWhere (once (is_clockwise options.output_direction)) (IsSpaceError space (IsFilledBy fill contours)) (all_contours shapes)
-  pub straight : options.min_output_area ≡ 0 → AreLevelOrUpright (all_contours shapes)
+  pub straight : options.min_output_area ≡ 0 → AreRectilinear (all_contours shapes)
 
 -- ---- refusals
 
@@ -91,8 +91,8 @@ pub data IsNotChecked (least greatest : ℤ) (first second : Amounts) (fill : Fi
       (mask : List (List Point)) → IsRegionOf least greatest fill precision contours mask →
       IsNotMovedInTurn least greatest first second precision mask fault → IsNotChecked least greatest first second fill precision contours IsNotLast fault
   of_last :
-      (mask levels : List (List Point)) → IsRegionOf least greatest fill precision contours mask →
-      IsMovedInTurn least greatest first second precision mask levels → IsNotLast mask levels fault
+      (mask shifted : List (List Point)) → IsRegionOf least greatest fill precision contours mask →
+      IsMovedInTurn least greatest first second precision mask shifted → IsNotLast mask shifted fault
       → IsNotChecked least greatest first second fill precision contours IsNotLast fault
 
 -- The region wasn't shrunk and grown again, or the overlay without what came of it was refused.

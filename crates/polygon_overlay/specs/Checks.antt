@@ -4,7 +4,7 @@ use Rattle.std.specs.Int.{int_div_euclid}
 use Rattle.plane_base.specs.Plane.{Point, RationalPoint, IsRational, IsCoordinate}
 use Rattle.plane_base.specs.Regions.{FillRule}
 use Rattle.polygon_overlay.specs.Sizing.{Amounts, IsSized, IsFilledBy}
-use Rattle.polygon_overlay.specs.Tiles.{AreLevelOrUpright}
+use Rattle.polygon_overlay.specs.Tiles.{AreRectilinear}
 
 -- ---- squares
 
@@ -65,9 +65,9 @@ halves side =
 
 -- ---- what is grown by one distance
 
--- Grown by one distance, a region of level and upright edges has the points that are no further from some point of it, in x and in y.
+-- Grown by one distance, a region of horizontal and vertical edges has the points that are no further from some point of it, in x and in y.
 abbrev pub GrownIsNear : Type 0
 GrownIsNear =
-    (distance : ℤ) (fill : FillRule) (contours : List (List Point)) (p : RationalPoint) → pos 0 ≤ℤ distance → AreLevelOrUpright contours → IsRational p
+    (distance : ℤ) (fill : FillRule) (contours : List (List Point)) (p : RationalPoint) → pos 0 ≤ℤ distance → AreRectilinear contours → IsRational p
     → (IsSized (evenly distance) (IsFilledBy fill contours) p → (m : RationalPoint) × IsRational m × IsNear distance p m × IsFilledBy fill contours m)
     × ((m : RationalPoint) × IsRational m × IsNear distance p m × IsFilledBy fill contours m → IsSized (evenly distance) (IsFilledBy fill contours) p)

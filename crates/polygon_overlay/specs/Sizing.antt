@@ -1,4 +1,4 @@
--- Sizing: regions of level and upright edges, grown or shrunk by whole distances, first in x and then in y.
+-- Sizing: regions of horizontal and vertical edges, grown or shrunk by whole distances, first in x and then in y.
 use Rattle.std.specs.Prelude.{◌≡◌, ◌⊎◌, ℤ, pos, neg_ℤ, ◌+ℤ◌, ◌-ℤ◌, ◌*ℤ◌, ◌≤ℤ◌, ◌<ℤ◌, true, cond, int_lt, List, [], ◌∷◌, flat_map}
 use Rattle.std.specs.Ordering.{int_eq}
 use Rattle.plane_base.specs.Plane.{Point, Edge, RationalPoint, IsRational}
@@ -51,18 +51,18 @@ WindWhere turns Inside contours =
 
 -- ---- moved contours
 
--- An upright step of an answer, moved outward: upward it is a right side, downward a left one. Nothing of a level one.
+-- A vertical step of an answer, moved outward: upward it is a right side, downward a left one. Nothing of a horizontal one.
 abbrev pub moved_across : ℤ → ℤ → Edge → List Point
 moved_across left right s =
     let x = cond (int_lt s.a.y s.b.y) right (neg_ℤ left) in
     cond (int_eq s.a.y s.b.y) [] (record { x = s.a.x +ℤ x; y = s.a.y } ∷ record { x = s.b.x +ℤ x; y = s.b.y } ∷ [])
 
--- A level step, moved outward: to the right it is a bottom, to the left a top. Nothing of an upright one.
+-- A horizontal step, moved outward: to the right it is a bottom, to the left a top. Nothing of a vertical one.
 abbrev pub moved_up : ℤ → ℤ → Edge → List Point
 moved_up bottom top s =
     let y = cond (int_lt s.b.x s.a.x) top (neg_ℤ bottom) in
     cond (int_eq s.a.x s.b.x) [] (record { x = s.a.x; y = s.a.y +ℤ y } ∷ record { x = s.b.x; y = s.b.y +ℤ y } ∷ [])
 
--- The steps of a contour, each moved. From one to the next it is level, where upright ones move, and upright, where level ones do.
+-- The steps of a contour, each moved. From one to the next it is horizontal, where vertical ones move, and vertical, where horizontal ones do.
 abbrev pub moved : (Edge → List Point) → List Point → List Point
 moved move contour = flat_map move (contour_steps contour)

@@ -13,7 +13,7 @@ use Rattle.polygon_overlay.specs.Overlays.{once}
 use Rattle.polygon_overlay.specs.Simplified.{IsNotSimplified}
 use Rattle.polygon_overlay.specs.Sizing.{Amounts, IsSized, IsFilledBy, WindWhere, moved_across, moved_up, moved}
 use Rattle.polygon_overlay.specs.SizingLaws.{IsRegionOf, AreMoved, HoldsMoved}
-use Rattle.polygon_overlay.specs.Tiles.{AreLevelOrUpright}
+use Rattle.polygon_overlay.specs.Tiles.{AreRectilinear}
 
 -- ---- room for moves
 
@@ -57,7 +57,7 @@ HasRoomAlong least greatest across by p =
 -- ---- answers
 
 -- The shapes are answered for the contours' region, moved in x and then in y. Without a least area they wind round each rational point of the sized
--- region once, in the output direction, and round no other, along level and upright edges.
+-- region once, in the output direction, and round no other, along horizontal and vertical edges.
 pub record AreSized (least greatest : ℤ) (by : Amounts) (options : IntOverlayOptions) (fill : FillRule) (precision : Precision)
     (contours : List (List Point)) (shapes : List (List (List Point))) : Type 0 where
   pub held : List (Entry Count)
@@ -66,15 +66,15 @@ pub record AreSized (least greatest : ℤ) (by : Amounts) (options : IntOverlayO
   pub winds :
       options.min_output_area ≡ 0
       → WindWhere (once (is_clockwise options.output_direction)) (IsSized by (IsFilledBy fill contours)) (all_contours shapes)
-  pub straight : options.min_output_area ≡ 0 → AreLevelOrUpright (all_contours shapes)
+  pub straight : options.min_output_area ≡ 0 → AreRectilinear (all_contours shapes)
 
 -- The contours' region is moved by the first amounts, and what these contours wind round more often than 0 is sized by the second. Without a least
 -- area the shapes wind so round each rational point of the region that is sized by the first and then by the second.
 pub record AreSizedInTurn (least greatest : ℤ) (first second : Amounts) (options : IntOverlayOptions) (fill : FillRule) (precision : Precision)
     (contours : List (List Point)) (shapes : List (List (List Point))) : Type 0 where
-  pub levels : List (List Point)
-  pub moves : AreMoved least greatest first fill precision contours levels
-  pub sized : AreSized least greatest second options Positive precision levels shapes
+  pub shifted : List (List Point)
+  pub moves : AreMoved least greatest first fill precision contours shifted
+  pub sized : AreSized least greatest second options Positive precision shifted shapes
   pub winds :
       options.min_output_area ≡ 0
       → WindWhere (once (is_clockwise options.output_direction)) (IsSized second (IsSized first (IsFilledBy fill contours))) (all_contours shapes)
@@ -92,12 +92,12 @@ pub data IsNotMoved (least greatest : ℤ) (by : Amounts) (fill : FillRule) (pre
 abbrev pub IsNotSized : ℤ → ℤ → Amounts → IntOverlayOptions → FillRule → Precision → List (List Point) → Fault → Type 0
 IsNotSized least greatest by options fill precision contours fault =
     IsNotMoved least greatest by fill precision contours fault
-    ⊎ ((levels : List (List Point)) × AreMoved least greatest by fill precision contours levels ×
-    IsNotSimplified options.preserve_input_collinear precision levels fault)
+    ⊎ ((shifted : List (List Point)) × AreMoved least greatest by fill precision contours shifted ×
+    IsNotSimplified options.preserve_input_collinear precision shifted fault)
 
 -- They weren't moved by the first amounts, or what they filled then wasn't sized by the second.
 abbrev pub IsNotSizedInTurn : ℤ → ℤ → Amounts → Amounts → IntOverlayOptions → FillRule → Precision → List (List Point) → Fault → Type 0
 IsNotSizedInTurn least greatest first second options fill precision contours fault =
     IsNotMoved least greatest first fill precision contours fault
-    ⊎ ((levels : List (List Point)) × AreMoved least greatest first fill precision contours levels ×
-    IsNotSized least greatest second options Positive precision levels fault)
+    ⊎ ((shifted : List (List Point)) × AreMoved least greatest first fill precision contours shifted ×
+    IsNotSized least greatest second options Positive precision shifted fault)

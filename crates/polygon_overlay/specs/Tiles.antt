@@ -3,7 +3,7 @@ use Rattle.std.specs.Prelude.{◌≡◌, ℤ, pos, ◌*ℤ◌, ◌≤ℤ◌, Boo
 use Rattle.plane_base.specs.Plane.{Point, Edge, RationalPoint}
 use Rattle.plane_base.specs.Windings.{contour_winding}
 use Rattle.segment_split.specs.Groups.{Bounds, LiesWithin}
-use Rattle.segment_split.specs.LineLaws.{is_level_or_upright, AllLevelOrUpright}
+use Rattle.segment_split.specs.LineLaws.{is_rectilinear, AllRectilinear}
 use Rattle.contour_walk.specs.WalkLaws.{contour_steps}
 
 -- The columns from the left of a tile on, its right left out, and the rows up to its top, its bottom left out: as edges pass below points.
@@ -32,17 +32,17 @@ clamped tile contour = map (clamped_point tile) contour
 
 -- ---- steps
 
--- A step that is level or upright, or lies in the tile, or beyond one of its four lines.
+-- A step that is horizontal or vertical, or lies in the tile, or beyond one of its four lines.
 pub data KeepsTo (tile : Bounds) (s : Edge) : Type 0 where
-  straight : is_level_or_upright s ≡ true → KeepsTo tile s
+  straight : is_rectilinear s ≡ true → KeepsTo tile s
   within : LiesWithin tile s.a → LiesWithin tile s.b → KeepsTo tile s
   left_of : s.a.x ≤ℤ tile.left → s.b.x ≤ℤ tile.left → KeepsTo tile s
   right_of : tile.right ≤ℤ s.a.x → tile.right ≤ℤ s.b.x → KeepsTo tile s
   under : s.a.y ≤ℤ tile.bottom → s.b.y ≤ℤ tile.bottom → KeepsTo tile s
   over : tile.top ≤ℤ s.a.y → tile.top ≤ℤ s.b.y → KeepsTo tile s
 
-abbrev pub AreLevelOrUpright : List (List Point) → Type 0
-AreLevelOrUpright contours = All (λ c. AllLevelOrUpright (contour_steps c)) contours
+abbrev pub AreRectilinear : List (List Point) → Type 0
+AreRectilinear contours = All (λ c. AllRectilinear (contour_steps c)) contours
 
 -- ---- a contour that was clamped
 

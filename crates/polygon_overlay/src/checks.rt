@@ -1,4 +1,4 @@
-//! Checks of masks: where regions of level and upright edges are narrower than a width, or nearer to themselves than a space.
+//! Checks of masks: where regions of horizontal and vertical edges are narrower than a width, or nearer to themselves than a space.
 //!
 //! A width is checked by shrinking the region and growing it again by the same amounts, left and right together one less than the width, bottom and
 //! top too: what is gone is what no square of the width in the region covers. A space is checked by growing first: what has come is what no square
@@ -20,13 +20,13 @@ ghost use Rattle.polygon_overlay.specs.CheckCalls.{AreWidthErrors, AreSpaceError
 ghost use Rattle.polygon_overlay.specs.Checks.{IsSide, evenly, halves, opposite};
 ghost use Rattle.polygon_overlay.specs.SizingCalls.{Fits, FitsInTurn};
 ghost use Rattle.polygon_overlay.specs.SizingViews.{amounts_of};
-ghost use Rattle.polygon_overlay.specs.Tiles.{AreLevelOrUpright};
+ghost use Rattle.polygon_overlay.specs.Tiles.{AreRectilinear};
 
 use crate::laws::{holding_goes_on, sources_are_held};
 use crate::overlay::Overlay;
 use crate::sizing::{Sizing, moved_region, moved_source, region_of};
 use crate::sizing_laws::{moved_fill_the_sized, regions_stay_in_the_box};
-use crate::tile_laws::{answers_stay_level_or_upright, straight_maps_answer_their_region};
+use crate::tile_laws::{answers_stay_rectilinear, straight_maps_answer_their_region};
 use contour_walk::options::IntOverlayOptions;
 use plane_base::fault::Fault;
 use plane_base::flat::FlatContoursBuffer;
@@ -41,7 +41,7 @@ use std::alloc::Global;
 /// What of the region that the fill rule makes of a source is narrower than a width, by the options: without a least area its shapes wind once round
 /// each point of the region that no square of this width in the region covers, wherever the square stands, and round no other.
 ///
-/// Each step of the source is level or upright, the width is a side (`is_side`), and all points keep so far from the ends of the range
+/// Each step of the source is horizontal or vertical, the width is a side (`is_side`), and all points keep so far from the ends of the range
 /// (`fits` by `evenly` the width). Refused as the queries of five overlays are, or with `Memory`.
 pub fn width_errors<I: OverlayInt, R: IntShapeResource<I>>(
     alloc: Global,
@@ -53,7 +53,7 @@ pub fn width_errors<I: OverlayInt, R: IntShapeResource<I>>(
 ) -> Result<IntShapes<I>, Fault>
     requires ready { R.is_ready source.now }
     requires in_range { AreInRange I.least I.greatest (contours_of I.value (R.paths source.now)) }
-    requires straight { AreLevelOrUpright (contours_of I.value (R.paths source.now)) }
+    requires straight { AreRectilinear (contours_of I.value (R.paths source.now)) }
     requires side { IsSide I.least I.greatest (I.value width) }
     requires fits { Fits I.least I.greatest (evenly (I.value width)) (contours_of I.value (R.paths source.now)) }
     ensures told { IfOk result (λ shapes. AreWidthErrors I.least I.greatest (I.value width) options (fill_rule_of fill_rule) solver.precision
@@ -82,7 +82,7 @@ pub fn space_errors<I: OverlayInt, R: IntShapeResource<I>>(
 ) -> Result<IntShapes<I>, Fault>
     requires ready { R.is_ready source.now }
     requires in_range { AreInRange I.least I.greatest (contours_of I.value (R.paths source.now)) }
-    requires straight { AreLevelOrUpright (contours_of I.value (R.paths source.now)) }
+    requires straight { AreRectilinear (contours_of I.value (R.paths source.now)) }
     requires side { IsSide I.least I.greatest (I.value space) }
     requires fits { Fits I.least I.greatest (evenly (I.value space)) (contours_of I.value (R.paths source.now)) }
     ensures told { IfOk result (λ shapes. AreSpaceErrors I.least I.greatest (I.value space) options (fill_rule_of fill_rule) solver.precision
@@ -174,8 +174,8 @@ fn moved_in_turn<I: OverlayInt>(
     requires in_range { AreInRange I.least I.greatest (contours_of I.value (parts region.now.points.items region.now.ranges.items)) }
     requires fits { FitsInTurn I.least I.greatest (amounts_of I.value first) (amounts_of I.value second)
         (contours_of I.value (parts region.now.points.items region.now.ranges.items)) }
-    ensures is { IfOk result (λ levels. IsMovedInTurn I.least I.greatest (amounts_of I.value first) (amounts_of I.value second) solver.precision
-        (contours_of I.value (parts region.now.points.items region.now.ranges.items)) (contours_of I.value (paths_of_shape levels))) }
+    ensures is { IfOk result (λ shifted. IsMovedInTurn I.least I.greatest (amounts_of I.value first) (amounts_of I.value second) solver.precision
+        (contours_of I.value (parts region.now.points.items region.now.ranges.items)) (contours_of I.value (paths_of_shape shifted))) }
     ensures refused { IfErr result (IsNotMovedInTurn I.least I.greatest (amounts_of I.value first) (amounts_of I.value second) solver.precision
         (contours_of I.value (parts region.now.points.items region.now.ranges.items))) }
 {
@@ -194,10 +194,10 @@ fn difference<I: OverlayInt, R: IntShapeResource<I>, S: IntShapeResource<I>>(
 ) -> Result<IntShapes<I>, Fault>
     requires one_is_ready { R.is_ready one.now }
     requires one_in_range { AreInRange I.least I.greatest (contours_of I.value (R.paths one.now)) }
-    requires one_straight { AreLevelOrUpright (contours_of I.value (R.paths one.now)) }
+    requires one_straight { AreRectilinear (contours_of I.value (R.paths one.now)) }
     requires other_is_ready { S.is_ready other.now }
     requires other_in_range { AreInRange I.least I.greatest (contours_of I.value (S.paths other.now)) }
-    requires other_straight { AreLevelOrUpright (contours_of I.value (S.paths other.now)) }
+    requires other_straight { AreRectilinear (contours_of I.value (S.paths other.now)) }
     ensures is { IfOk result (λ shapes. IsDifferenceOf I.least I.greatest options solver.precision (contours_of I.value (R.paths one.now))
         (contours_of I.value (S.paths other.now)) (shapes_of I.value shapes.shapes.items)) }
     ensures refused { IfErr result (IsNoDifference options.preserve_input_collinear solver.precision (contours_of I.value (R.paths one.now))
@@ -205,7 +205,7 @@ fn difference<I: OverlayInt, R: IntShapeResource<I>, S: IntShapeResource<I>>(
 {
     holding_goes_on();
     sources_are_held();
-    answers_stay_level_or_upright();
+    answers_stay_rectilinear();
     straight_maps_answer_their_region();
     let mut overlay = Overlay::from_subj_and_clip_custom(alloc, one, other, options, solver)?;
     overlay.overlay(OverlayRule::Difference, FillRule::Positive)

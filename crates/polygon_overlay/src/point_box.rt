@@ -1,4 +1,4 @@
-//! Boxes of points, whose sides run level and upright.
+//! Boxes of points, whose sides run horizontal and vertical.
 
 ghost use Rattle.std.specs.Prelude.{◌≡◌, ◌≤ℤ◌, All, int_lt};
 ghost use Rattle.plane_base.specs.Plane.{Point};

@@ -1,8 +1,8 @@
-//! Sizing: regions of level and upright edges, grown or shrunk by whole distances.
+//! Sizing: regions of horizontal and vertical edges, grown or shrunk by whole distances.
 //!
 //! The sides of a region move outward, each kind by an amount of its own, and inward where the amount is below 0: first in x, and then in y. What is
-//! answered for the contours is the region. Of it each upright step is moved, those that run up to the right and those that run down to the
-//! left, and the way from one to the next is level. These contours wind more often than 0 round just the region that is sized in x: `Positive`, for
+//! answered for the contours is the region. Of it each vertical step is moved, those that run up to the right and those that run down to the
+//! left, and the way from one to the next is horizontal. These contours wind more often than 0 round just the region that is sized in x: `Positive`, for
 //! where it shrinks they also wind the other way. What is answered for them is sized in y alike.
 //!
 //! What is shrunk by as much as it is wide is gone, and gaps and holes that are grown over are filled. No contours, and contours that fill nothing,
@@ -18,7 +18,7 @@ ghost use Rattle.plane_base.specs.PathViews.{paths_of_shape};
 ghost use Rattle.plane_base.specs.Plane.{Point, IsCoordinate};
 ghost use Rattle.plane_base.specs.Regions.{Positive, Subject};
 ghost use Rattle.plane_base.specs.Views.{point_of, points_of};
-ghost use Rattle.segment_split.specs.LineLaws.{is_level_or_upright, AllLevelOrUpright};
+ghost use Rattle.segment_split.specs.LineLaws.{is_rectilinear, AllRectilinear};
 ghost use Rattle.segment_arrangement.specs.RuleViews.{fill_rule_of};
 ghost use Rattle.contour_walk.specs.ShapeViews.{IsFlat, shapes_of, next_of};
 ghost use Rattle.contour_walk.specs.WalkLaws.{contour_steps};
@@ -30,7 +30,7 @@ ghost use Rattle.polygon_overlay.specs.SizingCalls.{HasRoom, HasRoomAlong, HasRo
 ghost use Rattle.polygon_overlay.specs.SizingCalls.{AreSized, AreSizedInTurn, IsNotMoved, IsNotSized, IsNotSizedInTurn};
 ghost use Rattle.polygon_overlay.specs.SizingLaws.{HoldsAlone, IsRegionOf, IsMovedTo, AreMoved};
 ghost use Rattle.polygon_overlay.specs.SizingViews.{amounts_of};
-ghost use Rattle.polygon_overlay.specs.Tiles.{AreLevelOrUpright};
+ghost use Rattle.polygon_overlay.specs.Tiles.{AreRectilinear};
 
 use crate::laws::{holding_goes_on, sources_are_held};
 use crate::overlay::Overlay;
@@ -62,7 +62,7 @@ pub struct Sizing<I> {
 /// The region that the fill rule makes of a source, sized: its shapes, by the options. Without a least area they wind once round each point of the
 /// region and round no other, on edges too.
 ///
-/// Each step of the source is level or upright, and its points stay in range with each amount: `are_level_or_upright` and `fits` test that. Refused
+/// Each step of the source is horizontal or vertical, and its points stay in range with each amount: `are_rectilinear` and `fits` test that. Refused
 /// as the queries of three overlays are, or with `Memory`.
 pub fn sized<I: OverlayInt, R: IntShapeResource<I>>(
     alloc: Global,
@@ -74,7 +74,7 @@ pub fn sized<I: OverlayInt, R: IntShapeResource<I>>(
 ) -> Result<IntShapes<I>, Fault>
     requires ready { R.is_ready source.now }
     requires in_range { AreInRange I.least I.greatest (contours_of I.value (R.paths source.now)) }
-    requires straight { AreLevelOrUpright (contours_of I.value (R.paths source.now)) }
+    requires straight { AreRectilinear (contours_of I.value (R.paths source.now)) }
     requires fits { Fits I.least I.greatest (amounts_of I.value by) (contours_of I.value (R.paths source.now)) }
     ensures sized { IfOk result (λ shapes. AreSized I.least I.greatest (amounts_of I.value by) options (fill_rule_of fill_rule) solver.precision
         (contours_of I.value (R.paths source.now)) (shapes_of I.value shapes.shapes.items)) }
@@ -83,15 +83,15 @@ pub fn sized<I: OverlayInt, R: IntShapeResource<I>>(
 {
     sized_is_the_neighbourhood();
     regions_stay_in_the_box();
-    let levels = moved_source(alloc, source, fill_rule, by, solver)?;
-    shapes_of_levels(alloc, &levels, options, solver)
+    let shifted = moved_source(alloc, source, fill_rule, by, solver)?;
+    shapes_of_shifted(alloc, &shifted, options, solver)
 }
 
 /// The region that the fill rule makes of a source, sized by the first amounts and then by the second, as `sized` of the shapes of `sized` is: its
 /// shapes, by the options. Grown and then shrunk by as much it is closed: gaps and notches are filled that are no wider than both amounts. Shrunk
 /// and then grown it is opened: what is no wider is gone.
 ///
-/// Each step of the source is level or upright, and its points stay in range with each amount in turn: `are_level_or_upright` and `fits_in_turn` test
+/// Each step of the source is horizontal or vertical, and its points stay in range with each amount in turn: `are_rectilinear` and `fits_in_turn` test
 /// that. Refused as the queries of five overlays are, or with `Memory`.
 pub fn sized_in_turn<I: OverlayInt, R: IntShapeResource<I>>(
     alloc: Global,
@@ -104,7 +104,7 @@ pub fn sized_in_turn<I: OverlayInt, R: IntShapeResource<I>>(
 ) -> Result<IntShapes<I>, Fault>
     requires ready { R.is_ready source.now }
     requires in_range { AreInRange I.least I.greatest (contours_of I.value (R.paths source.now)) }
-    requires straight { AreLevelOrUpright (contours_of I.value (R.paths source.now)) }
+    requires straight { AreRectilinear (contours_of I.value (R.paths source.now)) }
     requires fits { FitsInTurn I.least I.greatest (amounts_of I.value first) (amounts_of I.value second) (contours_of I.value (R.paths source.now)) }
     ensures sized { IfOk result (λ shapes. AreSizedInTurn I.least I.greatest (amounts_of I.value first) (amounts_of I.value second) options
         (fill_rule_of fill_rule) solver.precision (contours_of I.value (R.paths source.now)) (shapes_of I.value shapes.shapes.items)) }
@@ -113,18 +113,18 @@ pub fn sized_in_turn<I: OverlayInt, R: IntShapeResource<I>>(
 {
     moved_fill_the_sized();
     regions_stay_in_the_box();
-    let levels = moved_source(alloc, source, fill_rule, first, solver)?;
-    sized(alloc, &levels, FillRule::Positive, second, options, solver)
+    let shifted = moved_source(alloc, source, fill_rule, first, solver)?;
+    sized(alloc, &shifted, FillRule::Positive, second, options, solver)
 }
 
-/// Whether each step of each contour of a source is level or upright. It takes no memory.
-pub fn are_level_or_upright<I: OverlayInt, R: IntShapeResource<I>>(source: &R) -> bool
+/// Whether each step of each contour of a source is horizontal or vertical. It takes no memory.
+pub fn are_rectilinear<I: OverlayInt, R: IntShapeResource<I>>(source: &R) -> bool
     requires { R.is_ready source.now }
-    ensures { IsTrue result ↔ AreLevelOrUpright (contours_of I.value (R.paths source.now)) }
+    ensures { IsTrue result ↔ AreRectilinear (contours_of I.value (R.paths source.now)) }
 {
     for shape in 0..source.shape_count() {
         for index in 0..source.shape_len(shape) {
-            if !runs_level_or_upright(source.shape_path(shape, index)) {
+            if !is_rectilinear_contour(source.shape_path(shape, index)) {
                 return false;
             }
         }
@@ -168,20 +168,20 @@ pub fn fits_in_turn<I: OverlayInt, R: IntShapeResource<I>>(
     true
 }
 
-// Whether each step of a contour is level or upright.
-fn runs_level_or_upright<I: OverlayInt>(points: &[IntPoint<I>]) -> bool
-    ensures { IsTrue result ↔ AllLevelOrUpright (contour_steps (points_of I.value points.now)) }
+// Whether each step of a contour is horizontal or vertical.
+fn is_rectilinear_contour<I: OverlayInt>(points: &[IntPoint<I>]) -> bool
+    ensures { IsTrue result ↔ AllRectilinear (contour_steps (points_of I.value points.now)) }
 {
     for place in 0..points.len() {
-        if !is_level_or_upright(points[place], point_after(points, place)) {
+        if !is_rectilinear(points[place], point_after(points, place)) {
             return false;
         }
     }
     true
 }
 
-fn is_level_or_upright<I: OverlayInt>(from: IntPoint<I>, to: IntPoint<I>) -> bool
-    ensures { result ≡ is_level_or_upright (record { a = point_of I.value from; b = point_of I.value to }) }
+fn is_rectilinear<I: OverlayInt>(from: IntPoint<I>, to: IntPoint<I>) -> bool
+    ensures { result ≡ is_rectilinear (record { a = point_of I.value from; b = point_of I.value to }) }
 {
     is_same(from.y, to.y) || is_same(from.x, to.x)
 }
@@ -300,8 +300,8 @@ pub(crate) fn moved_source<I: OverlayInt, R: IntShapeResource<I>>(
     requires ready { R.is_ready source.now }
     requires in_range { AreInRange I.least I.greatest (contours_of I.value (R.paths source.now)) }
     requires fits { Fits I.least I.greatest (amounts_of I.value by) (contours_of I.value (R.paths source.now)) }
-    ensures is { IfOk result (λ levels. AreMoved I.least I.greatest (amounts_of I.value by) (fill_rule_of fill_rule) solver.precision
-        (contours_of I.value (R.paths source.now)) (contours_of I.value (paths_of_shape levels))) }
+    ensures is { IfOk result (λ shifted. AreMoved I.least I.greatest (amounts_of I.value by) (fill_rule_of fill_rule) solver.precision
+        (contours_of I.value (R.paths source.now)) (contours_of I.value (paths_of_shape shifted))) }
     ensures refused { IfErr result (IsNotMoved I.least I.greatest (amounts_of I.value by) (fill_rule_of fill_rule) solver.precision
         (contours_of I.value (R.paths source.now))) }
 {
@@ -320,8 +320,8 @@ pub(crate) fn moved_region<I: OverlayInt>(
     requires well_formed { IsFlat region.now }
     requires in_range { AreInRange I.least I.greatest (contours_of I.value (parts region.now.points.items region.now.ranges.items)) }
     requires fits { Fits I.least I.greatest (amounts_of I.value by) (contours_of I.value (parts region.now.points.items region.now.ranges.items)) }
-    ensures is { IfOk result (λ levels. IsMovedTo I.least I.greatest (amounts_of I.value by) solver.precision
-        (contours_of I.value (parts region.now.points.items region.now.ranges.items)) (contours_of I.value (paths_of_shape levels))) }
+    ensures is { IfOk result (λ shifted. IsMovedTo I.least I.greatest (amounts_of I.value by) solver.precision
+        (contours_of I.value (parts region.now.points.items region.now.ranges.items)) (contours_of I.value (paths_of_shape shifted))) }
     ensures refused { IfErr result (IsNotSimplified false solver.precision
         (map (moved (moved_across (I.value by.left) (I.value by.right))) (contours_of I.value (parts region.now.points.items region.now.ranges.items)))) }
 {
@@ -332,25 +332,25 @@ pub(crate) fn moved_region<I: OverlayInt>(
 }
 
 // The shapes of what moved contours wind round more often than 0.
-fn shapes_of_levels<I: OverlayInt>(
+fn shapes_of_shifted<I: OverlayInt>(
     alloc: Global,
-    levels: &IntShape<I>,
+    shifted: &IntShape<I>,
     options: IntOverlayOptions,
     solver: Solver,
 ) -> Result<IntShapes<I>, Fault>
-    requires { AreInRange I.least I.greatest (contours_of I.value (paths_of_shape levels.now)) }
+    requires { AreInRange I.least I.greatest (contours_of I.value (paths_of_shape shifted.now)) }
     ensures is { IfOk result (λ shapes. (held : List (Entry Count)) ×
-        HoldsAlone I.least I.greatest options.preserve_input_collinear (contours_of I.value (paths_of_shape levels.now)) held ×
+        HoldsAlone I.least I.greatest options.preserve_input_collinear (contours_of I.value (paths_of_shape shifted.now)) held ×
         IsAnswered I.least I.greatest options Positive Subject solver.precision held (shapes_of I.value shapes.shapes.items)) }
-    ensures refused { IfErr result (IsNotSimplified options.preserve_input_collinear solver.precision (contours_of I.value (paths_of_shape levels.now))) }
+    ensures refused { IfErr result (IsNotSimplified options.preserve_input_collinear solver.precision (contours_of I.value (paths_of_shape shifted.now))) }
 {
     holding_goes_on();
     sources_are_held();
     let mut overlay = Overlay::new_custom(alloc, 0, options, solver)?;
-    overlay.overlay_of_source(levels, FillRule::Positive)
+    overlay.overlay_of_source(shifted, FillRule::Positive)
 }
 
-// The contours of a region, their upright steps moved, or else their level ones.
+// The contours of a region, their vertical steps moved, or else their horizontal ones.
 fn moved<I: OverlayInt>(
     alloc: Global,
     region: &FlatContoursBuffer<I>,

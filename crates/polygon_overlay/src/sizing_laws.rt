@@ -10,9 +10,9 @@ use contour_walk::binding_laws::{answer_has_all_walks, corners_stay};
 use segment_arrangement::laws::filled_is_bounded;
 use segment_split::count::ShapeCountBoolean;
 use segment_split::laws::{passes_rearrange, redrawing_comes_to_rest, redrawn_maps_are_balanced};
-use segment_split::spread_laws::{redrawn_of_level_and_upright, whole_meetings_keep_windings};
+use segment_split::spread_laws::{redrawn_of_rectilinear, whole_meetings_keep_windings};
 
-/// What the region of level and upright contours, moved in x and then in y, winds round more often than 0: the sized region.
+/// What the region of horizontal and vertical contours, moved in x and then in y, winds round more often than 0: the sized region.
 pub fn moved_fill_the_sized()
     ensures { MovedFillTheSized }
 {
@@ -25,7 +25,7 @@ pub fn moved_fill_the_sized()
     corners_stay();
     whole_meetings_keep_windings();
     held_winds_as_given();
-    redrawn_of_level_and_upright::<ShapeCountBoolean>();
+    redrawn_of_rectilinear::<ShapeCountBoolean>();
     answer_has_all_walks();
     least_of_zero_keeps_all();
 }
@@ -42,7 +42,7 @@ pub fn regions_stay_in_the_box()
     answers_stay_in_the_box();
 }
 
-/// What an answer for level and upright contours, moved in x and then in y, winds round: the sized region.
+/// What an answer for horizontal and vertical contours, moved in x and then in y, winds round: the sized region.
 pub fn sized_is_the_neighbourhood()
     ensures { SizedIsTheNeighbourhood }
 {
@@ -55,7 +55,7 @@ pub fn sized_is_the_neighbourhood()
     corners_stay();
     whole_meetings_keep_windings();
     held_winds_as_given();
-    redrawn_of_level_and_upright::<ShapeCountBoolean>();
+    redrawn_of_rectilinear::<ShapeCountBoolean>();
     answer_has_all_walks();
     least_of_zero_keeps_all();
 }

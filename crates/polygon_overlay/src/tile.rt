@@ -1,7 +1,7 @@
 //! Tiles: boxes between whole coordinates, into which contours are clamped.
 //!
 //! Each point of a contour goes to the nearest point of the tile, in x and in y alone, so nothing is cut and nothing is rounded. Where each step
-//! of the contour is level or upright, lies in the tile or lies beyond one of its four lines, the clamped contour winds in the tile as the
+//! of the contour is horizontal or vertical, lies in the tile or lies beyond one of its four lines, the clamped contour winds in the tile as the
 //! contour does, and nowhere else: a tile has its left and its top, and neither its right nor its bottom. Of a contour beside the tile there
 //! is left a way there and back, of one round it its border, and a tile of no width or no height has nothing. Points that a contour then
 //! passes straight stay: what adds the contour to a builder takes them out. The time is linear.

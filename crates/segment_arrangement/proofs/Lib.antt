@@ -5,4 +5,4 @@ mod Sweeps
 mod Graphs
 mod AlikeRules
 mod DepthLaws
-mod LevelSides
+mod RectilinearSides

@@ -66,8 +66,8 @@ live = refl
 ended : is_live (pos 10) bottom.edge ≡ false
 ended = refl
 
-upright_never : is_live (pos 0) left.edge ≡ false
-upright_never = refl
+vertical_never : is_live (pos 0) left.edge ≡ false
+vertical_never = refl
 
 below_top : below square top.edge (pos 4) ≡ count (pos 1)
 below_top = refl

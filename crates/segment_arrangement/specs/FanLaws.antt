@@ -24,7 +24,7 @@ sum_of_counts es = record { subject = total (λ e. e.count.subject) es; clip = t
 abbrev pub starts_at : Point → Entry Count → Bool
 starts_at v e = is_eq (point_order e.edge.a v)
 
--- the edges of the map that start at v, by rising angle, so the upright one last
+-- the edges of the map that start at v, by rising angle, so the vertical one last
 pub record IsFan (es : List (Entry Count)) (v : Point) (fan : List (Entry Count)) : Type 0 where
   pub all : IsPermutation (filter (starts_at v) es) fan
   pub rising : AllPairs (λ e f. angle_order e.edge f.edge ≡ Less) fan

@@ -15,7 +15,7 @@ pub mod Strings
 pub mod Clips
 pub mod Sweeps
 pub mod SweepViews
-pub mod LevelRows
+pub mod HorizontalRows
 pub mod LinkEnds
 pub mod LinkViews
 pub mod LinkEndViews

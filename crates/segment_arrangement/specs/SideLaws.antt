@@ -38,7 +38,7 @@ BelowIsConstant =
     → IsLive x s → IsLive y s → below es s x ≡ below es s y
 
 -- The same seen by points: at an inner point of such a segment the winding is what passes below the segment at any of its columns;
--- so it is the same at all inner points, of an upright segment too.
+-- so it is the same at all inner points, of a vertical segment too.
 pub record WindingAlongSegment : Type 0 where
   pub is_below :
       (es : List (Entry Count)) (s : Edge) (p : RationalPoint) (x : ℤ) → All (λ e. is_before e.edge.a e.edge.b ≡ true) es → IsBalancedMap es →

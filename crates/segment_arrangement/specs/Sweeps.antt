@@ -82,11 +82,11 @@ abbrev pub starts_of : List (Entry Count) → ℕ
 starts_of [] = 0
 starts_of (e ∷ rest) = cond (list_any (starts_at e.edge.a) rest) 0 1 + starts_of rest
 
--- how many edges are not upright
+-- how many edges are not vertical
 abbrev pub slanted : List (Entry Count) → ℕ
 slanted es = count_by (λ e. int_lt e.edge.a.x e.edge.b.x) es
 
--- a query at each point at which edges start, and an insertion of each edge that is not upright
+-- a query at each point at which edges start, and an insertion of each edge that is not vertical
 abbrev pub calls_of : List (Entry Count) → ℕ
 calls_of es = starts_of es + slanted es
 

@@ -1,5 +1,5 @@
 //! The segments that start at one point, by angle from the lowest: std's sort by cross products of their ways. In an arrangement
-//! no two of them run in one direction. Degenerate cases: an upright one comes last. It takes n log n time and no memory.
+//! no two of them run in one direction. Degenerate cases: a vertical one comes last. It takes n log n time and no memory.
 
 ghost use Rattle.std.specs.Prelude.{◌≡◌, ◌-ℤ◌, ◌*ℤ◌, pos, true, IsPermutation};
 ghost use Rattle.std.specs.List.Sorted.{IsSortedBy};
@@ -65,7 +65,7 @@ impl<I: OverlayInt> FanItem<I> {
     }
 }
 
-/// Sorts the segments of a fan by angle, the upright one last.
+/// Sorts the segments of a fan by angle, the vertical one last.
 pub(crate) fn sort_by_angle<I: OverlayInt>(fan: &mut [FanItem<I>])
     ensures permutation { IsPermutation fan.old fan.new }
     ensures sorted { IsSortedBy (λ s t. turns_left s.width s.climb t.width t.climb) fan.new }

@@ -22,11 +22,11 @@ pub mod filter;
 pub mod graph;
 pub mod handler;
 pub mod laws;
-mod level_sides;
 pub mod link;
 mod live;
 pub mod node;
 pub mod overlay_rule;
+mod rectilinear_sides;
 pub mod string_graph;
 pub mod sweep;
 

@@ -57,7 +57,7 @@ pub(crate) fn below_start<
     )
 }
 
-// Makes a segment live from its start on, with what lies above it, where the place leads. An upright one never lives. Gives the
+// Makes a segment live from its start on, with what lies above it, where the place leads. A vertical one never lives. Gives the
 // place for the next segment that starts there.
 pub(crate) fn make_live<
     C: FilledCount,

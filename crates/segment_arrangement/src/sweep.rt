@@ -1,9 +1,9 @@
 //! The sides of the segments of an arrangement by a plane sweep, from start point to start point: like Shamos and Hoey's, since
 //! nothing crosses. The segments that start at a point stand by angle (`fan`), the status tells what lies below the lowest
 //! (`live`), and windings are summed upward from it (`fan_sides`). The status is a list, a red-black tree or a row; where all
-//! segments are level or upright, `Auto` keeps what ran last at each height (`level_sides`).
+//! segments are horizontal or vertical, `Auto` keeps what ran last at each height (`rectilinear_sides`).
 //!
-//! Degenerate cases: an upright segment is the last of its fan and never lives. With a list it takes up to n comparisons for each
+//! Degenerate cases: a vertical segment is the last of its fan and never lives. With a list it takes up to n comparisons for each
 //! start and each segment, else 4nk at most in all, where k is the greatest with `2^k <= n + 1`; and fans take n log n.
 
 ghost use Rattle.std.specs.Prelude.{◌≡◌, ℕ, ◌+◌, ◌-◌, ◌*◌, ◌<◌, ◌≤◌, ◌^◌, ◌⊎◌, false};
@@ -13,7 +13,7 @@ ghost use Rattle.i_tree.specs.Steps.{CountsAtMost};
 ghost use Rattle.plane_base.specs.Views.{point_of};
 ghost use Rattle.plane_base.specs.SegmentViews.{edge_of};
 ghost use Rattle.plane_base.specs.declared.fault.Fault.TheVariants.{Count, Memory};
-ghost use Rattle.segment_split.specs.LineLaws.{AllLevelOrUpright};
+ghost use Rattle.segment_split.specs.LineLaws.{AllRectilinear};
 ghost use Rattle.segment_split.specs.Passes.{edges_of};
 ghost use Rattle.segment_split.specs.SegmentViews.{AreWithin};
 ghost use Rattle.segment_split.specs.declared.solver.Strategy.TheVariants.{Auto};
@@ -33,8 +33,8 @@ use crate::fan_list::{end_of_fan, sides_of_fan};
 use crate::fill::SegmentFill;
 use crate::fill_rule::FillRule;
 use crate::handler::FillHandler;
-use crate::level_sides::{LevelRows, are_level_or_upright, sweep_levels};
 use crate::live::{below_start, make_live};
+use crate::rectilinear_sides::{HorizontalRows, are_rectilinear, sweep_by_rows};
 use i_tree::key::exp::KeyExpCollection;
 use i_tree::key::list::KeyExpList;
 use i_tree::key::row::KeyExpRow;
@@ -63,7 +63,7 @@ pub struct SweepRunner<I: OverlayInt> {
     list: KeyExpList<VSegment<I>, I, ShapeCountBoolean>,
     tree: KeyExpTree<VSegment<I>, I, ShapeCountBoolean>,
     row: KeyExpRow<VSegment<I>, I, ShapeCountBoolean>,
-    levels: LevelRows<I>,
+    horizontals: HorizontalRows<I>,
     fans: Fans<I>,
 }
 
@@ -83,7 +83,7 @@ impl<I: OverlayInt> SweepRunner<I> {
             list: KeyExpList::new(alloc, 0)?,
             tree: KeyExpTree::new(alloc, 0)?,
             row: KeyExpRow::new(alloc, 0)?,
-            levels: LevelRows::new(alloc),
+            horizontals: HorizontalRows::new(alloc),
             fans: Fans {
                 items: Vec::new(alloc),
                 sides: Vec::new(alloc),
@@ -95,7 +95,7 @@ impl<I: OverlayInt> SweepRunner<I> {
     ///
     /// Refused with `Memory`, with `Count` where what lies above some segment leaves the range of counts, or with the fault by
     /// which the handler refuses a segment. With `List`, and with `Auto` below 64 segments, it keeps a list of live segments, else a tree or,
-    /// with `Auto`, a row where few live at once. With `Auto` from 64 segments on, all of them level or upright, it keeps the last level
+    /// with `Auto`, a row where few live at once. With `Auto` from 64 segments on, all of them horizontal or vertical, it keeps the last horizontal
     /// segment of each height. The fills are the same.
     pub fn run_with_fill_rule<C: FilledCount, D, H: FillHandler<C, I, D>, L: Ledger>(
         &mut self,
@@ -134,11 +134,11 @@ impl<I: OverlayInt> SweepRunner<I> {
                 steps,
             );
         }
-        if goes_by_levels(solver.strategy, segments) {
-            return sweep_levels(
+        if goes_by_rows(solver.strategy, segments) {
+            return sweep_by_rows(
                 rule,
                 segments,
-                &mut self.levels,
+                &mut self.horizontals,
                 &mut self.fans,
                 handler,
                 steps,
@@ -178,15 +178,15 @@ fn stands_on_list(strategy: Strategy, number: usize) -> bool
     }
 }
 
-// Whether a sweep that needs no list goes by the rows of level edges. They bound its comparisons as a tree does.
-fn goes_by_levels<C: FilledCount, I: OverlayInt, D>(
+// Whether a sweep that needs no list goes by the rows of horizontal edges. They bound its comparisons as a tree does.
+fn goes_by_rows<C: FilledCount, I: OverlayInt, D>(
     strategy: Strategy,
     segments: &[Segment<C, I, D>],
 ) -> bool
-    ensures level { IsTrue result → AllLevelOrUpright (edges_of (all_seen C.sides I.value segments.now)) }
+    ensures rectilinear { IsTrue result → AllRectilinear (edges_of (all_seen C.sides I.value segments.now)) }
     ensures strategy { IsTrue result → strategy ≡ Auto }
 {
-    matches!(strategy, Strategy::Auto) && are_level_or_upright(segments)
+    matches!(strategy, Strategy::Auto) && are_rectilinear(segments)
 }
 
 // Whether a sweep that needs no list stands on a row, else on a tree. A row bounds its comparisons as a tree does.
@@ -236,7 +236,7 @@ fn sweep<
     Ok(handler.finish())
 }
 
-// Finds the sides of the segments that start at one point, and makes those live that are not upright.
+// Finds the sides of the segments that start at one point, and makes those live that are not vertical.
 fn sweep_fan<
     C: FilledCount,
     I: OverlayInt,
@@ -286,7 +286,7 @@ fn sweep_fan<
     insert_fan(segments, from, to, &fans.sides, sought.place, live, steps)
 }
 
-// Makes the segments of a fan live that are not upright, at the place that the search for their start led to.
+// Makes the segments of a fan live that are not vertical, at the place that the search for their start led to.
 fn insert_fan<
     C: FilledCount,
     I: OverlayInt,

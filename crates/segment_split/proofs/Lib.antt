@@ -7,7 +7,7 @@ mod Spread
 mod Whole
 mod Stops
 mod Mixed
-pub mod Ranks
+pub mod PlaceSet
 pub mod Rows
 pub mod BucketTrees
 mod Strings

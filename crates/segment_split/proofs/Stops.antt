@@ -1,4 +1,4 @@
--- Level and upright edges met by a sweep from the last stop to the first.
+-- Horizontal and vertical edges met by a sweep from the last stop to the first.
 pub mod Rows
 pub mod SeenRows
 pub mod Changes

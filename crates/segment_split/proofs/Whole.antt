@@ -5,7 +5,7 @@ pub mod Windings
 pub mod Redrawing
 pub mod CutPoints
 pub mod Neighbours
-pub mod LevelEdges
+pub mod RectilinearEdges
 pub mod Coordinates
 pub mod StepLists
 pub mod Inside

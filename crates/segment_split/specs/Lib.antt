@@ -13,7 +13,7 @@ pub mod TurnLaws
 pub mod Stops
 pub mod Sweeps
 pub mod SecondEnds
-pub mod Ranks
+pub mod PlaceSet
 pub mod Kinds
 pub mod Sums
 pub mod Adding

@@ -1,4 +1,4 @@
--- Redrawing by lines: what becomes of a map whose edges cross at whole points alone, level and upright ones among them.
+-- Redrawing by lines: what becomes of a map whose edges cross at whole points alone, horizontal and vertical ones among them.
 use Rattle.std.specs.Prelude.{◌≡◌, ◌≢◌, ◌↔◌, ◌⊎◌, ℕ, pos, ◌+ℤ◌, ◌<ℤ◌, ◌≤ℤ◌, Bool, true, false, cond, ◌&&◌, ◌||◌}
 use Rattle.std.specs.Prelude.{Option, Some, None, List, [], ◌∷◌, ◌++◌, map, filter, All, AllPairs, Contains}
 use Rattle.std.specs.declared.cmp.Ordering.TheVariants.{Less}
@@ -14,11 +14,11 @@ use Rattle.segment_split.specs.WholeLaws.{AllMeetWhole}
 use Rattle.segment_split.specs.declared.solver.Precision.{Precision}
 
 -- The edge runs along x alone, or along y alone.
-abbrev pub is_level_or_upright : Edge → Bool
-is_level_or_upright s = int_eq s.a.y s.b.y || int_eq s.a.x s.b.x
+abbrev pub is_rectilinear : Edge → Bool
+is_rectilinear s = int_eq s.a.y s.b.y || int_eq s.a.x s.b.x
 
-abbrev pub AllLevelOrUpright : List Edge → Type 0
-AllLevelOrUpright es = All (λ s. is_level_or_upright s ≡ true) es
+abbrev pub AllRectilinear : List Edge → Type 0
+AllRectilinear es = All (λ s. is_rectilinear s ≡ true) es
 
 -- ---- the points of a line at which its edges are cut
 
@@ -71,9 +71,9 @@ pub record IsMapOfNeighbours {C : Type 0} (kind : Counting C) (es fs : List (Ent
 
 -- ---- the laws
 
--- Level and upright edges cross at whole points alone.
-abbrev pub LevelAndUprightMeetWhole : {C : Type 0} → Counting C → Type 0
-LevelAndUprightMeetWhole {C} kind = (es : List (Entry C)) → IsNormal kind es → AllLevelOrUpright (edges_of es) → AllMeetWhole (edges_of es)
+-- Horizontal and vertical edges cross at whole points alone.
+abbrev pub HorizontalAndVerticalMeetWhole : {C : Type 0} → Counting C → Type 0
+HorizontalAndVerticalMeetWhole {C} kind = (es : List (Entry C)) → IsNormal kind es → AllRectilinear (edges_of es) → AllMeetWhole (edges_of es)
 
 -- Where all edges do, a pass marks each at the cut points strictly inside it, and the redrawn map is that of the neighbours on all
 -- lines, at each precision. There is no other such map.
@@ -91,7 +91,7 @@ AddsAlong =
     (es : List (Entry Count)) (u : Edge)
     → count_along boolean es u ≡ cond (boolean.is_empty (sum_along es u)) None (Some (sum_along es u))
 
--- ---- level and upright edges by their coordinates
+-- ---- horizontal and vertical edges by their coordinates
 
 pub record PassesUpThrough (s : Edge) (p : Point) : Type 0 where
   pub first : s.a.x ≡ p.x
@@ -99,7 +99,7 @@ pub record PassesUpThrough (s : Edge) (p : Point) : Type 0 where
   pub below : s.a.y <ℤ p.y
   pub above : p.y <ℤ s.b.y
 
-pub record PassesLevelThrough (s : Edge) (p : Point) : Type 0 where
+pub record PassesHorizontalThrough (s : Edge) (p : Point) : Type 0 where
   pub first : s.a.y ≡ p.y
   pub second : s.b.y ≡ p.y
   pub left : s.a.x <ℤ p.x
@@ -110,7 +110,7 @@ abbrev pub IsMetAt : (Edge → Point → Type 0) → List Edge → Point → Typ
 IsMetAt passes es p = (s : Edge) × Contains es s × (((p ≡ s.a) ⊎ (p ≡ s.b)) ⊎ passes s p)
 
 -- s runs at the height of u, and not less far than u.
-pub record SpansLevel (s u : Edge) : Type 0 where
+pub record SpansHorizontal (s u : Edge) : Type 0 where
   pub first : s.a.y ≡ u.a.y
   pub second : s.b.y ≡ u.a.y
   pub from : s.a.x ≤ℤ u.a.x
@@ -123,18 +123,18 @@ pub record SpansUp (s u : Edge) : Type 0 where
   pub from : s.a.y ≤ℤ u.a.y
   pub to : u.b.y ≤ℤ s.b.y
 
--- A level line is cut where an edge ends on it, or an upright one passes through; an upright line where an edge ends on it, or
--- a level one passes through. What runs along a level or an upright edge spans it.
+-- A horizontal line is cut where an edge ends on it, or a vertical one passes through; a vertical line where an edge ends on it, or
+-- a horizontal one passes through. What runs along a horizontal or a vertical edge spans it.
 pub record CutByCoordinates {C : Type 0} (kind : Counting C) : Type 0 where
-  pub level_line :
-      (es : List (Entry C)) (u : Edge) (p : Point) → IsNormal kind es → AllLevelOrUpright (edges_of es) → is_before u.a u.b ≡ true → u.a.y ≡ u.b.y
+  pub horizontal_line :
+      (es : List (Entry C)) (u : Edge) (p : Point) → IsNormal kind es → AllRectilinear (edges_of es) → is_before u.a u.b ≡ true → u.a.y ≡ u.b.y
       → IsCutPoint (edges_of es) u p ↔ ((p.y ≡ u.a.y) × IsMetAt PassesUpThrough (edges_of es) p)
-  pub upright_line :
-      (es : List (Entry C)) (u : Edge) (p : Point) → IsNormal kind es → AllLevelOrUpright (edges_of es) → is_before u.a u.b ≡ true → u.a.x ≡ u.b.x
-      → IsCutPoint (edges_of es) u p ↔ ((p.x ≡ u.a.x) × IsMetAt PassesLevelThrough (edges_of es) p)
-  pub level_part :
-      (u s : Edge) → is_before u.a u.b ≡ true → is_before s.a s.b ≡ true → u.a.y ≡ u.b.y → (is_part u s ≡ true) ↔ SpansLevel s u
-  pub upright_part :
+  pub vertical_line :
+      (es : List (Entry C)) (u : Edge) (p : Point) → IsNormal kind es → AllRectilinear (edges_of es) → is_before u.a u.b ≡ true → u.a.x ≡ u.b.x
+      → IsCutPoint (edges_of es) u p ↔ ((p.x ≡ u.a.x) × IsMetAt PassesHorizontalThrough (edges_of es) p)
+  pub horizontal_part :
+      (u s : Edge) → is_before u.a u.b ≡ true → is_before s.a s.b ≡ true → u.a.y ≡ u.b.y → (is_part u s ≡ true) ↔ SpansHorizontal s u
+  pub vertical_part :
       (u s : Edge) → is_before u.a u.b ≡ true → is_before s.a s.b ≡ true → u.a.x ≡ u.b.x → (is_part u s ≡ true) ↔ SpansUp s u
 
 -- ---- the neighbours as a list
@@ -142,9 +142,9 @@ pub record CutByCoordinates {C : Type 0} (kind : Counting C) : Type 0 where
 abbrev pub IsEndOfSome : List Edge → Point → Type 0
 IsEndOfSome es p = (s : Edge) × Contains es s × ((p ≡ s.a) ⊎ (p ≡ s.b))
 
--- An upright edge of the list and a level one pass through p.
+-- A vertical edge of the list and a horizontal one pass through p.
 abbrev pub IsCrossing : List Edge → Point → Type 0
-IsCrossing es p = ((s : Edge) × Contains es s × PassesUpThrough s p) × ((s : Edge) × Contains es s × PassesLevelThrough s p)
+IsCrossing es p = ((s : Edge) × Contains es s × PassesUpThrough s p) × ((s : Edge) × Contains es s × PassesHorizontalThrough s p)
 
 abbrev pub right_of : Point → Point
 right_of p = record { x = p.x +ℤ pos 1; y = p.y }
@@ -188,12 +188,12 @@ steps_between kind es (p ∷ ps) =
 abbrev pub has_inside : List Edge → List Point → Bool
 has_inside es ps = list_any (λ s. list_any (λ p. strictly_inside p s) ps) es
 
--- The redrawn map of level and upright edges is, from each point at which they end or cross, the steps to the next ones above and
+-- The redrawn map of horizontal and vertical edges is, from each point at which they end or cross, the steps to the next ones above and
 -- to the right, in this order. Passes mark where one of the points lies strictly inside an edge, and nowhere else.
 pub record RedrawsAsSteps {C : Type 0} (kind : Counting C) (precision : Precision) : Type 0 where
   pub list :
-      (es : List (Entry C)) (ps : List Point) → IsNormal kind es → AllLevelOrUpright (edges_of es) → ArePoints kind es ps
+      (es : List (Entry C)) (ps : List Point) → IsNormal kind es → AllRectilinear (edges_of es) → ArePoints kind es ps
       → redrawn kind precision es ≡ steps_between kind es ps
   pub marked :
-      (es : List (Entry C)) (ps : List Point) → IsNormal kind es → AllLevelOrUpright (edges_of es) → ArePoints kind es ps
+      (es : List (Entry C)) (ps : List Point) → IsNormal kind es → AllRectilinear (edges_of es) → ArePoints kind es ps
       → (has_inside (edges_of es) ps ≡ true) ↔ ((k : ℕ) × MarksInPass kind precision es k)

@@ -1,10 +1,10 @@
--- Maps in which a few slanted edges stand among level and upright ones: which pairs their first pass looks at, and what becomes of each kind.
+-- Maps in which a few slanted edges stand among horizontal and vertical ones: which pairs their first pass looks at, and what becomes of each kind.
 use Rattle.std.specs.Prelude.{◌≡◌, ◌<◌, ◌≤◌, ◌&&◌, ◌++◌, ◌∷◌, [], ℕ, ℤ, Bool, true, false, not, List, length, map, filter, All, Contains, IsPermutation}
 use Rattle.i_tree.specs.Steps.{Counts}
 use Rattle.plane_base.specs.Plane.{Point, Edge}
 use Rattle.plane_base.specs.Counts.{Count, Counting, Entry}
 use Rattle.plane_base.specs.Given.{laid_path}
-use Rattle.segment_split.specs.LineLaws.{is_level_or_upright}
+use Rattle.segment_split.specs.LineLaws.{is_rectilinear}
 use Rattle.segment_split.specs.MarkLists.{LaidMark, IsAt, IsLaid, HasPair}
 use Rattle.segment_split.specs.Passes.{edges_of, marks_in, all_cut, all_cut_at}
 use Rattle.segment_split.specs.RedrawLaws.{with_counts}
@@ -31,7 +31,7 @@ TakesBothNew es next_new test =
 
 -- One of two edges at least is slanted.
 abbrev pub is_one_slanted : Edge → Edge → Bool
-is_one_slanted s t = not (is_level_or_upright s && is_level_or_upright t)
+is_one_slanted s t = not (is_rectilinear s && is_rectilinear t)
 
 -- the pairs of these that share an x
 abbrev pub slanted_pairs : List Edge → ℕ
@@ -45,29 +45,29 @@ pub record AreSlantedMarks (stride least greatest : ℤ) (precision : Precision)
   pub all :
       (i j : ℕ) (s t : Edge) → i < j → IsAt es i s → IsAt es j t → is_one_slanted s t ≡ true → HasPair laid i j (marks_in precision k s t)
 
--- These marks were found, by so many looks, in a map for which `Auto` looks by columns. No level or upright edge is crossed off the grid,
+-- These marks were found, by so many looks, in a map for which `Auto` looks by columns. No horizontal or vertical edge is crossed off the grid,
 -- and if that is told, no edge is.
 pub record IsSearched (stride least greatest : ℤ) (solver : Solver) {C : Type 0} (es : List (Entry C)) (laid : List LaidMark) (is_last : Bool)
     (first now : Counts) : Type 0 where
   pub auto : solver.strategy ≡ strategy.Auto
   pub many : 64 ≤ length es
   pub found : AreSlantedMarks stride least greatest solver.precision 0 (edges_of es) laid
-  pub lines : (s : Edge) → Contains (edges_of es) s → is_level_or_upright s ≡ true → MeetsAllWhole (edges_of es) s
+  pub lines : (s : Edge) → Contains (edges_of es) s → is_rectilinear s ≡ true → MeetsAllWhole (edges_of es) s
   pub last : is_last ≡ true → AllMeetWhole (edges_of es)
   pub looks : CountsPairsUpTo first now (slanted_pairs (edges_of es))
 
--- level and upright entries, and slanted ones
+-- horizontal and vertical entries, and slanted ones
 abbrev pub lines_among : {C : Type 0} → List (Entry C) → List (Entry C)
-lines_among es = filter (λ e. is_level_or_upright e.edge) es
+lines_among es = filter (λ e. is_rectilinear e.edge) es
 
 abbrev pub slanted_among : {C : Type 0} → List (Entry C) → List (Entry C)
-slanted_among es = filter (λ e. not (is_level_or_upright e.edge)) es
+slanted_among es = filter (λ e. not (is_rectilinear e.edge)) es
 
 -- what an entry becomes through laid marks
 abbrev pub laid_through : {C : Type 0} → Counting C → Entry C → List LaidMark → List (Entry C)
 laid_through kind e laid = laid_path kind e.count (e.edge.a ∷ (map (λ m. m.point) laid ++ (e.edge.b ∷ [])))
 
--- Level and upright entries are cut so at first in pass k, and not joined; slanted ones apart from them, as in that pass. Counts of the
+-- Horizontal and vertical entries are cut so at first in pass k, and not joined; slanted ones apart from them, as in that pass. Counts of the
 -- first are sums.
 pub record ArePartsApart {C : Type 0} (kind : Counting C) (of : Count → C) (precision : Precision) (k : ℕ) (es : List (Entry C))
     (lines : List (Entry Count)) (others : List (Entry C)) : Type 0 where

@@ -156,7 +156,7 @@ abbrev pub reaches_of : List Edge → List ℕ
 reaches_of es = map (reach_of es) es
 
 -- The edge t, of which the begin doesn't come before s's, lays nothing on s, as far as x tells: it begins past the end of s, or there,
--- where neither is upright.
+-- where neither is vertical.
 abbrev pub LiesOnward : Edge → Edge → Type 0
 LiesOnward s t = (s.b.x <ℤ t.a.x) ⊎ ((t.a.x ≡ s.b.x) × (s.a.x <ℤ s.b.x) × (t.a.x <ℤ t.b.x))
 
@@ -181,7 +181,7 @@ pub record AreTold (es : List Edge) (told : List ℕ) : Type 0 where
 abbrev pub all_reaches : List Edge → List ℕ → List ℕ
 all_reaches es told = told ++ drop (length told) (reaches_of es)
 
--- From this number up to j all edges begin at one x, and none is upright.
+-- From this number up to j all edges begin at one x, and none is vertical.
 abbrev pub IsRun : List Edge → ℕ → ℕ → Type 0
 IsRun es j r = (k : ℕ) (u t : Edge) → IsAt es j u → IsAt es k t → r ≤ k → k ≤ j → (t.a.x ≡ u.a.x) × (t.a.x <ℤ t.b.x)
 

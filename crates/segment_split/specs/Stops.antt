@@ -1,4 +1,4 @@
--- The points at which level and upright edges end or cross, met by a sweep from the last to the first.
+-- The points at which horizontal and vertical edges end or cross, met by a sweep from the last to the first.
 use Rattle.std.specs.Prelude.{◌≡◌, ℕ, zero, ◌+◌, ◌-◌, ◌^◌, ◌<◌, ◌≤◌, min, nat_lt, ℤ, pos, ◌<ℤ◌, ◌≤ℤ◌, Bool, not, cond, List, [], ◌∷◌, ◌++◌, length, take, drop, map, slice_index_or, All, AllPairs}
 use Rattle.std.specs.Prelude.{Option, Some, None}
 use Rattle.std.specs.Ordering.{int_eq}
@@ -6,9 +6,9 @@ use Rattle.plane_base.specs.Plane.{Point, Edge}
 use Rattle.plane_base.specs.Counts.{Count, Entry, boolean, lay}
 use Rattle.plane_base.specs.Views.{point_of}
 use Rattle.plane_base.specs.declared.point.IntPoint.{IntPoint}
-use Rattle.segment_split.specs.declared.level.lines.Line.{Line}
-use Rattle.segment_split.specs.declared.level.lines.Row.{Row}
-use Rattle.segment_split.specs.declared.level.lines.Lines.{Lines}
+use Rattle.segment_split.specs.declared.lines.status.Line.{Line}
+use Rattle.segment_split.specs.declared.lines.status.Row.{Row}
+use Rattle.segment_split.specs.declared.lines.status.Lines.{Lines}
 
 -- ---- what contracts see of lines
 
@@ -18,12 +18,12 @@ pub record LineView : Type 0 where
   pub sum : Count
   pub next : Option Point
 
--- a level line, with its height
+-- a horizontal line, with its height
 pub record RowView : Type 0 where
   pub y : ℤ
   pub line : LineView
 
--- the level lines, and what runs upward at the x of the sweep
+-- the horizontal lines, and what runs upward at the x of the sweep
 pub record LinesView : Type 0 where
   pub rows : List RowView
   pub column : LineView

@@ -1,4 +1,4 @@
--- A sweep over the stops of level and upright edges, from the last to the first: what stands where it came to a stop.
+-- A sweep over the stops of horizontal and vertical edges, from the last to the first: what stands where it came to a stop.
 use Rattle.std.specs.Prelude.{◌≡◌, ◌≢◌, ◌+◌, ◌<◌, ◌↔◌, ◌⊎◌, ℕ, ℤ, pos, ◌+ℤ◌, ◌<ℤ◌, nat_lt, Bool, true, false, not, cond, ◌||◌, List, [], ◌∷◌, ◌++◌}
 use Rattle.std.specs.Prelude.{length, map, reverse, All, AllPairs, Contains, IsPermutation, Option, Some, None}
 use Rattle.std.specs.declared.cmp.Ordering.TheVariants.{Less, Greater}
@@ -8,7 +8,7 @@ use Rattle.plane_base.specs.Segments.{strictly_inside}
 use Rattle.plane_base.specs.Counts.{Count, Entry, boolean}
 use Rattle.plane_base.specs.Totals.{total}
 use Rattle.segment_split.specs.Passes.{edges_of}
-use Rattle.segment_split.specs.LineLaws.{AllLevelOrUpright, IsEndOfSome, IsCrossing, CountsFrom, first_by, steps_between}
+use Rattle.segment_split.specs.LineLaws.{AllRectilinear, IsEndOfSome, IsCrossing, CountsFrom, first_by, steps_between}
 use Rattle.segment_split.specs.Kinds.{count_fits}
 use Rattle.segment_split.specs.Stops.{LineView, LinesView, AreRising, heights_in, IsPlaceOf, line_at, end_of, count_of, all_changed}
 
@@ -118,7 +118,7 @@ pub record IsNextEnd (es : List (Entry Count)) (t : Option Point) (p : Point) : 
   pub ahead : reached t p ≡ false
   pub last : (r : Point) → IsEndOfSome (edges_of es) r → reached t r ≡ false → is_le (point_order r p) ≡ true
 
--- While an upright key runs, no row between p and the last stop is to be met.
+-- While a vertical key runs, no row between p and the last stop is to be met.
 abbrev pub IsClear : Point → LinesView → List Point → Type 0
 IsClear p lines ps =
     (q : Point) → first_of ps ≡ Some q → 0 < lines.column.running
@@ -140,7 +140,7 @@ AreBySeconds es = AllPairs (λ e f. point_order e.edge.b f.edge.b ≢ Greater) e
 abbrev pub Crosses : Point → LinesView → List (Entry Count) → ℕ → LinesView → List (Entry Count) → ℕ → Bool → Type 0
 Crosses p lines laid ticks new_lines new_laid new_ticks crossed =
     (es before gone ahead come : List (Entry Count)) (t : Option Point) (ps : List Point) (marked : Bool)
-    → AreInOrder es → AllLevelOrUpright (edges_of es) → IsNextEnd es t p → Swept es t ps before gone ahead come lines laid marked
+    → AreInOrder es → AllRectilinear (edges_of es) → IsNextEnd es t p → Swept es t ps before gone ahead come lines laid marked
     → (more : List Point) × Swept es t more before gone ahead come new_lines new_laid (marked || crossed) × IsClear p new_lines more
     × ((first : ℕ) → Ticked es ps first ticks → Ticked es more first new_ticks)
 
@@ -148,7 +148,7 @@ Crosses p lines laid ticks new_lines new_laid new_ticks crossed =
 abbrev pub CrossesSome : Point → LinesView → List (Entry Count) → ℕ → ℕ → Type 0
 CrossesSome p lines laid ticks new_ticks =
     (es before gone ahead come : List (Entry Count)) (t : Option Point) (ps : List Point) (marked : Bool)
-    → AreInOrder es → AllLevelOrUpright (edges_of es) → IsNextEnd es t p → Swept es t ps before gone ahead come lines laid marked
+    → AreInOrder es → AllRectilinear (edges_of es) → IsNextEnd es t p → Swept es t ps before gone ahead come lines laid marked
     → (first : ℕ) → Ticked es ps first ticks → (more : List Point) × Ticked es more first new_ticks
 
 -- The sweep came to some stop, with these entries before it and ahead of it; those behind it are still in order. Pairs were counted.
@@ -179,7 +179,7 @@ pub record IsPlaced (lines : LinesView) (place : ℕ) : Type 0 where
 abbrev pub CrossesOnce : Point → LinesView → List (Entry Count) → LinesView → List (Entry Count) → Type 0
 CrossesOnce p lines laid new_lines new_laid =
     (es before gone ahead come : List (Entry Count)) (t : Option Point) (ps : List Point) (marked : Bool)
-    → AreInOrder es → AllLevelOrUpright (edges_of es) → IsNextEnd es t p → Swept es t ps before gone ahead come lines laid marked
+    → AreInOrder es → AllRectilinear (edges_of es) → IsNextEnd es t p → Swept es t ps before gone ahead come lines laid marked
     → (c : Point) × IsCrossing (edges_of es) c × IsBefore ps c × Swept es t (c ∷ ps) before gone ahead come new_lines new_laid true
 
 -- Nothing is changed, and no row between p and the last stop is to be met.

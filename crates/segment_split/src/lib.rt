@@ -15,7 +15,7 @@ pub mod data_laws;
 pub mod guesses;
 pub mod held;
 pub mod laws;
-pub mod level;
+pub mod lines;
 mod mark;
 mod merge;
 mod normal;

@@ -1,4 +1,4 @@
-//! Redrawing: noding on the grid, in passes until one marks nothing, or by a sweep over lines that comes to the same (`level`), which may
+//! Redrawing: noding on the grid, in passes until one marks nothing, or by a sweep over lines that comes to the same (`lines`), which may
 //! be part of the first pass, too (`mixed`). A pass marks (`roads`), cuts (`cutting`) and joins (`merge`).
 //!
 //! Unlike Hobby's snap rounding it bends a segment only where it cuts it, not to every point near it; what then crosses anew the next
@@ -29,7 +29,7 @@ ghost use Rattle.plane_base.specs.SegmentViews.{edge_of};
 use crate::count::WindingCount;
 use crate::cutting::cut_all;
 use crate::data::OverlayEdgeData;
-use crate::level::bare::redraw_by_lines;
+use crate::lines::bare::redraw_by_lines;
 use crate::mark::Mark;
 use crate::merge::sort_and_merge;
 use crate::normal::sort_and_join;

@@ -4,7 +4,7 @@ ghost use Rattle.plane_base.specs.Counts.{Counting};
 ghost use Rattle.segment_split.specs.AlongLaws.{MarksStandAlong, LatePathsClimb};
 ghost use Rattle.segment_split.specs.SpreadLaws.{LatePassesLower};
 ghost use Rattle.segment_split.specs.WholeLaws.{WholeMeetingsStay, WholeMeetingsKeepWindings};
-ghost use Rattle.segment_split.specs.LineLaws.{LevelAndUprightMeetWhole, RedrawsByLines, CutByCoordinates, RedrawsAsSteps, AddsAlong};
+ghost use Rattle.segment_split.specs.LineLaws.{HorizontalAndVerticalMeetWhole, RedrawsByLines, CutByCoordinates, RedrawsAsSteps, AddsAlong};
 ghost use Rattle.segment_split.specs.declared.solver.Precision.{Precision};
 
 /// A path goes through the marks that were laid, each once, in order, in whatever order they were found.
@@ -33,14 +33,14 @@ pub fn whole_meetings_keep_windings()
     ensures { WholeMeetingsKeepWindings }
 {}
 
-/// Level and upright edges cross at whole points alone. Where edges do, each line is cut at the points in which an edge ends or one
+/// Horizontal and vertical edges cross at whole points alone. Where edges do, each line is cut at the points in which an edge ends or one
 /// of another line passes: the redrawn map, at every precision, has the edges between neighbour points of each line with the counts
-/// that run along them joined, but for those that are empty. Of level and upright edges it is a list: from each point at which they
+/// that run along them joined, but for those that are empty. Of horizontal and vertical edges it is a list: from each point at which they
 /// end or cross the step up and the step along. An overlay's counts are added.
-pub fn redrawn_of_level_and_upright<C>()
-    ensures whole { (kind : Counting C) → LevelAndUprightMeetWhole kind }
+pub fn redrawn_of_rectilinear<C>()
+    ensures whole { (kind : Counting C) → HorizontalAndVerticalMeetWhole kind }
     ensures redrawn { (kind : Counting C) (precision : Precision) → RedrawsByLines kind precision }
-    ensures level { (kind : Counting C) → CutByCoordinates kind }
+    ensures rectilinear { (kind : Counting C) → CutByCoordinates kind }
     ensures steps { (kind : Counting C) (precision : Precision) → RedrawsAsSteps kind precision }
     ensures added { AddsAlong }
 {}

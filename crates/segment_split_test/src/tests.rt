@@ -12,7 +12,7 @@ mod colours;
 mod drawn;
 mod held;
 mod joins;
-mod level;
+mod lines;
 mod mixed;
 mod roads;
 mod splitting;

@@ -10,7 +10,7 @@ use Rattle.polygon_overlay.specs.Regions.{NonZero}
 use Rattle.polygon_overlay.specs.Singles.{IsSingleRefused}
 use Rattle.polygon_overlay.specs.Sizing.{IsFilledBy, WindWhere}
 use Rattle.polygon_overlay.specs.SizingCalls.{AreSized, IsNotSized, Fits}
-use Rattle.polygon_overlay.specs.Tiles.{AreLevelOrUpright}
+use Rattle.polygon_overlay.specs.Tiles.{AreRectilinear}
 
 -- ---- enclosures
 
@@ -26,10 +26,10 @@ AreEnclosureErrors distance inner outer shapes =
 
 -- ---- what can be checked
 
--- Edges in range, level or upright.
+-- Edges in range, horizontal or vertical.
 pub record IsMask (least greatest : ℤ) (mask : List (List Point)) : Type 0 where
   pub in_range : AreInRange least greatest mask
-  pub straight : AreLevelOrUpright mask
+  pub straight : AreRectilinear mask
 
 -- A width or a space, and a mask whose points keep so far from the ends of the range.
 pub record CanBeChecked (least greatest side : ℤ) (mask : List (List Point)) : Type 0 where

@@ -1,4 +1,4 @@
-//! Masks: level and upright edges, grown and shrunk by whole distances, and checked for widths, spaces and enclosures.
+//! Masks: horizontal and vertical edges, grown and shrunk by whole distances, and checked for widths, spaces and enclosures.
 //!
 //! Widths and spaces are told across: of two corners that face each other diagonally nothing is told, however near they are.
 
@@ -23,7 +23,7 @@ use polygon_overlay::plane::int::OverlayInt;
 use polygon_overlay::plane::path::IntShapes;
 use polygon_overlay::plane::range::source_in_range;
 use polygon_overlay::single::SingleIntOverlay;
-use polygon_overlay::sizing::{Sizing, are_level_or_upright, fits, sized};
+use polygon_overlay::sizing::{Sizing, are_rectilinear, fits, sized};
 use polygon_overlay::sizing_laws::grown_is_near;
 use polygon_overlay::split::solver::Solver;
 use polygon_overlay::tile_laws::straight_maps_answer_their_region;
@@ -31,7 +31,7 @@ use polygon_overlay::walk::options::IntOverlayOptions;
 use std::alloc::Global;
 
 /// A mask whose sides are moved outward, or inward where the amount is below 0. None where a point is out of range, or would be, or an edge is
-/// neither level nor upright.
+/// neither horizontal nor vertical.
 pub fn resized<I: OverlayInt>(
     alloc: Global,
     mask: &IntShapes<I>,
@@ -43,7 +43,7 @@ pub fn resized<I: OverlayInt>(
     if !source_in_range(mask) {
         return Ok(None);
     }
-    if !are_level_or_upright(mask) {
+    if !are_rectilinear(mask) {
         return Ok(None);
     }
     if !fits(mask, by) {
@@ -56,8 +56,8 @@ pub fn resized<I: OverlayInt>(
 
 /// What of a mask is narrower than a width: each of its points that no square of this width in the mask covers, wherever the square stands.
 ///
-/// `None` where the width is below 1, or doesn't fit in the range, or a point of the mask is nearer to an end of the range, or an edge is neither level
-/// nor upright.
+/// `None` where the width is below 1, or doesn't fit in the range, or a point of the mask is nearer to an end of the range, or an edge is neither horizontal
+/// nor vertical.
 pub fn width_errors<I: OverlayInt>(
     alloc: Global,
     mask: &IntShapes<I>,
@@ -102,7 +102,7 @@ pub fn space_errors<I: OverlayInt>(
 
 /// Where a mask doesn't enclose another by a distance: each point that it doesn't hold, no further from the inner mask than that, in x and in y.
 ///
-/// `None` where the distance is below 0, or a point is out of range, one of the inner mask moved so far too, or an edge is neither level nor upright.
+/// `None` where the distance is below 0, or a point is out of range, one of the inner mask moved so far too, or an edge is neither horizontal nor vertical.
 pub fn enclosure_errors<I: OverlayInt>(
     alloc: Global,
     inner: &IntShapes<I>,
@@ -134,7 +134,7 @@ fn is_mask<I: OverlayInt>(mask: &IntShapes<I>) -> bool
     if !source_in_range(mask) {
         return false;
     }
-    are_level_or_upright(mask)
+    are_rectilinear(mask)
 }
 
 fn can_be_checked<I: OverlayInt>(mask: &IntShapes<I>, side: I) -> bool

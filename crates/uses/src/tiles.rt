@@ -1,4 +1,4 @@
-//! A map of level and upright edges, tile by tile.
+//! A map of horizontal and vertical edges, tile by tile.
 
 use polygon_overlay::arrangement::fill_rule::FillRule;
 use polygon_overlay::arrangement::overlay_rule::OverlayRule;

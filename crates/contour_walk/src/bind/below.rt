@@ -1,7 +1,7 @@
 //! What lies below the anchors of holes: rays shot down from all of them in one plane sweep over edges with the region above them, and
 //! anchors, both by the columns where they begin. At an anchor the status is asked for the last edge below it.
 //!
-//! Degenerate cases: an edge that ends at the column isn't live; no anchor is upright. It takes n log n time with a tree; below 32 contours
+//! Degenerate cases: an edge that ends at the column isn't live; no anchor is vertical. It takes n log n time with a tree; below 32 contours
 //! the status is a list, which takes a step for each live edge.
 
 ghost use Rattle.std.specs.Prelude.{◌≡◌, ◌≢◌, ℕ, ◌≤◌, ◌<◌, ◌+◌, ◌^◌, ◌≤ℤ◌, ◌<ℤ◌, int_lt};

@@ -1,6 +1,6 @@
 //! The owners of holes among given contours.
 //!
-//! The steps of contours tell the sides of their edges. An anchor that is upright can't be sought by a sweep: where one is, and with too
+//! The steps of contours tell the sides of their edges. An anchor that is vertical can't be sought by a sweep: where one is, and with too
 //! many edges, a ray is shot down from each anchor, in time quadratic in the edges.
 
 ghost use Rattle.std.specs.Prelude.{◌≡◌, ◌<◌, ℕ, IfOk, IsOkUnless, IsFalse, All, int_lt, length, slice_index_or, true};
@@ -50,14 +50,14 @@ fn below_holes<I: OverlayInt>(
 {
     let edges = swept_edges(alloc, clockwise, contours)?;
     let anchors = sorted_anchors(alloc, contours)?;
-    if edges.len() >= MOST_EDGES || has_upright(&anchors) {
+    if edges.len() >= MOST_EDGES || has_vertical(&anchors) {
         return below_slowly(alloc, &edges, contours);
     }
     contours_below(alloc, &edges, &anchors, contours.len())
 }
 
-// Whether one of the edges is upright.
-fn has_upright<I: OverlayInt>(edges: &[OwnedEdge<I>]) -> bool
+// Whether one of the edges is vertical.
+fn has_vertical<I: OverlayInt>(edges: &[OwnedEdge<I>]) -> bool
     ensures { IsFalse result → All (λ o. int_lt o.edge.a.x o.edge.b.x ≡ true) (owned_edges_of I.value edges.now) }
 {
     for place in 0..edges.len() {

@@ -1,5 +1,5 @@
 //! What a sweep goes over: the edges that have the region above them, and the anchors of holes, both sorted by the columns where they
-//! begin. Degenerate cases: upright edges are left out, upright anchors aren't. It takes n log n time.
+//! begin. Degenerate cases: vertical edges are left out, vertical anchors aren't. It takes n log n time.
 
 ghost use Rattle.std.specs.Prelude.{◌≡◌, ◌++◌, ◌∷◌, [], IfOk, OnOk, IsOkUnless, IsPermutation, All, int_lt, map, filter};
 ghost use Rattle.plane_base.specs.Plane.{IsWithin};
@@ -18,7 +18,7 @@ use plane_base::point::IntPoint;
 use plane_base::segment::{XSegment, comes_before};
 use std::alloc::Global;
 
-/// The edges that have the region above them and aren't upright, by rising first ends. The steps of contours tell the sides.
+/// The edges that have the region above them and aren't vertical, by rising first ends. The steps of contours tell the sides.
 pub(crate) fn swept_edges<I: OverlayInt>(
     alloc: Global,
     output: bool,

@@ -174,7 +174,7 @@ thin 7 0 0 0 0 4 0 4 4 4 4 4 4 0 0 3 0 0 4 0 4 4
 thin 5 0 0 4 0 9 0 4 0 4 4 3 0 0 4 0 4 4
 # a spike that bends, and another at the seam
 thin 9 0 0 4 0 6 1 8 5 6 1 4 0 4 4 0 0 -3 -7 3 0 0 4 0 4 4
-# all on one line, upright and slanting
+# all on one line, vertical and slanting
 thin 4 0 0 0 5 0 3 0 9 0
 thin 5 0 0 2 4 1 2 -3 -6 5 10 0
 # there and back

@@ -10,7 +10,7 @@ use Rattle.contour_walk.specs.BindingLaws.{all_contours}
 use Rattle.polygon_overlay.specs.Checks.{IsCovered, IsNear, IsWidthError, IsSpaceError, GrownIsNear, evenly, opposite, halves}
 use Rattle.polygon_overlay.specs.Sizing.{Amounts, IsSized, IsFilledBy, WindWhere}
 use Rattle.polygon_overlay.specs.SizingLaws.{FillJust}
-use Rattle.polygon_overlay.specs.Tiles.{AreLevelOrUpright}
+use Rattle.polygon_overlay.specs.Tiles.{AreRectilinear}
 use Rattle.polygon_overlay.proofs.Checked.Cells.{column, row, place_winding, winding_by_places}
 use Rattle.polygon_overlay.proofs.Checked.Places.{floor, floor_moves, floor_rises, floor_is, row_of, row_moves, row_rises}
 use Rattle.polygon_overlay.proofs.Checked.Room.{halves_part}
@@ -23,7 +23,7 @@ use Rattle.polygon_overlay.proofs.Sized.InTurn.{wind_alike}
 abbrev cells_of : FillRule → List (List Point) → ℤ → ℤ → Type 0
 cells_of fill contours i j = is_filled fill (place_winding contours i j) ≡ true
 
-mask_by_cells : (fill : FillRule) (contours : List (List Point)) → AreLevelOrUpright contours → IsByCells (IsFilledBy fill contours) (cells_of fill contours)
+mask_by_cells : (fill : FillRule) (contours : List (List Point)) → AreRectilinear contours → IsByCells (IsFilledBy fill contours) (cells_of fill contours)
 mask_by_cells fill contours straight m some =
     let e = winding_by_places m some contours straight in
     (λ h. subst (λ w. is_filled fill w ≡ true) e h, λ h. subst (λ w. is_filled fill w ≡ true) (sym e) h)
@@ -52,7 +52,7 @@ whole_row n = ap (λ k. floor k 1) (less n) ∙ whole n
 
 -- ---- widths and spaces
 
-module _ (side : ℤ) (some_side : pos 1 ≤ℤ side) (fill : FillRule) (contours : List (List Point)) (straight : AreLevelOrUpright contours) where
+module _ (side : ℤ) (some_side : pos 1 ≤ℤ side) (fill : FillRule) (contours : List (List Point)) (straight : AreRectilinear contours) where
   abbrev In : RationalPoint → Type 0
   In p = IsFilledBy fill contours p
 
@@ -91,23 +91,23 @@ module _ (side : ℤ) (some_side : pos 1 ≤ℤ side) (fill : FillRule) (contour
         (λ h. (fills.1 h.0, λ k. h.1 (there.0 (covered.1 k))), λ h. (fills.0 h.0, λ k. h.1 (covered.0 (there.1 k)))))
 
   -- Grown contours tell of each place whether it belongs to the grown region.
-  decides : (by : Amounts) (levels : List (List Point)) → FillJust (IsSized by In) levels → (m n : ℤ) → SizedCells by At m n ⊎ (SizedCells by At m n → ⊥)
-  decides by levels grown m n =
+  decides : (by : Amounts) (shifted : List (List Point)) → FillJust (IsSized by In) shifted → (m n : ℤ) → SizedCells by At m n ⊎ (SizedCells by At m n → ⊥)
+  decides by shifted grown m n =
       tell (sized_by_cells In At cells by (point_at m n) (omega arith)) (grown.fills (point_at m n) (omega arith))
-      (is_filled Positive (contour_winding levels (point_at m n))) refl
+      (is_filled Positive (contour_winding shifted (point_at m n))) refl
     where
       tell : (IsSized by In (point_at m n) → SizedCells by At (floor m 1) (row_of (n +ℤ pos 1) 1)) × (SizedCells by At (floor m 1) (row_of (n +ℤ pos 1) 1)
           → IsSized by In (point_at m n))
-          → (IsSized by In (point_at m n) → IsFilledBy Positive levels (point_at m n)) × (IsFilledBy Positive levels (point_at m n)
+          → (IsSized by In (point_at m n) → IsFilledBy Positive shifted (point_at m n)) × (IsFilledBy Positive shifted (point_at m n)
           → IsSized by In (point_at m n))
-          → (b : Bool) → is_filled Positive (contour_winding levels (point_at m n)) ≡ b → SizedCells by At m n ⊎ (SizedCells by At m n → ⊥)
+          → (b : Bool) → is_filled Positive (contour_winding shifted (point_at m n)) ≡ b → SizedCells by At m n ⊎ (SizedCells by At m n → ⊥)
       tell places fills true e =
           inl (subst (λ i. SizedCells by At i n) (whole m) (subst (λ j. SizedCells by At (floor m 1) j) (whole_row n) (places.0 (fills.1 e))))
       tell places fills false e =
           inr (λ h. false≢true (sym e ∙ fills.0 (places.1 (subst (λ i. SizedCells by At i (row_of (n +ℤ pos 1) 1)) (sym (whole m))
           (subst (λ j. SizedCells by At m j) (sym (whole_row n)) h)))))
 
-  module _ (levels : List (List Point)) (grown : FillJust (IsSized (halves side) In) levels) where
+  module _ (shifted : List (List Point)) (grown : FillJust (IsSized (halves side) In) shifted) where
     -- what is grown and shrunk again is what no squares cover, outside
     closed_is_uncovered : (p : RationalPoint) → IsRational p
         → (Closed p → IsCovered side (λ m. In m → ⊥) p → ⊥) × ((IsCovered side (λ m. In m → ⊥) p → ⊥) → Closed p)
@@ -116,7 +116,7 @@ module _ (side : ℤ) (some_side : pos 1 ≤ℤ side) (fill : FillRule) (contour
         let covers = covered_by_cells side (λ m. In m → ⊥) (λ i j. At i j → ⊥) (off_by_cells In At cells) p some in (
           λ h k. closed_off_squares side (halves side) (halves_part side some_side) At (column p) (row p) (closes.0 h) (covers.0 k),
           λ off. closes.1
-              (closed_where_no_square side (halves side) (halves_part side some_side) At (decides (halves side) levels grown) (column p) (row p)
+              (closed_where_no_square side (halves side) (halves_part side some_side) At (decides (halves side) shifted grown) (column p) (row p)
               (λ k. off (covers.1 k))),
         )
 
@@ -132,7 +132,7 @@ module _ (side : ℤ) (some_side : pos 1 ≤ℤ side) (fill : FillRule) (contour
 
 -- ---- what is grown by one distance is near
 
-module _ (distance : ℤ) (some_distance : pos 0 ≤ℤ distance) (fill : FillRule) (inner : List (List Point)) (straight : AreLevelOrUpright inner) where
+module _ (distance : ℤ) (some_distance : pos 0 ≤ℤ distance) (fill : FillRule) (inner : List (List Point)) (straight : AreRectilinear inner) where
   even_parts : Parts ((distance +ℤ distance) +ℤ pos 1) (evenly distance)
   even_parts = record { left = some_distance; right = some_distance; bottom = some_distance; top = some_distance; across = refl; up = refl }
 

@@ -18,11 +18,11 @@ use Rattle.polygon_overlay.specs.Overlays.{IsQueryRefused}
 use Rattle.polygon_overlay.specs.Sizing.{Amounts, IsSized, IsFilledBy}
 use Rattle.polygon_overlay.specs.SizingCalls.{FitsInTurn}
 use Rattle.polygon_overlay.specs.SizingLaws.{IsRegionOf, FillJust, MovedFillTheSized, RegionsStayInTheBox}
-use Rattle.polygon_overlay.specs.Tiles.{AreLevelOrUpright}
+use Rattle.polygon_overlay.specs.Tiles.{AreRectilinear}
 use Rattle.polygon_overlay.proofs.Checked.Answers.{width_errors, space_errors}
 use Rattle.polygon_overlay.proofs.Checked.Room.{half, rest, halves_are}
 use Rattle.polygon_overlay.proofs.Sized.InTurn.{fill_in_turn}
-use Rattle.polygon_overlay.proofs.Sized.Kept.{region_fits, levels_in_range, fits_again}
+use Rattle.polygon_overlay.proofs.Sized.Kept.{region_fits, shifted_in_range, fits_again}
 
 -- ---- amounts
 
@@ -83,19 +83,19 @@ module _ (least greatest : ℤ) where
 
   -- ---- a region, moved twice
 
-  module _ (stay : RegionsStayInTheBox) (first second : Amounts) (precision : Precision) (region levels : List (List Point))
-      (moves : IsMovedInTurn least greatest first second precision region levels) (fit : FitsInTurn least greatest first second region) where
-    pub in_turn_in_range : AreInRange least greatest levels
+  module _ (stay : RegionsStayInTheBox) (first second : Amounts) (precision : Precision) (region shifted : List (List Point))
+      (moves : IsMovedInTurn least greatest first second precision region shifted) (fit : FitsInTurn least greatest first second region) where
+    pub in_turn_in_range : AreInRange least greatest shifted
     in_turn_in_range =
-        levels_in_range stay least greatest second moves.again.region
+        shifted_in_range stay least greatest second moves.again.region
         (region_fits stay least greatest Positive precision moves.between moves.again.region moves.again.of_region second
-        (fits_again stay least greatest first second region fit precision moves.between moves.once)) precision levels moves.again.moves
+        (fits_again stay least greatest first second region fit precision moves.between moves.once)) precision shifted moves.again.moves
 
-  pub in_turn_by : (first second one other : Amounts) (precision : Precision) (region levels : List (List Point)) → first ≡ one → second ≡ other
-      → IsMovedInTurn least greatest first second precision region levels → IsMovedInTurn least greatest one other precision region levels
-  in_turn_by first second one other precision region levels e f moves =
-      subst (λ b. IsMovedInTurn least greatest one b precision region levels) f
-      (subst (λ b. IsMovedInTurn least greatest b second precision region levels) e moves)
+  pub in_turn_by : (first second one other : Amounts) (precision : Precision) (region shifted : List (List Point)) → first ≡ one → second ≡ other
+      → IsMovedInTurn least greatest first second precision region shifted → IsMovedInTurn least greatest one other precision region shifted
+  in_turn_by first second one other precision region shifted e f moves =
+      subst (λ b. IsMovedInTurn least greatest one b precision region shifted) f
+      (subst (λ b. IsMovedInTurn least greatest b second precision region shifted) e moves)
 
   pub not_in_turn_by : (first second one other : Amounts) (precision : Precision) (region : List (List Point)) (fault its : Fault) → first ≡ one
       → second ≡ other → its ≡ fault
@@ -113,23 +113,23 @@ module _ (least greatest : ℤ) where
   -- ---- widths and spaces
 
   module _ (law : MovedFillTheSized) (side : ℤ) (some : pos 1 ≤ℤ side) (fill : FillRule) (precision : Precision) (contours : List (List Point))
-      (straight : AreLevelOrUpright contours) (mask : List (List Point)) (of : IsRegionOf least greatest fill precision contours mask) where
+      (straight : AreRectilinear contours) (mask : List (List Point)) (of : IsRegionOf least greatest fill precision contours mask) where
     fill_just : FillJust (IsFilledBy fill contours) mask
     fill_just = law.region least greatest fill precision contours mask straight of
 
-    pub mask_straight : AreLevelOrUpright mask
+    pub mask_straight : AreRectilinear mask
     mask_straight = fill_just.straight
 
-    module _ (first second : Amounts) (levels : List (List Point)) (moves : IsMovedInTurn least greatest first second precision mask levels) where
+    module _ (first second : Amounts) (shifted : List (List Point)) (moves : IsMovedInTurn least greatest first second precision mask shifted) where
       once_fills : FillJust (IsSized first (IsFilledBy fill contours)) moves.between
       once_fills = law.moved least greatest first fill precision contours moves.between straight (record { region = mask; of_region = of; moves = moves.once })
 
-      twice_fill : FillJust (IsSized second (IsSized first (IsFilledBy fill contours))) levels
+      twice_fill : FillJust (IsSized second (IsSized first (IsFilledBy fill contours))) shifted
       twice_fill =
-          fill_in_turn first second (IsFilledBy fill contours) moves.between levels once_fills
-          (law.moved least greatest second Positive precision moves.between levels once_fills.straight moves.again)
+          fill_in_turn first second (IsFilledBy fill contours) moves.between shifted once_fills
+          (law.moved least greatest second Positive precision moves.between shifted once_fills.straight moves.again)
 
-      pub twice_straight : AreLevelOrUpright levels
+      pub twice_straight : AreRectilinear shifted
       twice_straight = twice_fill.straight
 
     pub widths_told : (options : IntOverlayOptions) (opened : List (List Point)) (shapes : List (List (List Point)))

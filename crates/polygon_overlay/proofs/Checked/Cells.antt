@@ -1,4 +1,4 @@
--- Contours of level and upright steps wind alike round all points of a unit square, its left side and its top included.
+-- Contours of horizontal and vertical steps wind alike round all points of a unit square, its left side and its top included.
 use Rattle.std.proofs.Common.{◌≡◌, ◌⊎◌, inl, inr, Bool, true, false, cond, List, [], ◌∷◌, ◌++◌, ℤ, pos, negsuc, ◌+ℤ◌, ◌*ℤ◌, ◌≤ℤ◌, ◌<ℤ◌, int_lt, int_le, refl, sym, ap, ap₂, ◌∙◌, arith}
 use Rattle.std.proofs.lemmas.Int.{ints}
 use Rattle.std.proofs.lemmas.Bool.{false≢true}
@@ -8,12 +8,12 @@ use Rattle.plane_base.specs.Windings.{contour_winding, path_winding, cycle_windi
 use Rattle.plane_base.proofs.Facts.Lists.Totals.{total_pointwise_on}
 use Rattle.plane_base.proofs.Facts.Points.OneLine.{contribution, at_or_before, is_above, step_winding_is}
 use Rattle.plane_base.proofs.Facts.Windings.Sums.{contour_winding_is}
-use Rattle.segment_split.specs.LineLaws.{AllLevelOrUpright}
+use Rattle.segment_split.specs.LineLaws.{AllRectilinear}
 use Rattle.segment_arrangement.proofs.Facts.ColumnPlaces.{same_tests, lt_holds, lt_tells, le_holds, le_tells}
 use Rattle.contour_walk.specs.WalkLaws.{steps_to, contour_steps}
-use Rattle.polygon_overlay.specs.Tiles.{AreLevelOrUpright}
+use Rattle.polygon_overlay.specs.Tiles.{AreRectilinear}
 use Rattle.polygon_overlay.proofs.Checked.Places.{floor, floor_low, floor_at_least, row_of, row_low, row_at_least}
-use Rattle.polygon_overlay.proofs.Tiles.Steps.{at_most, at_most_below, times_le, level_or_upright, straight_back, passes_level}
+use Rattle.polygon_overlay.proofs.Tiles.Steps.{at_most, at_most_below, times_le, rectilinear, straight_back, passes_horizontal}
 use Rattle.polygon_overlay.proofs.Tiles.Straight.{IsStraight}
 
 abbrev pub column : RationalPoint → ℤ
@@ -67,12 +67,12 @@ module _ (p : RationalPoint) (some : IsRational p) where
 
   -- over its column each of the two is above the step just where the other is
   above_alike : (u v : Point) → IsStraight (record { a = u; b = v }) → at_or_before u p ≡ true → at_or_before v p ≡ false → is_above u v p ≡ is_above u v place
-  above_alike u v h begun unended = by (level_or_upright u v h)
+  above_alike u v h begun unended = by (rectilinear u v h)
     where
       by : (u.y ≡ v.y) ⊎ (u.x ≡ v.x) → is_above u v p ≡ is_above u v place
       by (inl e) =
-          passes_level u v p begun unended e
-          ∙ (under_alike u ∙ sym (passes_level u v place (sym (begun_alike u) ∙ begun) (sym (begun_alike v) ∙ unended) e))
+          passes_horizontal u v p begun unended e
+          ∙ (under_alike u ∙ sym (passes_horizontal u v place (sym (begun_alike u) ∙ begun) (sym (begun_alike v) ∙ unended) e))
       by (inr e) = absurd (false≢true (sym unended ∙ (sym (ap (λ x. int_le (pos p.q *ℤ x) p.x) e) ∙ begun)))
 
   step_alike : (u v : Point) → IsStraight (record { a = u; b = v }) → step_winding u v p ≡ step_winding u v place
@@ -88,20 +88,20 @@ module _ (p : RationalPoint) (some : IsRational p) where
       by true false e f = ap (λ s. cond s (pos 1) (pos 0)) (above_alike u v h e f)
       by false true e f = ap (λ s. cond s (negsuc 0) (pos 0)) (above_alike v u (straight_back u v h) f e)
 
-  path_alike : (first u : Point) (rest : List Point) → AllLevelOrUpright (steps_to first (u ∷ rest))
+  path_alike : (first u : Point) (rest : List Point) → AllRectilinear (steps_to first (u ∷ rest))
       → path_winding (u ∷ rest ++ first ∷ []) p ≡ path_winding (u ∷ rest ++ first ∷ []) place
   path_alike first u [] h = ap (λ n. n +ℤ pos 0) (step_alike u first (All-head IsStraight (record { a = u; b = first }) [] h))
   path_alike first u (r ∷ rest) h =
       ap₂ (λ m n. m +ℤ n) (step_alike u r (All-head IsStraight (record { a = u; b = r }) (steps_to first (r ∷ rest)) h))
       (path_alike first r rest (All-tail IsStraight (record { a = u; b = r }) (steps_to first (r ∷ rest)) h))
 
-  cycle_alike : (c : List Point) → AllLevelOrUpright (contour_steps c) → cycle_winding c p ≡ cycle_winding c place
+  cycle_alike : (c : List Point) → AllRectilinear (contour_steps c) → cycle_winding c p ≡ cycle_winding c place
   cycle_alike [] h = refl
   cycle_alike (u ∷ rest) h = path_alike u u rest h
 
-  pub winding_by_places : (contours : List (List Point)) → AreLevelOrUpright contours → contour_winding contours p ≡ place_winding contours (column p) (row p)
+  pub winding_by_places : (contours : List (List Point)) → AreRectilinear contours → contour_winding contours p ≡ place_winding contours (column p) (row p)
   winding_by_places contours straight =
       contour_winding_is contours p
       ∙ (total_pointwise_on (λ c. cycle_winding c p) (λ c. cycle_winding c place) contours
-      (All-weaker (λ c. AllLevelOrUpright (contour_steps c)) (λ c. cycle_winding c p ≡ cycle_winding c place) cycle_alike contours straight)
+      (All-weaker (λ c. AllRectilinear (contour_steps c)) (λ c. cycle_winding c p ≡ cycle_winding c place) cycle_alike contours straight)
       ∙ sym (contour_winding_is contours place))

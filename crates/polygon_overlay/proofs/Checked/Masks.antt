@@ -18,8 +18,8 @@ use Rattle.polygon_overlay.specs.CheckCalls.{IsDifferenceOf}
 use Rattle.polygon_overlay.specs.OverlayLaws.{HoldsContours, HoldingGoesOn, SourcesAreHeld}
 use Rattle.polygon_overlay.specs.Overlays.{once}
 use Rattle.polygon_overlay.specs.Sizing.{IsFilledBy, WindWhere}
-use Rattle.polygon_overlay.specs.TileLaws.{AnswersStayLevelOrUpright, StraightMapsAnswerTheirRegion}
-use Rattle.polygon_overlay.specs.Tiles.{AreLevelOrUpright}
+use Rattle.polygon_overlay.specs.TileLaws.{AnswersStayRectilinear, StraightMapsAnswerTheirRegion}
+use Rattle.polygon_overlay.specs.Tiles.{AreRectilinear}
 use Rattle.polygon_overlay.proofs.Tiles.Straight.{keys_straight}
 
 turns_once : (output : Bool) → turns_of output true ≡ once output
@@ -30,10 +30,10 @@ turns_none : (output : Bool) → turns_of output false ≡ pos 0
 turns_none true = refl
 turns_none false = refl
 
-module _ (law : StraightMapsAnswerTheirRegion) (level : AnswersStayLevelOrUpright) (least greatest : ℤ) where
+module _ (law : StraightMapsAnswerTheirRegion) (level : AnswersStayRectilinear) (least greatest : ℤ) where
   module _ (goes_on : HoldingGoesOn) (are_held : SourcesAreHeld) (options : IntOverlayOptions) (precision : Precision) (one other : List (List Point))
-      (in_range : AreInRange least greatest one) (other_in_range : AreInRange least greatest other) (straight : AreLevelOrUpright one)
-      (other_straight : AreLevelOrUpright other) (shapes : List (List (List Point))) (held : List (Entry Count))
+      (in_range : AreInRange least greatest one) (other_in_range : AreInRange least greatest other) (straight : AreRectilinear one)
+      (other_straight : AreRectilinear other) (shapes : List (List (List Point))) (held : List (Entry Count))
       (holds : HoldsBoth options.preserve_input_collinear one other held) (is : IsAnswered least greatest options Positive Difference precision held shapes)
     where
       held_contours : HoldsContours options.preserve_input_collinear one other held
@@ -70,7 +70,7 @@ module _ (law : StraightMapsAnswerTheirRegion) (level : AnswersStayLevelOrUprigh
         holds = holds;
         is = is;
         winds = winds_where;
-        straight = λ none. subst (λ ss. AreLevelOrUpright (all_contours ss)) (sym is.canonical)
+        straight = λ none. subst (λ ss. AreRectilinear (all_contours ss)) (sym is.canonical)
             (level least greatest (answering_of options) Positive Difference precision held is_held none
             (keys_straight options.preserve_input_collinear one other held held_contours straight other_straight));
       }

@@ -1,4 +1,4 @@
--- What level and upright contours wind in a row: as often as steps ran down past it, less as often as steps ran up. So do moved ones.
+-- What horizontal and vertical contours wind in a row: as often as steps ran down past it, less as often as steps ran up. So do moved ones.
 use Rattle.std.proofs.Common.{◌≡◌, ◌⊎◌, inl, inr, Bool, true, false, not, cond, ◌&&◌, List, [], ◌∷◌, map, flat_map, ℤ, pos, negsuc, neg_ℤ, ◌+ℤ◌, ◌-ℤ◌, ◌*ℤ◌, ◌≤ℤ◌, int_lt, int_le, int_eq, refl, sym, ap, ap₂, ◌∙◌, arith}
 use Rattle.std.proofs.lemmas.Int.{ints}
 use Rattle.std.proofs.lemmas.Bool.{false≢true}
@@ -9,13 +9,13 @@ use Rattle.plane_base.specs.Windings.{contour_winding}
 use Rattle.plane_base.proofs.Facts.Lists.Totals.{total_difference}
 use Rattle.plane_base.proofs.Facts.Numbers.Products.{product_of_sum, product_of_negation}
 use Rattle.plane_base.proofs.Facts.Points.OneLine.{contribution, at_or_before, is_above, step_winding_is}
-use Rattle.segment_split.specs.LineLaws.{is_level_or_upright}
+use Rattle.segment_split.specs.LineLaws.{is_rectilinear}
 use Rattle.contour_walk.specs.WalkLaws.{contour_steps}
-use Rattle.polygon_overlay.specs.Tiles.{AreLevelOrUpright}
+use Rattle.polygon_overlay.specs.Tiles.{AreRectilinear}
 use Rattle.polygon_overlay.specs.Sizing.{moved_across, moved}
 use Rattle.polygon_overlay.proofs.Sized.Terms.{at, up_to, is_under, falls_past, climbs_past, column_of, IsMoved, still, moves, AcrossHasPlaces}
 use Rattle.segment_arrangement.proofs.Facts.ColumnPlaces.{lt_tells, lt_tells_not, lt_holds}
-use Rattle.polygon_overlay.proofs.Tiles.Steps.{at_most_below, times_le, weak, level_or_upright, is_level, is_upright, passes_level}
+use Rattle.polygon_overlay.proofs.Tiles.Steps.{at_most_below, times_le, weak, rectilinear, is_horizontal, is_vertical, passes_horizontal}
 use Rattle.polygon_overlay.proofs.Sized.Moves.{contours_sum, moved_contours_sum}
 use Rattle.polygon_overlay.proofs.Sized.Places.{counts_rise, counts_part}
 
@@ -55,8 +55,8 @@ module _ (p : RationalPoint) where
   abbrev pub corner : Point → ℤ
   corner u = cond (at_or_before u p) (cond (is_under p u) (pos 1) (pos 0)) (pos 0)
 
-  pub level_winds : (u v : Point) → u.y ≡ v.y → step_winding u v p ≡ corner u -ℤ corner v
-  level_winds u v level = step_winding_is u v p ∙ by (at_or_before u p) (at_or_before v p) refl refl
+  pub horizontal_winds : (u v : Point) → u.y ≡ v.y → step_winding u v p ≡ corner u -ℤ corner v
+  horizontal_winds u v level = step_winding_is u v p ∙ by (at_or_before u p) (at_or_before v p) refl refl
     where
       same : is_under p u ≡ is_under p v
       same = ap (λ y. int_lt (pos p.q *ℤ y) p.y) level
@@ -69,11 +69,11 @@ module _ (p : RationalPoint) where
           → contribution a b (is_above u v p) (is_above v u p) ≡ cond a (cond (is_under p u) (pos 1) (pos 0)) (pos 0) -ℤ cond b (cond (is_under p v) (pos 1) (pos 0)) (pos 0)
       by true true e f = no_difference (cond (is_under p u) (pos 1) (pos 0)) (cond (is_under p v) (pos 1) (pos 0)) (ap (λ s. cond s (pos 1) (pos 0)) same)
       by false false e f = refl
-      by true false e f = ap (λ s. cond s (pos 1) (pos 0)) (passes_level u v p e f level) ∙ nothing_taken (cond (is_under p u) (pos 1) (pos 0))
-      by false true e f = ap (λ s. cond s (negsuc 0) (pos 0)) (passes_level v u p f e (sym level)) ∙ back (is_under p v)
+      by true false e f = ap (λ s. cond s (pos 1) (pos 0)) (passes_horizontal u v p e f level) ∙ nothing_taken (cond (is_under p u) (pos 1) (pos 0))
+      by false true e f = ap (λ s. cond s (negsuc 0) (pos 0)) (passes_horizontal v u p f e (sym level)) ∙ back (is_under p v)
 
-  pub upright_winds : (u v : Point) → u.x ≡ v.x → step_winding u v p ≡ pos 0
-  upright_winds u v upright = step_winding_is u v p ∙ by (at_or_before u p) (at_or_before v p) (ap (λ x. int_le (pos p.q *ℤ x) p.x) upright)
+  pub vertical_winds : (u v : Point) → u.x ≡ v.x → step_winding u v p ≡ pos 0
+  vertical_winds u v vertical = step_winding_is u v p ∙ by (at_or_before u p) (at_or_before v p) (ap (λ x. int_le (pos p.q *ℤ x) p.x) vertical)
     where
       by : (a b : Bool) → a ≡ b → contribution a b (is_above u v p) (is_above v u p) ≡ pos 0
       by true true e = refl
@@ -81,34 +81,34 @@ module _ (p : RationalPoint) where
       by true false e = absurd (false≢true (sym e))
       by false true e = absurd (false≢true e)
 
-  -- what an upright step adds
+  -- what a vertical step adds
   abbrev adds : Bool → Bool → Bool → Bool → ℤ
   adds l m a b = cond (l && (not a && b)) (pos 1) (pos 0) -ℤ cond (m && (a && not b)) (pos 1) (pos 0)
 
-  level_adds : (l m a b : Bool) → a ≡ b → adds l m a b ≡ pos 0
-  level_adds true true true true e = refl
-  level_adds true true false false e = refl
-  level_adds true false true true e = refl
-  level_adds true false false false e = refl
-  level_adds false true true true e = refl
-  level_adds false true false false e = refl
-  level_adds false false true true e = refl
-  level_adds false false false false e = refl
-  level_adds l m true false e = absurd (false≢true (sym e))
-  level_adds l m false true e = absurd (false≢true e)
+  horizontal_adds : (l m a b : Bool) → a ≡ b → adds l m a b ≡ pos 0
+  horizontal_adds true true true true e = refl
+  horizontal_adds true true false false e = refl
+  horizontal_adds true false true true e = refl
+  horizontal_adds true false false false e = refl
+  horizontal_adds false true true true e = refl
+  horizontal_adds false true false false e = refl
+  horizontal_adds false false true true e = refl
+  horizontal_adds false false false false e = refl
+  horizontal_adds l m true false e = absurd (false≢true (sym e))
+  horizontal_adds l m false true e = absurd (false≢true e)
 
   abbrev falls : Bool → Bool → Bool → ℤ
   falls l a b = cond l (cond a (pos 1) (pos 0)) (pos 0) -ℤ cond l (cond b (pos 1) (pos 0)) (pos 0)
 
-  upright_adds : (l a b : Bool) → pos 0 ≡ falls l a b +ℤ adds l l a b
-  upright_adds true true true = refl
-  upright_adds true true false = refl
-  upright_adds true false true = refl
-  upright_adds true false false = refl
-  upright_adds false true true = refl
-  upright_adds false true false = refl
-  upright_adds false false true = refl
-  upright_adds false false false = refl
+  vertical_adds : (l a b : Bool) → pos 0 ≡ falls l a b +ℤ adds l l a b
+  vertical_adds true true true = refl
+  vertical_adds true true false = refl
+  vertical_adds true false true = refl
+  vertical_adds true false false = refl
+  vertical_adds false true true = refl
+  vertical_adds false true false = refl
+  vertical_adds false false true = refl
+  vertical_adds false false false = refl
 
   -- upward
   climbing_adds : (l m a b : Bool) → (b ≡ true → a ≡ true) → pos 0 ≡ falls m a b +ℤ adds l m a b
@@ -142,9 +142,9 @@ module _ (p : RationalPoint) where
   falling_adds false false false true h = refl
   falling_adds false false false false h = refl
 
-  step_adds : (s : Edge) → is_level_or_upright s ≡ true
+  step_adds : (s : Edge) → is_rectilinear s ≡ true
       → step_winding s.a s.b p ≡ (corner s.a -ℤ corner s.b) +ℤ (up_to (column_of p) (falls_past p) p.x s -ℤ up_to (column_of p) (climbs_past p) p.x s)
-  step_adds s straight = by (level_or_upright s.a s.b straight)
+  step_adds s straight = by (rectilinear s.a s.b straight)
     where
       under_alike : s.a.y ≡ s.b.y → is_under p s.a ≡ is_under p s.b
       under_alike e = ap (λ y. int_lt (pos p.q *ℤ y) p.y) e
@@ -152,12 +152,12 @@ module _ (p : RationalPoint) where
       by : (s.a.y ≡ s.b.y) ⊎ (s.a.x ≡ s.b.x)
           → step_winding s.a s.b p ≡ (corner s.a -ℤ corner s.b) +ℤ (up_to (column_of p) (falls_past p) p.x s -ℤ up_to (column_of p) (climbs_past p) p.x s)
       by (inl e) =
-          level_winds s.a s.b e
+          horizontal_winds s.a s.b e
           ∙ nothing_added (corner s.a -ℤ corner s.b) (adds (at_or_before s.a p) (at_or_before s.a p) (is_under p s.a) (is_under p s.b))
-          (level_adds (at_or_before s.a p) (at_or_before s.a p) (is_under p s.a) (is_under p s.b) (under_alike e))
+          (horizontal_adds (at_or_before s.a p) (at_or_before s.a p) (is_under p s.a) (is_under p s.b) (under_alike e))
       by (inr e) =
-          upright_winds s.a s.b e
-          ∙ (upright_adds (at_or_before s.a p) (is_under p s.a) (is_under p s.b)
+          vertical_winds s.a s.b e
+          ∙ (vertical_adds (at_or_before s.a p) (is_under p s.a) (is_under p s.b)
           ∙ ap (λ l. (corner s.a -ℤ cond l (cond (is_under p s.b) (pos 1) (pos 0)) (pos 0)) +ℤ adds (at_or_before s.a p) (at_or_before s.a p) (is_under p s.a) (is_under p s.b))
           (ap (λ x. int_le (pos p.q *ℤ x) p.x) e))
 
@@ -167,8 +167,8 @@ module _ (p : RationalPoint) where
     abbrev moved_adds : Edge → ℤ
     moved_adds s = up_to (column_of p) (falls_past p) (p.x +ℤ (pos p.q *ℤ left)) s -ℤ up_to (column_of p) (climbs_past p) (p.x -ℤ (pos p.q *ℤ right)) s
 
-    step_moves : (s : Edge) → is_level_or_upright s ≡ true → IsMoved p corner (λ u. u.y) (moved_across left right) moved_adds s
-    step_moves s straight = by (int_eq s.a.y s.b.y) refl (level_or_upright s.a s.b straight)
+    step_moves : (s : Edge) → is_rectilinear s ≡ true → IsMoved p corner (λ u. u.y) (moved_across left right) moved_adds s
+    step_moves s straight = by (int_eq s.a.y s.b.y) refl (rectilinear s.a s.b straight)
       where
         amount : ℤ
         amount = cond (int_lt s.a.y s.b.y) right (neg_ℤ left)
@@ -197,17 +197,17 @@ module _ (p : RationalPoint) where
             lt_holds (pos p.q *ℤ a) p.y (at_most_below (pos p.q *ℤ a) (pos p.q *ℤ b) p.y (times_le p.q a b l) (lt_tells (pos p.q *ℤ b) p.y h))
 
         adds_so : s.a.x ≡ s.b.x → (u : Bool) → int_lt s.a.y s.b.y ≡ u → pos 0 ≡ (corner first -ℤ corner second) +ℤ moved_adds s
-        adds_so upright true h =
+        adds_so vertical true h =
             climbing_adds begun ended (is_under p s.a) (is_under p s.b) (lower_too s.a.y s.b.y (weak s.a.y s.b.y (lt_tells s.a.y s.b.y h)))
-            ∙ ap (λ n. n +ℤ moved_adds s) (with_ends ended is_ended (sym (ends_alike upright) ∙ is_ended))
+            ∙ ap (λ n. n +ℤ moved_adds s) (with_ends ended is_ended (sym (ends_alike vertical) ∙ is_ended))
           where
             is_ended : at_or_before first p ≡ ended
             is_ended =
                 ap (λ b. int_le (pos p.q *ℤ (s.a.x +ℤ cond b right (neg_ℤ left))) p.x) h
                 ∙ (ap (λ z. int_le z p.x) (product_of_sum (pos p.q) s.a.x right) ∙ le_less (pos p.q *ℤ s.a.x) (pos p.q *ℤ right) p.x)
-        adds_so upright false h =
+        adds_so vertical false h =
             falling_adds begun ended (is_under p s.a) (is_under p s.b) (lower_too s.b.y s.a.y (lt_tells_not s.a.y s.b.y h))
-            ∙ ap (λ n. n +ℤ moved_adds s) (with_ends begun is_begun (sym (ends_alike upright) ∙ is_begun))
+            ∙ ap (λ n. n +ℤ moved_adds s) (with_ends begun is_begun (sym (ends_alike vertical) ∙ is_begun))
           where
             is_begun : at_or_before first p ≡ begun
             is_begun =
@@ -220,12 +220,12 @@ module _ (p : RationalPoint) where
         by true e straight =
             let level = (Decides-int_eq s.a.y s.b.y).0 e in
             still (ap (λ b. cond b [] (first ∷ second ∷ [])) e) level
-            (level_adds begun ended (is_under p s.a) (is_under p s.b) (ap (λ y. int_lt (pos p.q *ℤ y) p.y) level))
+            (horizontal_adds begun ended (is_under p s.a) (is_under p s.b) (ap (λ y. int_lt (pos p.q *ℤ y) p.y) level))
         by false e (inl level) = absurd (false≢true (sym e ∙ (Decides-int_eq s.a.y s.b.y).1 level))
-        by false e (inr upright) =
+        by false e (inr vertical) =
             moves first second (ap (λ b. cond b [] (first ∷ second ∷ [])) e) refl refl
-            (upright_winds first second (ap (λ x. x +ℤ amount) upright) ∙ adds_so upright (int_lt s.a.y s.b.y) refl)
-            (is_upright first second (ap (λ x. x +ℤ amount) upright))
+            (vertical_winds first second (ap (λ x. x +ℤ amount) vertical) ∙ adds_so vertical (int_lt s.a.y s.b.y) refl)
+            (is_vertical first second (ap (λ x. x +ℤ amount) vertical))
 
 pub across_has_places : AcrossHasPlaces
 across_has_places cs left right p all apart = (
@@ -248,7 +248,7 @@ across_has_places cs left right p all apart = (
     steps : List Edge
     steps = flat_map contour_steps cs
 
-    after : (contour_winding (map (moved (moved_across left right)) cs) p ≡ total (moved_adds p left right) (flat_map contour_steps cs)) × AreLevelOrUpright (map (moved (moved_across left right)) cs)
+    after : (contour_winding (map (moved (moved_across left right)) cs) p ≡ total (moved_adds p left right) (flat_map contour_steps cs)) × AreRectilinear (map (moved (moved_across left right)) cs)
     after =
         moved_contours_sum p (corner p) (λ u. u.y) (moved_across left right) (moved_adds p left right) cs all
-        (λ u v level. (level_winds p u v level, is_level u v level)) (step_moves p left right)
+        (λ u v level. (horizontal_winds p u v level, is_horizontal u v level)) (step_moves p left right)

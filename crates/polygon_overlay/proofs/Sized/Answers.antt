@@ -1,4 +1,4 @@
--- The steps of an answer for level and upright edges pass each place of a row or column once at most.
+-- The steps of an answer for horizontal and vertical edges pass each place of a row or column once at most.
 use Rattle.std.proofs.Common.{◌≡◌, ◌≢◌, Bool, true, false, not, cond, ◌&&◌, List, map, flat_map, get_or, All, AllPairs, Contains, ℤ, pos, ◌+ℤ◌, ◌*ℤ◌, ◌≤ℤ◌, int_eq, refl, sym, ap, ◌∙◌, subst, arith}
 use Rattle.std.specs.declared.cmp.Ordering.TheVariants.{Less}
 use Rattle.std.proofs.lemmas.Int.{ints}
@@ -13,7 +13,7 @@ use Rattle.plane_base.specs.Thinning.{IsThinned}
 use Rattle.plane_base.specs.Totals.{total}
 use Rattle.plane_base.proofs.Facts.Lists.Totals.{total_map, total_flat_map, total_pointwise, total_pointwise_on, total_monotone_on, total_permutation}
 use Rattle.plane_base.proofs.Facts.Points.Orders.{edge_itself}
-use Rattle.segment_split.specs.LineLaws.{is_level_or_upright, AllLevelOrUpright, LevelAndUprightMeetWhole, RedrawsByLines}
+use Rattle.segment_split.specs.LineLaws.{is_rectilinear, AllRectilinear, HorizontalAndVerticalMeetWhole, RedrawsByLines}
 use Rattle.segment_split.specs.Passes.{edges_of}
 use Rattle.segment_split.specs.Redrawing.{redrawn}
 use Rattle.segment_split.specs.RedrawLaws.{Rearranges, RedrawsToTheEnd}
@@ -36,7 +36,7 @@ use Rattle.polygon_overlay.proofs.Sized.Terms.{just_at, crossing, is_under, has_
 use Rattle.polygon_overlay.proofs.Sized.Once.{keeps_across, keeps_up, crosses_back, thinned_cross_less, parted_pass_once}
 
 abbrev IsStraight : Edge → Type 0
-IsStraight s = is_level_or_upright s ≡ true
+IsStraight s = is_rectilinear s ≡ true
 
 -- ---- what is summed over the links of a boundary, and over the steps that pass them
 
@@ -44,7 +44,7 @@ module _ (fill : FillRule) (rule : OverlayRule) (es : List (Entry Count)) (arran
   abbrev links : List Edge
   links = map (λ (e : Entry Count). e.edge) (boundary fill rule es)
 
-  links_straight : AllLevelOrUpright links
+  links_straight : AllRectilinear links
   links_straight =
       All-map IsStraight (λ (e : Entry Count). e.edge) (boundary fill rule es) (All-filter (is_boundary fill rule es) (λ (e : Entry Count). IsStraight e.edge) es all)
 
@@ -95,9 +95,9 @@ module _ (fill : FillRule) (rule : OverlayRule) (es : List (Entry Count)) (arran
 
 module _ (rearranges : (precision : Precision) → Rearranges boolean (redrawn boolean precision)) (ends : (precision : Precision) → RedrawsToTheEnd boolean precision)
     (balanced : (precision : Precision) (es : List (Entry Count)) → IsBalancedMap es → IsBalancedMap (redrawn boolean precision es))
-    (orderly : AnswersAreOrderly) (corners : CornersStay) (whole : LevelAndUprightMeetWhole boolean) (lines : (precision : Precision) → RedrawsByLines boolean precision)
+    (orderly : AnswersAreOrderly) (corners : CornersStay) (whole : HorizontalAndVerticalMeetWhole boolean) (lines : (precision : Precision) → RedrawsByLines boolean precision)
     (least greatest : ℤ) (o : Answering) (fill : FillRule) (rule : OverlayRule) (precision : Precision) (held : List (Entry Count))
-    (is_held : IsHeld least greatest held) (none : o.least ≡ 0) (all : AllLevelOrUpright (edges_of (normal boolean held))) where
+    (is_held : IsHeld least greatest held) (none : o.least ≡ 0) (all : AllRectilinear (edges_of (normal boolean held))) where
   abbrev es : List (Entry Count)
   es = redrawn boolean precision (normal boolean held)
 
@@ -114,7 +114,7 @@ module _ (rearranges : (precision : Precision) → Rearranges boolean (redrawn b
   full_pass = (told rearranges ends balanced orderly corners whole lines least greatest o fill rule precision held is_held none all).passed
 
   module _ (g : Edge → ℤ) (back : (u v : Point) → IsStraight (record { a = u; b = v }) → g (record { a = v; b = u }) ≡ g (record { a = u; b = v }))
-      (less : (c d : List Point) → AllLevelOrUpright (contour_steps c) → IsThinned c d → total g (contour_steps d) ≤ℤ total g (contour_steps c))
+      (less : (c d : List Point) → AllRectilinear (contour_steps c) → IsThinned c d → total g (contour_steps d) ≤ℤ total g (contour_steps c))
       (few : total g (links fill rule es is_arranged es_straight) ≤ℤ pos 1) where
     finished_less : total g (flat_map contour_steps (map (finished o.keep_all) full)) ≤ℤ total g (flat_map contour_steps full)
     finished_less =
@@ -128,7 +128,7 @@ module _ (rearranges : (precision : Precision) → Rearranges boolean (redrawn b
         level : (x : ℤ) → x ≤ℤ x
         level x = omega (arith, ints)
 
-        one : (keep_all : Bool) (c : List Point) → Contains full c → AllLevelOrUpright (contour_steps c)
+        one : (keep_all : Bool) (c : List Point) → Contains full c → AllRectilinear (contour_steps c)
             → total g (contour_steps (finished keep_all c)) ≤ℤ total g (contour_steps c)
         one true c here h = level (total g (contour_steps c))
         one false c here h =

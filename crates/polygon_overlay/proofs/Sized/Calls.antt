@@ -23,7 +23,7 @@ use Rattle.polygon_overlay.specs.Simplified.{IsNotSimplified}
 use Rattle.polygon_overlay.specs.Sizing.{Amounts, IsSized, IsFilledBy, WindWhere}
 use Rattle.polygon_overlay.specs.SizingCalls.{AreSized, AreSizedInTurn}
 use Rattle.polygon_overlay.specs.SizingLaws.{HoldsAlone, IsRegionOf, IsMovedTo, AreMoved, HoldsMoved, IsSizedMap, MovedFillTheSized, SizedIsTheNeighbourhood}
-use Rattle.polygon_overlay.specs.Tiles.{AreLevelOrUpright}
+use Rattle.polygon_overlay.specs.Tiles.{AreRectilinear}
 use Rattle.polygon_overlay.proofs.Sized.InTurn.{sized_by_alike, wind_alike}
 
 -- what a builder with the same options refuses contours for
@@ -92,28 +92,28 @@ module _ (least greatest : ℤ) where
   -- ---- a region that is moved
 
   module _ (by : Amounts) (fill : FillRule) (precision : Precision) (contours : List (List Point)) where
-    pub moved_of : (region levels : List (List Point)) → IsRegionOf least greatest fill precision contours region
-        → IsMovedTo least greatest by precision region levels
-        → AreMoved least greatest by fill precision contours levels
-    moved_of region levels of_region moves = record { region = region; of_region = of_region; moves = moves }
+    pub moved_of : (region shifted : List (List Point)) → IsRegionOf least greatest fill precision contours region
+        → IsMovedTo least greatest by precision region shifted
+        → AreMoved least greatest by fill precision contours shifted
+    moved_of region shifted of_region moves = record { region = region; of_region = of_region; moves = moves }
 
-    pub sized_answer : SizedIsTheNeighbourhood → AreLevelOrUpright contours
-        → (options : IntOverlayOptions) (levels : List (List Point)) (shapes : List (List (List Point)))
-        (held : List (Entry Count)) → AreMoved least greatest by fill precision contours levels
-        → HoldsAlone least greatest options.preserve_input_collinear levels held → IsAnswered least greatest options Positive Subject precision held shapes
+    pub sized_answer : SizedIsTheNeighbourhood → AreRectilinear contours
+        → (options : IntOverlayOptions) (shifted : List (List Point)) (shapes : List (List (List Point)))
+        (held : List (Entry Count)) → AreMoved least greatest by fill precision contours shifted
+        → HoldsAlone least greatest options.preserve_input_collinear shifted held → IsAnswered least greatest options Positive Subject precision held shapes
         → AreSized least greatest by options fill precision contours shapes
-    sized_answer law straight options levels shapes held are alone is = record {
+    sized_answer law straight options shifted shapes held are alone is = record {
       held = held;
       moves = moves;
       is = is;
       winds = λ none. subst (λ ss. WindWhere (once (is_clockwise options.output_direction)) (IsSized by (IsFilledBy fill contours)) (all_contours ss))
           (sym is.canonical)
           (map_of.winds (answering_of options) precision none);
-      straight = λ none. subst (λ ss. AreLevelOrUpright (all_contours ss)) (sym is.canonical) (map_of.straight (answering_of options) precision none);
+      straight = λ none. subst (λ ss. AreRectilinear (all_contours ss)) (sym is.canonical) (map_of.straight (answering_of options) precision none);
     }
       where
         moves : HoldsMoved least greatest options.preserve_input_collinear by fill precision contours held
-        moves = record { levels = levels; are = are; alone = alone }
+        moves = record { shifted = shifted; are = are; alone = alone }
 
         map_of : IsSizedMap by fill contours held
         map_of = law least greatest options.preserve_input_collinear by fill precision contours held straight moves
@@ -121,21 +121,21 @@ module _ (least greatest : ℤ) where
   -- ---- sized again
 
   pub in_turn_answer : MovedFillTheSized
-      → (first second : Amounts) (options : IntOverlayOptions) (fill : FillRule) (precision : Precision) (contours levels : List (List Point))
-      (shapes : List (List (List Point))) → AreLevelOrUpright contours → AreMoved least greatest first fill precision contours levels
-      → AreSized least greatest second options Positive precision levels shapes
+      → (first second : Amounts) (options : IntOverlayOptions) (fill : FillRule) (precision : Precision) (contours shifted : List (List Point))
+      (shapes : List (List (List Point))) → AreRectilinear contours → AreMoved least greatest first fill precision contours shifted
+      → AreSized least greatest second options Positive precision shifted shapes
       → AreSizedInTurn least greatest first second options fill precision contours shapes
-  in_turn_answer law first second options fill precision contours levels shapes straight moves sized =
-      let fill_just = law.moved least greatest first fill precision contours levels straight moves in
+  in_turn_answer law first second options fill precision contours shifted shapes straight moves sized =
+      let fill_just = law.moved least greatest first fill precision contours shifted straight moves in
       record {
-        levels = levels;
+        shifted = shifted;
         moves = moves;
         sized = sized;
-        winds = λ none. wind_alike (once (is_clockwise options.output_direction)) (IsSized second (IsFilledBy Positive levels))
+        winds = λ none. wind_alike (once (is_clockwise options.output_direction)) (IsSized second (IsFilledBy Positive shifted))
             (IsSized second (IsSized first (IsFilledBy fill contours))) (all_contours shapes)
             (λ p some. (
-              sized_by_alike second (IsFilledBy Positive levels) (IsSized first (IsFilledBy fill contours)) (λ m h. (fill_just.fills m h).1) p,
-              sized_by_alike second (IsSized first (IsFilledBy fill contours)) (IsFilledBy Positive levels) (λ m h. (fill_just.fills m h).0) p,
+              sized_by_alike second (IsFilledBy Positive shifted) (IsSized first (IsFilledBy fill contours)) (λ m h. (fill_just.fills m h).1) p,
+              sized_by_alike second (IsSized first (IsFilledBy fill contours)) (IsFilledBy Positive shifted) (λ m h. (fill_just.fills m h).0) p,
             ))
             (sized.winds none);
       }

@@ -25,12 +25,12 @@ wind_alike turns In Inside contours alike wind p some = by (wind p some)
     by (inl (h, e)) = inl ((alike p some).0 h, e)
     by (inr (off, e)) = inr (λ h. off ((alike p some).1 h), e)
 
-pub fill_in_turn : (first second : Amounts) (F : RationalPoint → Type 0) (levels again : List (List Point)) → FillJust (IsSized first F) levels
-    → FillJust (IsSized second (IsFilledBy Positive levels)) again → FillJust (IsSized second (IsSized first F)) again
-fill_in_turn first second F levels again one two = record {
+pub fill_in_turn : (first second : Amounts) (F : RationalPoint → Type 0) (shifted again : List (List Point)) → FillJust (IsSized first F) shifted
+    → FillJust (IsSized second (IsFilledBy Positive shifted)) again → FillJust (IsSized second (IsSized first F)) again
+fill_in_turn first second F shifted again one two = record {
   fills = λ p some. (
-    λ h. (two.fills p some).0 (sized_by_alike second (IsSized first F) (IsFilledBy Positive levels) (λ m k. (one.fills m k).0) p h),
-    λ h. sized_by_alike second (IsFilledBy Positive levels) (IsSized first F) (λ m k. (one.fills m k).1) p ((two.fills p some).1 h),
+    λ h. (two.fills p some).0 (sized_by_alike second (IsSized first F) (IsFilledBy Positive shifted) (λ m k. (one.fills m k).0) p h),
+    λ h. sized_by_alike second (IsFilledBy Positive shifted) (IsSized first F) (λ m k. (one.fills m k).1) p ((two.fills p some).1 h),
   );
   straight = two.straight;
 }

@@ -208,9 +208,9 @@ module _ (stay : RegionsStayInTheBox) (least greatest : ℤ) where
           (both_hold (StaysIn box by) (StaysIn box by) (λ p. IsCoordinate (lasts box by).bottom (lasts box by).top p.y)
           (λ p h k. let l = in_lasts box by p h in (l.bottom, l.top)) region fit fit))
 
-    pub levels_lie : (precision : Precision) (levels : List (List Point)) → IsMovedTo least greatest by precision region levels
-        → All (All (LiesWithin box)) levels
-    levels_lie precision levels to =
+    pub shifted_lie : (precision : Precision) (shifted : List (List Point)) → IsMovedTo least greatest by precision region shifted
+        → All (All (LiesWithin box)) shifted
+    shifted_lie precision shifted to =
         subst (All (All (LiesWithin box))) (sym to.up)
         (moved_hold (HasRoomUp box by) (LiesWithin box) (moved_up by.bottom by.top) (up_stays box by) to.wide (wide_has_room precision to.wide to.across))
 
@@ -329,38 +329,38 @@ module _ (stay : RegionsStayInTheBox) (least greatest : ℤ) where
     region_has_room =
         both_hold (StaysInRange least greatest by) (StaysInRange least greatest by) (HasRoomAlong least greatest true by) (λ p h k. h.across) region fit fit
 
-    pub levels_have_room : (precision : Precision) (wide : List (List Point))
+    pub shifted_have_room : (precision : Precision) (wide : List (List Point))
         → IsRegionOf least greatest Positive precision (map (moved (moved_across by.left by.right)) region) wide
         → All (All (HasRoomAlong least greatest false by)) wide
-    levels_have_room precision wide of =
+    shifted_have_room precision wide of =
         let room = wide_has_room (whole least greatest) by region (fits_in by region fit) precision wide of in
         both_hold (HasRoomUp (whole least greatest) by) (HasRoomUp (whole least greatest) by) (HasRoomAlong least greatest false by) (λ p h k. h.0) wide room
         room
 
-    pub levels_in_range : (precision : Precision) (levels : List (List Point)) → IsMovedTo least greatest by precision region levels
-        → AreInRange least greatest levels
-    levels_in_range precision levels to = in_range levels (levels_lie (whole least greatest) by region (fits_in by region fit) precision levels to)
+    pub shifted_in_range : (precision : Precision) (shifted : List (List Point)) → IsMovedTo least greatest by precision region shifted
+        → AreInRange least greatest shifted
+    shifted_in_range precision shifted to = in_range shifted (shifted_lie (whole least greatest) by region (fits_in by region fit) precision shifted to)
 
   -- what is moved by the first amounts has room for the second
   module _ (first second : Amounts) (region : List (List Point)) (fit : FitsInTurn least greatest first second region) where
     lies : (box : Bounds) → ((p : Point) → StaysInTurn least greatest first second p → StaysIn box first p)
-        → (precision : Precision) (levels : List (List Point))
-        → IsMovedTo least greatest first precision region levels → All (All (LiesWithin box)) levels
-    lies box f precision levels to =
-        levels_lie box first region
+        → (precision : Precision) (shifted : List (List Point))
+        → IsMovedTo least greatest first precision region shifted → All (All (LiesWithin box)) shifted
+    lies box f precision shifted to =
+        shifted_lie box first region
         (both_hold (StaysInTurn least greatest first second) (StaysInTurn least greatest first second) (StaysIn box first) (λ p h k. f p h) region fit fit)
-        precision levels to
+        precision shifted to
 
     pub fits_first : Fits least greatest first region
     fits_first =
         both_hold (StaysInTurn least greatest first second) (StaysInTurn least greatest first second) (StaysInRange least greatest first)
         (λ p h k. record { across = h.across.first; up = h.up.first }) region fit fit
 
-    pub fits_again : (precision : Precision) (levels : List (List Point)) → IsMovedTo least greatest first precision region levels
-        → Fits least greatest second levels
-    fits_again precision levels to =
-        fits_of second levels
+    pub fits_again : (precision : Precision) (shifted : List (List Point)) → IsMovedTo least greatest first precision region shifted
+        → Fits least greatest second shifted
+    fits_again precision shifted to =
+        fits_of second shifted
         (both_hold (LiesWithin (firsts (whole least greatest) second)) (LiesWithin (lasts (whole least greatest) second)) (In second)
-        (of_both (whole least greatest) second) levels
-        (lies (firsts (whole least greatest) second) (λ p h. in_turn_firsts first second p h) precision levels to)
-        (lies (lasts (whole least greatest) second) (λ p h. in_turn_lasts first second p h) precision levels to))
+        (of_both (whole least greatest) second) shifted
+        (lies (firsts (whole least greatest) second) (λ p h. in_turn_firsts first second p h) precision shifted to)
+        (lies (lasts (whole least greatest) second) (λ p h. in_turn_lasts first second p h) precision shifted to))

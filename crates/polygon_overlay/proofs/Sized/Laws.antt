@@ -8,7 +8,7 @@ use Rattle.plane_base.specs.Balance.{IsBalancedMap}
 use Rattle.plane_base.specs.Counts.{Count, Entry, boolean, normal}
 use Rattle.plane_base.specs.Regions.{FillRule, Positive, Subject, is_filled, region}
 use Rattle.plane_base.specs.Windings.{winding, contour_winding}
-use Rattle.segment_split.specs.LineLaws.{AllLevelOrUpright, LevelAndUprightMeetWhole, RedrawsByLines}
+use Rattle.segment_split.specs.LineLaws.{AllRectilinear, HorizontalAndVerticalMeetWhole, RedrawsByLines}
 use Rattle.segment_split.specs.Passes.{edges_of}
 use Rattle.segment_split.specs.Redrawing.{redrawn}
 use Rattle.segment_split.specs.RedrawLaws.{Rearranges, RedrawsToTheEnd}
@@ -27,10 +27,10 @@ use Rattle.polygon_overlay.specs.OverlayLaws.{overlay_of}
 use Rattle.polygon_overlay.specs.Overlays.{once, redrawn_of}
 use Rattle.polygon_overlay.specs.Sizing.{Amounts, IsSizedAcross, IsSizedUp, IsSized, IsFilledBy, exchanged, moved_across, moved_up, moved}
 use Rattle.polygon_overlay.specs.SizingLaws.{HoldsAlone, IsRegionOf, AreMoved, Tells, FillJust, MovedFillTheSized, SizedIsTheNeighbourhood}
-use Rattle.polygon_overlay.specs.Tiles.{AreLevelOrUpright}
+use Rattle.polygon_overlay.specs.Tiles.{AreRectilinear}
 use Rattle.polygon_overlay.proofs.ArrangementLaws.{redrawn_arrangement}
 use Rattle.polygon_overlay.proofs.Tiles.Regions.{answer_winds}
-use Rattle.polygon_overlay.proofs.Tiles.Straight.{keys_straight, held_meets_whole, answers_stay_level_or_upright}
+use Rattle.polygon_overlay.proofs.Tiles.Straight.{keys_straight, held_meets_whole, answers_stay_rectilinear}
 use Rattle.polygon_overlay.proofs.Sized.Across.{across_has_places}
 use Rattle.polygon_overlay.proofs.Sized.Answers.{answers_pass_across, answers_pass_up}
 use Rattle.polygon_overlay.proofs.Sized.Denominators.{winds_alike_over}
@@ -49,8 +49,8 @@ sized_alike left right F G p goes h = record {
   shrunk = λ l m row. goes m row.rational (h.shrunk l m row);
 }
 
-none_straight : AreLevelOrUpright []
-none_straight = All-nil (λ c. AllLevelOrUpright (contour_steps c))
+none_straight : AreRectilinear []
+none_straight = All-nil (λ c. AllRectilinear (contour_steps c))
 
 -- ---- an answer, moved
 
@@ -59,18 +59,18 @@ module _ (rearranges : (precision : Precision) → Rearranges boolean (redrawn b
     (balanced : (precision : Precision) (es : List (Entry Count)) → IsBalancedMap es → IsBalancedMap (redrawn boolean precision es))
     (bounded : FilledIsBounded) (orderly : AnswersAreOrderly) (wind : AnswersWind) (corners : CornersStay) (keep : WholeMeetingsKeepWindings)
     (winds : HeldWindsAsGiven)
-    (whole : LevelAndUprightMeetWhole boolean) (lines : (precision : Precision) → RedrawsByLines boolean precision) (all : AnswerHasAllWalks)
+    (whole : HorizontalAndVerticalMeetWhole boolean) (lines : (precision : Precision) → RedrawsByLines boolean precision) (all : AnswerHasAllWalks)
     (zero_keeps : ZeroKeepsAll) where
-  -- what is answered for level and upright contours that are held alone
-  module _ (least greatest : ℤ) (keep_all : Bool) (contours : List (List Point)) (straight : AreLevelOrUpright contours) (held : List (Entry Count))
+  -- what is answered for horizontal and vertical contours that are held alone
+  module _ (least greatest : ℤ) (keep_all : Bool) (contours : List (List Point)) (straight : AreRectilinear contours) (held : List (Entry Count))
       (alone : HoldsAlone least greatest keep_all contours held) where
-    keys : AllLevelOrUpright (edges_of (normal boolean held))
+    keys : AllRectilinear (edges_of (normal boolean held))
     keys = keys_straight keep_all contours [] held alone.holds straight none_straight
 
     answers_straight : (o : Answering) (fill : FillRule) (precision : Precision) → o.least ≡ 0
-        → AreLevelOrUpright (all_contours (overlay_of o fill Subject precision held))
+        → AreRectilinear (all_contours (overlay_of o fill Subject precision held))
     answers_straight o fill precision none =
-        answers_stay_level_or_upright rearranges ends balanced orderly corners whole lines least greatest o fill Subject precision held alone.is_held none keys
+        answers_stay_rectilinear rearranges ends balanced orderly corners whole lines least greatest o fill Subject precision held alone.is_held none keys
 
     answers_wind : (o : Answering) (fill : FillRule) (precision : Precision) → o.least ≡ 0 → (p : RationalPoint) → IsRational p
         → contour_winding (all_contours (overlay_of o fill Subject precision held)) p ≡ turns_of o.clockwise (is_filled fill (contour_winding contours p))
@@ -80,7 +80,7 @@ module _ (rearranges : (precision : Precision) → Rearranges boolean (redrawn b
 
   -- ---- their region
 
-  module _ (least greatest : ℤ) (fill : FillRule) (precision : Precision) (contours region : List (List Point)) (straight : AreLevelOrUpright contours)
+  module _ (least greatest : ℤ) (fill : FillRule) (precision : Precision) (contours region : List (List Point)) (straight : AreRectilinear contours)
       (of : IsRegionOf least greatest fill precision contours region) where
     arranged : IsArrangement (redrawn_of precision of.held)
     arranged = redrawn_arrangement least greatest precision (rearranges precision) (ends precision) (balanced precision) of.held of.alone.is_held
@@ -111,10 +111,10 @@ module _ (rearranges : (precision : Precision) → Rearranges boolean (redrawn b
     filled_winds : (p : RationalPoint) → IsRational p → filled p ≡ true → contour_winding region p ≡ pos 1
     filled_winds p some e = wound p some ∙ ap (λ b. cond b (pos 1) (pos 0)) e
 
-    region_straight : AreLevelOrUpright region
+    region_straight : AreRectilinear region
     region_straight =
-        subst AreLevelOrUpright (sym of.is)
-        (flat_holds all zero_keeps fill precision of.held arranged (λ c. AllLevelOrUpright (contour_steps c))
+        subst AreRectilinear (sym of.is)
+        (flat_holds all zero_keeps fill precision of.held arranged (λ c. AllRectilinear (contour_steps c))
         (answers_straight least greatest false contours straight of.held of.alone (answering_of default_options) fill precision refl))
 
     pass_across : (p : RationalPoint) → IsRational p → PassOneByOne region p
@@ -139,11 +139,11 @@ module _ (rearranges : (precision : Precision) → Rearranges boolean (redrawn b
       abbrev wide : List (List Point)
       wide = map (moved (moved_across left right)) region
 
-      places_across : (p : RationalPoint) → IsRational p → HasPlaces (contour_winding region) (contour_winding wide) left right p × AreLevelOrUpright wide
+      places_across : (p : RationalPoint) → IsRational p → HasPlaces (contour_winding region) (contour_winding wide) left right p × AreRectilinear wide
       places_across p some =
           across_has_places region left right p region_straight (pass_across p some)
 
-      wide_straight : AreLevelOrUpright wide
+      wide_straight : AreRectilinear wide
       wide_straight = (places_across (record { x = pos 0; y = pos 0; q = 1 }) (omega arith)).1
 
       tells_across : (p : RationalPoint) → IsRational p
@@ -165,11 +165,11 @@ module _ (rearranges : (precision : Precision) → Rearranges boolean (redrawn b
       tall = map (moved (moved_up bottom top)) region
 
       places_up : (v : RationalPoint) → IsRational v
-          → HasPlaces (λ r. contour_winding region (exchanged r)) (λ r. contour_winding tall (exchanged r)) bottom top v × AreLevelOrUpright tall
+          → HasPlaces (λ r. contour_winding region (exchanged r)) (λ r. contour_winding tall (exchanged r)) bottom top v × AreRectilinear tall
       places_up v some =
           up_has_places region bottom top v region_straight (pass_up v some)
 
-      tall_straight : AreLevelOrUpright tall
+      tall_straight : AreRectilinear tall
       tall_straight = (places_up (record { x = pos 0; y = pos 0; q = 1 }) (omega arith)).1
 
       tells_up : (p : RationalPoint) → IsRational p
@@ -190,7 +190,7 @@ module _ (rearranges : (precision : Precision) → Rearranges boolean (redrawn b
   -- ---- both
 
   regions_fill : (least greatest : ℤ) (fill : FillRule) (precision : Precision) (contours region : List (List Point)) →
-      AreLevelOrUpright contours → IsRegionOf least greatest fill precision contours region → FillJust (IsFilledBy fill contours) region
+      AreRectilinear contours → IsRegionOf least greatest fill precision contours region → FillJust (IsFilledBy fill contours) region
   regions_fill least greatest fill precision contours region straight of = record {
     fills = λ p some. by (is_filled fill (contour_winding contours p)) (contour_winding region p)
         (wound least greatest fill precision contours region straight of p some);
@@ -201,18 +201,18 @@ module _ (rearranges : (precision : Precision) → Rearranges boolean (redrawn b
       by true w e = (λ h. ap (int_lt (pos 0)) e, λ h. refl)
       by false w e = (λ h. absurd (false≢true h), λ h. absurd (false≢true (sym (ap (int_lt (pos 0)) e) ∙ h)))
 
-  moved_fill : (least greatest : ℤ) (by : Amounts) (fill : FillRule) (precision : Precision) (contours levels : List (List Point)) →
-      AreLevelOrUpright contours → AreMoved least greatest by fill precision contours levels → FillJust (IsSized by (IsFilledBy fill contours)) levels
-  moved_fill least greatest by fill precision contours levels straight are = record {
+  moved_fill : (least greatest : ℤ) (by : Amounts) (fill : FillRule) (precision : Precision) (contours shifted : List (List Point)) →
+      AreRectilinear contours → AreMoved least greatest by fill precision contours shifted → FillJust (IsSized by (IsFilledBy fill contours)) shifted
+  moved_fill least greatest by fill precision contours shifted straight are = record {
     fills = λ p some. subst (λ cs. (Inside p → IsFilledBy Positive cs p) × (IsFilledBy Positive cs p → Inside p)) (sym are.moves.up) (sized p some);
-    straight = subst AreLevelOrUpright (sym are.moves.up) (tall_straight least greatest Positive precision sides wide sides_straight are.moves.across
+    straight = subst AreRectilinear (sym are.moves.up) (tall_straight least greatest Positive precision sides wide sides_straight are.moves.across
         by.bottom by.top);
   }
     where
       sides : List (List Point)
       sides = map (moved (moved_across by.left by.right)) are.region
 
-      sides_straight : AreLevelOrUpright sides
+      sides_straight : AreRectilinear sides
       sides_straight = wide_straight least greatest fill precision contours are.region straight are.of_region by.left by.right
 
       wide : List (List Point)
@@ -251,35 +251,35 @@ module _ (rearranges : (precision : Precision) → Rearranges boolean (redrawn b
 
   pub sized_is_the_neighbourhood : SizedIsTheNeighbourhood
   sized_is_the_neighbourhood least greatest keep_all by fill precision contours held straight moves = record {
-    region = λ p some. tests p (is.fills p some) (int_lt (pos 0) (contour_winding moves.levels p)) refl (holds_moved p);
-    whole = held_meets_whole keep_all moves.levels [] held moves.alone.holds is.straight none_straight whole least greatest moves.alone.is_held;
+    region = λ p some. tests p (is.fills p some) (int_lt (pos 0) (contour_winding moves.shifted p)) refl (holds_moved p);
+    whole = held_meets_whole keep_all moves.shifted [] held moves.alone.holds is.straight none_straight whole least greatest moves.alone.is_held;
     winds = λ o other none p some.
-        turns o.clockwise p (is.fills p some) (int_lt (pos 0) (contour_winding moves.levels p)) refl
+        turns o.clockwise p (is.fills p some) (int_lt (pos 0) (contour_winding moves.shifted p)) refl
         (contour_winding (all_contours (overlay_of o Positive Subject other held)) p)
-        (answers_wind least greatest keep_all moves.levels is.straight held moves.alone o Positive other none p some);
-    straight = λ o other none. answers_straight least greatest keep_all moves.levels is.straight held moves.alone o Positive other none;
+        (answers_wind least greatest keep_all moves.shifted is.straight held moves.alone o Positive other none p some);
+    straight = λ o other none. answers_straight least greatest keep_all moves.shifted is.straight held moves.alone o Positive other none;
   }
     where
-      is : FillJust (IsSized by (IsFilledBy fill contours)) moves.levels
-      is = moved_fill least greatest by fill precision contours moves.levels straight moves.are
+      is : FillJust (IsSized by (IsFilledBy fill contours)) moves.shifted
+      is = moved_fill least greatest by fill precision contours moves.shifted straight moves.are
 
-      holds_moved : (p : RationalPoint) → region Positive Subject (winding held p) ≡ int_lt (pos 0) (contour_winding moves.levels p)
-      holds_moved p = ap (region Positive Subject) (winds keep_all moves.levels [] held p moves.alone.holds)
+      holds_moved : (p : RationalPoint) → region Positive Subject (winding held p) ≡ int_lt (pos 0) (contour_winding moves.shifted p)
+      holds_moved p = ap (region Positive Subject) (winds keep_all moves.shifted [] held p moves.alone.holds)
 
       Inside : RationalPoint → Type 0
       Inside p = IsSized by (IsFilledBy fill contours) p
 
       tests : (p : RationalPoint) → (Inside p
-          → int_lt (pos 0) (contour_winding moves.levels p) ≡ true) × (int_lt (pos 0) (contour_winding moves.levels p) ≡ true → Inside p)
-          → (b : Bool) → int_lt (pos 0) (contour_winding moves.levels p) ≡ b
-          → region Positive Subject (winding held p) ≡ int_lt (pos 0) (contour_winding moves.levels p)
+          → int_lt (pos 0) (contour_winding moves.shifted p) ≡ true) × (int_lt (pos 0) (contour_winding moves.shifted p) ≡ true → Inside p)
+          → (b : Bool) → int_lt (pos 0) (contour_winding moves.shifted p) ≡ b
+          → region Positive Subject (winding held p) ≡ int_lt (pos 0) (contour_winding moves.shifted p)
           → Tells (Inside p) (region Positive Subject (winding held p))
       tests p both true e same = inl (both.1 e, same ∙ e)
       tests p both false e same = inr (λ h. false≢true (sym e ∙ both.0 h), same ∙ e)
 
       turns : (output : Bool) (p : RationalPoint)
-          → (Inside p → int_lt (pos 0) (contour_winding moves.levels p) ≡ true) × (int_lt (pos 0) (contour_winding moves.levels p) ≡ true → Inside p)
-          → (b : Bool) → int_lt (pos 0) (contour_winding moves.levels p) ≡ b → (w : ℤ) → w ≡ turns_of output (int_lt (pos 0) (contour_winding moves.levels p))
+          → (Inside p → int_lt (pos 0) (contour_winding moves.shifted p) ≡ true) × (int_lt (pos 0) (contour_winding moves.shifted p) ≡ true → Inside p)
+          → (b : Bool) → int_lt (pos 0) (contour_winding moves.shifted p) ≡ b → (w : ℤ) → w ≡ turns_of output (int_lt (pos 0) (contour_winding moves.shifted p))
           → (Inside p × (w ≡ once output)) ⊎ ((Inside p → ⊥) × (w ≡ pos 0))
       turns output p both true e w is = inl (both.1 e, is ∙ (ap (turns_of output) e ∙ all_once output))
         where

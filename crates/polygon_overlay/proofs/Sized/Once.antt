@@ -15,16 +15,16 @@ use Rattle.plane_base.proofs.Facts.Lists.Totals.{total_append, total_zero_on, to
 use Rattle.plane_base.proofs.Facts.Maps.Normal.{AllPairs-head, AllPairs-tail}
 use Rattle.plane_base.proofs.Facts.Numbers.Products.{zero_product, same_of_products, below_of_products}
 use Rattle.plane_base.proofs.Facts.Points.Orders.{before_is_less, point_less, point_less_by_x, point_less_by_y}
-use Rattle.segment_split.specs.LineLaws.{is_level_or_upright}
+use Rattle.segment_split.specs.LineLaws.{is_rectilinear}
 use Rattle.contour_walk.specs.WalkLaws.{steps_to, contour_steps}
 use Rattle.polygon_overlay.proofs.Sized.Terms.{is_under, has_begun, crossing, ThinnedCrossLess, PartedPassOnce}
 use Rattle.segment_arrangement.proofs.Facts.ColumnPlaces.{lt_holds, lt_tells, lt_tells_not, le_holds, le_tells}
-use Rattle.polygon_overlay.proofs.Tiles.Steps.{le_tells_not, at_most, at_most_below, below_at_most, times_le, weak, level_or_upright}
+use Rattle.polygon_overlay.proofs.Tiles.Steps.{le_tells_not, at_most, at_most_below, below_at_most, times_le, weak, rectilinear}
 use Rattle.polygon_overlay.proofs.Tiles.Straight.{straight_joined}
 use Rattle.polygon_overlay.proofs.Tiles.ThinnedSteps.{steps_append, same_cycle, taken_out}
 
 abbrev IsStraight : Edge → Type 0
-IsStraight s = is_level_or_upright s ≡ true
+IsStraight s = is_rectilinear s ≡ true
 
 -- ---- thinned contours have no more of what two steps along one line have no less of than both as one
 
@@ -259,8 +259,8 @@ on_line w v y x e h = rw (e, h) (none v y)
     none : (v y : ℤ) → (pos 0 *ℤ y) -ℤ (v *ℤ pos 0) ≡ pos 0
     none v y = omega (arith, ints)
 
-on_level : (w v y x : ℤ) → v ≡ pos 0 → y ≡ pos 0 → (w *ℤ y) -ℤ (v *ℤ x) ≡ pos 0
-on_level w v y x e h = rw (e, h) (none w x)
+on_horizontal : (w v y x : ℤ) → v ≡ pos 0 → y ≡ pos 0 → (w *ℤ y) -ℤ (v *ℤ x) ≡ pos 0
+on_horizontal w v y x e h = rw (e, h) (none w x)
   where
     none : (w x : ℤ) → (w *ℤ pos 0) -ℤ (pos 0 *ℤ x) ≡ pos 0
     none w x = omega (arith, ints)
@@ -271,14 +271,14 @@ no_gap x y e = omega (arith, ints)
 inside : (u : Point) (s : Edge) → turn s.a s.b u ≡ pos 0 → is_before s.a u ≡ true → is_before u s.b ≡ true → strictly_inside u s ≡ true
 inside u s flat from to = and_from (int_eq (turn s.a s.b u) (pos 0)) (is_before s.a u && is_before u s.b) ((Decides-int_eq (turn s.a s.b u) (pos 0)).1 flat) (and_from (is_before s.a u) (is_before u s.b) from to)
 
-inside_upright : (u : Point) (s : Edge) → s.a.x ≡ s.b.x → s.a.x ≡ u.x → s.a.y <ℤ u.y → u.y <ℤ s.b.y → strictly_inside u s ≡ true
-inside_upright u s upright here from to =
-    inside u s (on_line (s.b.x -ℤ s.a.x) (s.b.y -ℤ s.a.y) (u.y -ℤ s.a.y) (u.x -ℤ s.a.x) (no_gap s.a.x s.b.x upright) (no_gap s.a.x u.x here))
-    (ap is_lt (point_less_by_y s.a u here from)) (ap is_lt (point_less_by_y u s.b (sym here ∙ upright) to))
+inside_vertical : (u : Point) (s : Edge) → s.a.x ≡ s.b.x → s.a.x ≡ u.x → s.a.y <ℤ u.y → u.y <ℤ s.b.y → strictly_inside u s ≡ true
+inside_vertical u s vertical here from to =
+    inside u s (on_line (s.b.x -ℤ s.a.x) (s.b.y -ℤ s.a.y) (u.y -ℤ s.a.y) (u.x -ℤ s.a.x) (no_gap s.a.x s.b.x vertical) (no_gap s.a.x u.x here))
+    (ap is_lt (point_less_by_y s.a u here from)) (ap is_lt (point_less_by_y u s.b (sym here ∙ vertical) to))
 
-inside_level : (u : Point) (s : Edge) → s.a.y ≡ s.b.y → s.a.y ≡ u.y → s.a.x <ℤ u.x → u.x <ℤ s.b.x → strictly_inside u s ≡ true
-inside_level u s level here from to =
-    inside u s (on_level (s.b.x -ℤ s.a.x) (s.b.y -ℤ s.a.y) (u.y -ℤ s.a.y) (u.x -ℤ s.a.x) (no_gap s.a.y s.b.y level) (no_gap s.a.y u.y here))
+inside_horizontal : (u : Point) (s : Edge) → s.a.y ≡ s.b.y → s.a.y ≡ u.y → s.a.x <ℤ u.x → u.x <ℤ s.b.x → strictly_inside u s ≡ true
+inside_horizontal u s level here from to =
+    inside u s (on_horizontal (s.b.x -ℤ s.a.x) (s.b.y -ℤ s.a.y) (u.y -ℤ s.a.y) (u.x -ℤ s.a.x) (no_gap s.a.y s.b.y level) (no_gap s.a.y u.y here))
     (ap is_lt (point_less_by_x s.a u from)) (ap is_lt (point_less_by_x u s.b to))
 
 -- ---- rows and columns
@@ -291,14 +291,14 @@ module _ (p : RationalPoint) (k : ℤ) where
   row u = (pos p.q *ℤ u.y) +ℤ pos 1
 
   pub keeps_across : (u v : Point) → IsStraight (record { a = u; b = v }) → Keeps column (is_under p) k u v
-  keeps_across u v h = by (level_or_upright u v h)
+  keeps_across u v h = by (rectilinear u v h)
     where
       by : (u.y ≡ v.y) ⊎ (u.x ≡ v.x) → Keeps column (is_under p) k u v
       by (inl e) = inr (ap (λ y. int_lt (pos p.q *ℤ y) p.y) e)
       by (inr e) = inl (ap (λ x. pos p.q *ℤ x) e)
 
   pub keeps_up : (u v : Point) → IsStraight (record { a = u; b = v }) → Keeps row (has_begun p) k u v
-  keeps_up u v h = by (level_or_upright u v h)
+  keeps_up u v h = by (rectilinear u v h)
     where
       by : (u.y ≡ v.y) ⊎ (u.x ≡ v.x) → Keeps row (has_begun p) k u v
       by (inl e) = inl (ap (λ y. (pos p.q *ℤ y) +ℤ pos 1) e)
@@ -307,7 +307,7 @@ module _ (p : RationalPoint) (k : ℤ) where
 -- of two straight steps along one line neither turns off
 flat_ways : (u v w : Point) → turn u v w ≡ pos 0 → IsStraight (record { a = u; b = v }) → IsStraight (record { a = v; b = w })
     → ((u.y ≡ v.y) ⊎ (v.x ≡ w.x)) × ((u.x ≡ v.x) ⊎ (v.y ≡ w.y))
-flat_ways u v w flat h k = by (level_or_upright u v h) (level_or_upright v w k)
+flat_ways u v w flat h k = by (rectilinear u v h) (rectilinear v w k)
   where
     same_number : (x y : ℤ) → y -ℤ x ≡ pos 0 → x ≡ y
     same_number x y e = omega (arith, ints)
@@ -321,25 +321,25 @@ flat_ways u v w flat h k = by (level_or_upright u v h) (level_or_upright v w k)
     none : (x : ℤ) → pos 0 *ℤ x ≡ pos 0
     none x = omega (arith, ints)
 
-    after_level : u.y ≡ v.y → (v.x -ℤ u.x ≡ pos 0) ⊎ (w.y -ℤ u.y ≡ pos 0) → (u.x ≡ v.x) ⊎ (v.y ≡ w.y)
-    after_level e (inl z) = inl (same_number u.x v.x z)
-    after_level e (inr z) = inr (sym e ∙ same_number u.y w.y z)
+    after_horizontal : u.y ≡ v.y → (v.x -ℤ u.x ≡ pos 0) ⊎ (w.y -ℤ u.y ≡ pos 0) → (u.x ≡ v.x) ⊎ (v.y ≡ w.y)
+    after_horizontal e (inl z) = inl (same_number u.x v.x z)
+    after_horizontal e (inr z) = inr (sym e ∙ same_number u.y w.y z)
 
-    after_upright : u.x ≡ v.x → (v.y -ℤ u.y ≡ pos 0) ⊎ (w.x -ℤ u.x ≡ pos 0) → (u.y ≡ v.y) ⊎ (v.x ≡ w.x)
-    after_upright e (inl z) = inl (same_number u.y v.y z)
-    after_upright e (inr z) = inr (sym e ∙ same_number u.x w.x z)
+    after_vertical : u.x ≡ v.x → (v.y -ℤ u.y ≡ pos 0) ⊎ (w.x -ℤ u.x ≡ pos 0) → (u.y ≡ v.y) ⊎ (v.x ≡ w.x)
+    after_vertical e (inl z) = inl (same_number u.y v.y z)
+    after_vertical e (inr z) = inr (sym e ∙ same_number u.x w.x z)
 
     by : (u.y ≡ v.y) ⊎ (u.x ≡ v.x) → (v.y ≡ w.y) ⊎ (v.x ≡ w.x) → ((u.y ≡ v.y) ⊎ (v.x ≡ w.x)) × ((u.x ≡ v.x) ⊎ (v.y ≡ w.y))
     by (inl e) (inl f) = (inl e, inr f)
     by (inr e) (inr f) = (inr f, inl e)
     by (inl e) (inr f) = (
       inl e,
-      after_level e
+      after_horizontal e
           (zero_product (v.x -ℤ u.x) (w.y -ℤ u.y)
           (nothing_left ((v.x -ℤ u.x) *ℤ (w.y -ℤ u.y)) ((v.y -ℤ u.y) *ℤ (w.x -ℤ u.x)) (ap (λ z. z *ℤ (w.x -ℤ u.x)) (no_gap u.y v.y e) ∙ none (w.x -ℤ u.x)) flat)),
     )
     by (inr e) (inl f) = (
-      after_upright e
+      after_vertical e
           (zero_product (v.y -ℤ u.y) (w.x -ℤ u.x)
           (nothing_right ((v.x -ℤ u.x) *ℤ (w.y -ℤ u.y)) ((v.y -ℤ u.y) *ℤ (w.x -ℤ u.x)) (ap (λ z. z *ℤ (w.y -ℤ u.y)) (no_gap u.x v.x e) ∙ none (w.y -ℤ u.y)) flat)),
       inl e,
@@ -372,13 +372,13 @@ module _ (p : RationalPoint) (k : ℤ) (some : IsRational p) where
   positive = omega (arith, ints, some)
 
   record PassesUp (s : Edge) : Type 0 where
-    upright : s.a.x ≡ s.b.x
+    vertical : s.a.x ≡ s.b.x
     rises : s.a.y <ℤ s.b.y
     low : (pos p.q *ℤ s.a.y) <ℤ p.y
     high : p.y ≤ℤ (pos p.q *ℤ s.b.y)
 
   passes_up : (s : Edge) → IsStraight s → is_before s.a s.b ≡ true → is_under p s.a ≡ not (is_under p s.b) → PassesUp s
-  passes_up s straight forward sides = by (level_or_upright s.a s.b straight)
+  passes_up s straight forward sides = by (rectilinear s.a s.b straight)
     where
       not_itself : (b : Bool) → b ≡ not b → ⊥
       not_itself true e = false≢true (sym e)
@@ -388,20 +388,20 @@ module _ (p : RationalPoint) (k : ℤ) (some : IsRational p) where
       higher e = ⊎_elim (λ l. absurd (omega (arith, ints, l, e))) (λ l. l.1) (point_less s.a s.b (before_is_less s.a s.b forward))
 
       bits : (a b : Bool) → is_under p s.a ≡ a → is_under p s.b ≡ b → a ≡ not b → s.a.x ≡ s.b.x → PassesUp s
-      bits true false e f h upright = record {
-        upright = upright;
-        rises = higher upright;
+      bits true false e f h vertical = record {
+        vertical = vertical;
+        rises = higher vertical;
         low = lt_tells (pos p.q *ℤ s.a.y) p.y e;
         high = lt_tells_not (pos p.q *ℤ s.b.y) p.y f;
       }
-      bits false true e f h upright =
+      bits false true e f h vertical =
           absurd
           (false≢true
           (sym e
           ∙ lt_holds (pos p.q *ℤ s.a.y) p.y
-          (at_most_below (pos p.q *ℤ s.a.y) (pos p.q *ℤ s.b.y) p.y (times_le p.q s.a.y s.b.y (weak s.a.y s.b.y (higher upright))) (lt_tells (pos p.q *ℤ s.b.y) p.y f))))
-      bits true true e f h upright = absurd (false≢true (sym h))
-      bits false false e f h upright = absurd (false≢true h)
+          (at_most_below (pos p.q *ℤ s.a.y) (pos p.q *ℤ s.b.y) p.y (times_le p.q s.a.y s.b.y (weak s.a.y s.b.y (higher vertical))) (lt_tells (pos p.q *ℤ s.b.y) p.y f))))
+      bits true true e f h vertical = absurd (false≢true (sym h))
+      bits false false e f h vertical = absurd (false≢true h)
 
       by : (s.a.y ≡ s.b.y) ⊎ (s.a.x ≡ s.b.x) → PassesUp s
       by (inl e) = absurd (not_itself (is_under p s.b) (sym (ap (λ y. int_lt (pos p.q *ℤ y) p.y) e) ∙ sides))
@@ -409,8 +409,8 @@ module _ (p : RationalPoint) (k : ℤ) (some : IsRational p) where
 
   clash_across : (s r : Edge) → IsStraight s → IsStraight r → is_before s.a s.b ≡ true → is_before r.a r.b ≡ true → s ≢ r → parted s r ≡ true → Clash (column p k) (is_under p) k s r
   clash_across s r straight_s straight_r forward_s forward_r differ parts here there =
-      overlap (λ u. u.y) s r differ parts (λ e f. λ i. record { a = record { x = at i; y = e i }; b = record { x = (sym of_s.upright ∙ (at ∙ of_r.upright)) i; y = f i } })
-      (λ u end from to. inside_upright u s of_s.upright (at ∙ r_end u end) from to) (λ u end from to. inside_upright u r of_r.upright (sym at ∙ s_end u end) from to)
+      overlap (λ u. u.y) s r differ parts (λ e f. λ i. record { a = record { x = at i; y = e i }; b = record { x = (sym of_s.vertical ∙ (at ∙ of_r.vertical)) i; y = f i } })
+      (λ u end from to. inside_vertical u s of_s.vertical (at ∙ r_end u end) from to) (λ u end from to. inside_vertical u r of_r.vertical (sym at ∙ s_end u end) from to)
       of_s.rises of_r.rises (below_of_products (pos p.q) s.a.y r.b.y (omega (arith, ints)) (below_at_most (pos p.q *ℤ s.a.y) p.y (pos p.q *ℤ r.b.y) of_s.low of_r.high))
       (below_of_products (pos p.q) r.a.y s.b.y (omega (arith, ints)) (below_at_most (pos p.q *ℤ r.a.y) p.y (pos p.q *ℤ s.b.y) of_r.low of_s.high))
     where
@@ -431,11 +431,11 @@ module _ (p : RationalPoint) (k : ℤ) (some : IsRational p) where
 
       r_end : (u : Point) → (u ≡ r.a) ⊎ (u ≡ r.b) → r.a.x ≡ u.x
       r_end u (inl e) = sym (ap (λ z. z.x) e)
-      r_end u (inr e) = of_r.upright ∙ sym (ap (λ z. z.x) e)
+      r_end u (inr e) = of_r.vertical ∙ sym (ap (λ z. z.x) e)
 
       s_end : (u : Point) → (u ≡ s.a) ⊎ (u ≡ s.b) → s.a.x ≡ u.x
       s_end u (inl e) = sym (ap (λ z. z.x) e)
-      s_end u (inr e) = of_s.upright ∙ sym (ap (λ z. z.x) e)
+      s_end u (inr e) = of_s.vertical ∙ sym (ap (λ z. z.x) e)
 
   record PassesRight (s : Edge) : Type 0 where
     level : s.a.y ≡ s.b.y
@@ -444,7 +444,7 @@ module _ (p : RationalPoint) (k : ℤ) (some : IsRational p) where
     to : p.y <ℤ (pos p.q *ℤ s.b.x)
 
   passes_right : (s : Edge) → IsStraight s → is_before s.a s.b ≡ true → has_begun p s.a ≡ not (has_begun p s.b) → PassesRight s
-  passes_right s straight forward sides = by (level_or_upright s.a s.b straight)
+  passes_right s straight forward sides = by (rectilinear s.a s.b straight)
     where
       not_itself : (b : Bool) → b ≡ not b → ⊥
       not_itself true e = false≢true (sym e)
@@ -476,7 +476,7 @@ module _ (p : RationalPoint) (k : ℤ) (some : IsRational p) where
   clash_up : (s r : Edge) → IsStraight s → IsStraight r → is_before s.a s.b ≡ true → is_before r.a r.b ≡ true → s ≢ r → parted s r ≡ true → Clash (row p k) (has_begun p) k s r
   clash_up s r straight_s straight_r forward_s forward_r differ parts here there =
       overlap (λ u. u.x) s r differ parts (λ e f. λ i. record { a = record { x = e i; y = at i }; b = record { x = f i; y = (sym of_s.level ∙ (at ∙ of_r.level)) i } })
-      (λ u end from to. inside_level u s of_s.level (at ∙ r_end u end) from to) (λ u end from to. inside_level u r of_r.level (sym at ∙ s_end u end) from to)
+      (λ u end from to. inside_horizontal u s of_s.level (at ∙ r_end u end) from to) (λ u end from to. inside_horizontal u r of_r.level (sym at ∙ s_end u end) from to)
       of_s.goes of_r.goes (below_of_products (pos p.q) s.a.x r.b.x (omega (arith, ints)) (at_most_below (pos p.q *ℤ s.a.x) p.y (pos p.q *ℤ r.b.x) of_s.from of_r.to))
       (below_of_products (pos p.q) r.a.x s.b.x (omega (arith, ints)) (at_most_below (pos p.q *ℤ r.a.x) p.y (pos p.q *ℤ s.b.x) of_r.from of_s.to))
     where

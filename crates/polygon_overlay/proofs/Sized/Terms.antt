@@ -6,9 +6,9 @@ use Rattle.plane_base.specs.Segments.{parted}
 use Rattle.plane_base.specs.Thinning.{IsThinned}
 use Rattle.plane_base.specs.Totals.{total}
 use Rattle.plane_base.specs.Windings.{contour_winding}
-use Rattle.segment_split.specs.LineLaws.{is_level_or_upright, AllLevelOrUpright}
+use Rattle.segment_split.specs.LineLaws.{is_rectilinear, AllRectilinear}
 use Rattle.contour_walk.specs.WalkLaws.{contour_steps}
-use Rattle.polygon_overlay.specs.Tiles.{AreLevelOrUpright}
+use Rattle.polygon_overlay.specs.Tiles.{AreRectilinear}
 use Rattle.polygon_overlay.specs.Sizing.{IsSizedAcross, exchanged, moved_across, moved_up, moved}
 
 -- the point at another numerator of its row
@@ -41,27 +41,27 @@ WindowsTell =
 
 -- ---- moved contours
 
--- A step that stays away, level with its own ends, or becomes another between the same heights.
+-- A step that stays away, horizontal with its own ends, or becomes another between the same heights.
 pub data IsMoved (p : RationalPoint) (f height : Point → ℤ) (move : Edge → List Point) (adds : Edge → ℤ) (s : Edge) : Type 0 where
   still : move s ≡ [] → height s.a ≡ height s.b → adds s ≡ pos 0 → IsMoved p f height move adds s
   moves :
       (a b : Point) → move s ≡ a ∷ b ∷ [] → height a ≡ height s.a → height b ≡ height s.b →
-      step_winding a b p ≡ (f a -ℤ f b) +ℤ adds s → is_level_or_upright (record { a = a; b = b }) ≡ true → IsMoved p f height move adds s
+      step_winding a b p ≡ (f a -ℤ f b) +ℤ adds s → is_rectilinear (record { a = a; b = b }) ≡ true → IsMoved p f height move adds s
 
 abbrev pub IsFlat : RationalPoint → (Point → ℤ) → (Point → ℤ) → Type 0
-IsFlat p f height = (u v : Point) → height u ≡ height v → (step_winding u v p ≡ f u -ℤ f v) × (is_level_or_upright (record { a = u; b = v }) ≡ true)
+IsFlat p f height = (u v : Point) → height u ≡ height v → (step_winding u v p ≡ f u -ℤ f v) × (is_rectilinear (record { a = u; b = v }) ≡ true)
 
 abbrev pub ContoursSum : Type 0
 ContoursSum =
-    (p : RationalPoint) (f : Point → ℤ) (adds : Edge → ℤ) (cs : List (List Point)) → AreLevelOrUpright cs →
-    ((s : Edge) → is_level_or_upright s ≡ true → step_winding s.a s.b p ≡ (f s.a -ℤ f s.b) +ℤ adds s)
+    (p : RationalPoint) (f : Point → ℤ) (adds : Edge → ℤ) (cs : List (List Point)) → AreRectilinear cs →
+    ((s : Edge) → is_rectilinear s ≡ true → step_winding s.a s.b p ≡ (f s.a -ℤ f s.b) +ℤ adds s)
     → contour_winding cs p ≡ total adds (flat_map contour_steps cs)
 
 abbrev pub MovedContoursSum : Type 0
 MovedContoursSum =
-    (p : RationalPoint) (f height : Point → ℤ) (move : Edge → List Point) (adds : Edge → ℤ) (cs : List (List Point)) → AreLevelOrUpright cs →
-    IsFlat p f height → ((s : Edge) → is_level_or_upright s ≡ true → IsMoved p f height move adds s)
-    → (contour_winding (map (moved move) cs) p ≡ total adds (flat_map contour_steps cs)) × AreLevelOrUpright (map (moved move) cs)
+    (p : RationalPoint) (f height : Point → ℤ) (move : Edge → List Point) (adds : Edge → ℤ) (cs : List (List Point)) → AreRectilinear cs →
+    IsFlat p f height → ((s : Edge) → is_rectilinear s ≡ true → IsMoved p f height move adds s)
+    → (contour_winding (map (moved move) cs) p ≡ total adds (flat_map contour_steps cs)) × AreRectilinear (map (moved move) cs)
 
 -- A point's winding doesn't depend on how its fractions are written.
 abbrev pub WindsAlikeOver : Type 0
@@ -97,9 +97,9 @@ PassOneByOne cs p = (k : ℤ) → total (just_at (column_of p) (falls_past p) (c
 
 abbrev pub AcrossHasPlaces : Type 0
 AcrossHasPlaces =
-    (cs : List (List Point)) (left right : ℤ) (p : RationalPoint) → AreLevelOrUpright cs → PassOneByOne cs p
+    (cs : List (List Point)) (left right : ℤ) (p : RationalPoint) → AreRectilinear cs → PassOneByOne cs p
     → HasPlaces (contour_winding cs) (contour_winding (map (moved (moved_across left right)) cs)) left right p
-    × AreLevelOrUpright (map (moved (moved_across left right)) cs)
+    × AreRectilinear (map (moved (moved_across left right)) cs)
 
 -- ---- columns, seen with x and y exchanged
 
@@ -120,9 +120,9 @@ PassOneByOneUp cs v = (k : ℤ) → total (just_at (row_over v) (right_past v) (
 
 abbrev pub UpHasPlaces : Type 0
 UpHasPlaces =
-    (cs : List (List Point)) (bottom top : ℤ) (v : RationalPoint) → AreLevelOrUpright cs → PassOneByOneUp cs v
+    (cs : List (List Point)) (bottom top : ℤ) (v : RationalPoint) → AreRectilinear cs → PassOneByOneUp cs v
     → HasPlaces (λ r. contour_winding cs (exchanged r)) (λ r. contour_winding (map (moved (moved_up bottom top)) cs) (exchanged r)) bottom top v
-    × AreLevelOrUpright (map (moved (moved_up bottom top)) cs)
+    × AreRectilinear (map (moved (moved_up bottom top)) cs)
 
 -- ---- one by one
 
@@ -133,14 +133,14 @@ crossing place side k s = cond (int_eq (place s.a) k) (cond (side s.a) (cond (si
 -- Thinned contours have no more of it.
 abbrev pub ThinnedCrossLess : Type 0
 ThinnedCrossLess =
-    (p : RationalPoint) (k : ℤ) (c d : List Point) → AllLevelOrUpright (contour_steps c) → IsThinned c d
+    (p : RationalPoint) (k : ℤ) (c d : List Point) → AllRectilinear (contour_steps c) → IsThinned c d
     → (total (crossing (λ u. pos p.q *ℤ u.x) (is_under p) k) (contour_steps d) ≤ℤ total (crossing (λ u. pos p.q *ℤ u.x) (is_under p) k) (contour_steps c))
     × (total (crossing (λ u. (pos p.q *ℤ u.y) +ℤ pos 1) (has_begun p) k) (contour_steps d) ≤ℤ total (crossing (λ u. (pos p.q *ℤ u.y) +ℤ pos 1) (has_begun p) k) (contour_steps c))
 
 -- Steps that run along parted edges, each along one of its own, come one by one.
 abbrev pub PartedPassOnce : Type 0
 PartedPassOnce =
-    (p : RationalPoint) (k : ℤ) (ss : List Edge) → IsRational p → AllLevelOrUpright ss → All (λ s. is_before s.a s.b ≡ true) ss →
+    (p : RationalPoint) (k : ℤ) (ss : List Edge) → IsRational p → AllRectilinear ss → All (λ s. is_before s.a s.b ≡ true) ss →
     AllPairs (λ s t. s ≢ t) ss → AllPairs (λ s t. parted s t ≡ true) ss
     → (total (crossing (λ u. pos p.q *ℤ u.x) (is_under p) k) ss ≤ℤ pos 1)
     × (total (crossing (λ u. (pos p.q *ℤ u.y) +ℤ pos 1) (has_begun p) k) ss ≤ℤ pos 1)

@@ -1,4 +1,4 @@
--- What level and upright contours wind in a column, seen with x and y exchanged: as often as steps ran right under a place, less as often as
+-- What horizontal and vertical contours wind in a column, seen with x and y exchanged: as often as steps ran right under a place, less as often as
 -- steps ran left. So do moved ones.
 use Rattle.std.proofs.Common.{◌≡◌, ◌⊎◌, inl, inr, Bool, true, false, not, cond, ◌&&◌, List, [], ◌∷◌, map, flat_map, ℤ, pos, negsuc, neg_ℤ, ◌+ℤ◌, ◌-ℤ◌, ◌*ℤ◌, ◌≤ℤ◌, int_lt, int_le, int_eq, refl, sym, ap, ◌∙◌, arith}
 use Rattle.std.proofs.lemmas.Int.{ints}
@@ -10,14 +10,14 @@ use Rattle.plane_base.specs.Windings.{contour_winding}
 use Rattle.plane_base.proofs.Facts.Lists.Totals.{total_difference}
 use Rattle.plane_base.proofs.Facts.Numbers.Products.{product_of_sum, product_of_negation}
 use Rattle.plane_base.proofs.Facts.Points.OneLine.{contribution, at_or_before, is_above, step_winding_is}
-use Rattle.segment_split.specs.LineLaws.{is_level_or_upright}
+use Rattle.segment_split.specs.LineLaws.{is_rectilinear}
 use Rattle.contour_walk.specs.WalkLaws.{contour_steps}
-use Rattle.polygon_overlay.specs.Tiles.{AreLevelOrUpright}
+use Rattle.polygon_overlay.specs.Tiles.{AreRectilinear}
 use Rattle.polygon_overlay.specs.Sizing.{exchanged, moved_up, moved}
 use Rattle.polygon_overlay.proofs.Sized.Terms.{at, up_to, right_past, left_past, row_over, IsMoved, still, moves, UpHasPlaces}
 use Rattle.segment_arrangement.proofs.Facts.ColumnPlaces.{le_holds, le_tells, lt_tells, lt_tells_not}
-use Rattle.polygon_overlay.proofs.Tiles.Steps.{at_most, times_le, weak, level_or_upright, is_level, is_upright, passes_level}
-use Rattle.polygon_overlay.proofs.Sized.Across.{upright_winds}
+use Rattle.polygon_overlay.proofs.Tiles.Steps.{at_most, times_le, weak, rectilinear, is_horizontal, is_vertical, passes_horizontal}
+use Rattle.polygon_overlay.proofs.Sized.Across.{vertical_winds}
 use Rattle.polygon_overlay.proofs.Sized.Moves.{contours_sum, moved_contours_sum}
 use Rattle.polygon_overlay.proofs.Sized.Places.{counts_rise, counts_part}
 
@@ -62,15 +62,15 @@ module _ (v : RationalPoint) where
   abbrev none : Point → ℤ
   none u = pos 0
 
-  -- what a level step adds: over the place, and over it after it was moved
+  -- what a horizontal step adds: over the place, and over it after it was moved
   abbrev adds : Bool → Bool → Bool → Bool → ℤ
   adds l m a b = cond (l && (a && not b)) (pos 1) (pos 0) -ℤ cond (m && (not a && b)) (pos 1) (pos 0)
 
   abbrev under : Point → Bool
   under u = int_lt (pos p.q *ℤ u.y) p.y
 
-  level_adds : (s t : Point) → s.y ≡ t.y → step_winding s t p ≡ adds (under s) (under s) (at_or_before s p) (at_or_before t p)
-  level_adds s t level = step_winding_is s t p ∙ by (at_or_before s p) (at_or_before t p) refl refl
+  horizontal_adds : (s t : Point) → s.y ≡ t.y → step_winding s t p ≡ adds (under s) (under s) (at_or_before s p) (at_or_before t p)
+  horizontal_adds s t level = step_winding_is s t p ∙ by (at_or_before s p) (at_or_before t p) refl refl
     where
       one : (l : Bool) → cond l (pos 1) (pos 0) ≡ adds l l true false
       one true = refl
@@ -89,21 +89,21 @@ module _ (v : RationalPoint) where
       by : (a b : Bool) → at_or_before s p ≡ a → at_or_before t p ≡ b → contribution a b (is_above s t p) (is_above t s p) ≡ adds (under s) (under s) a b
       by true true e f = nothing (under s) true
       by false false e f = nothing (under s) false
-      by true false e f = ap (λ l. cond l (pos 1) (pos 0)) (passes_level s t p e f level) ∙ one (under s)
+      by true false e f = ap (λ l. cond l (pos 1) (pos 0)) (passes_horizontal s t p e f level) ∙ one (under s)
       by false true e f =
-          ap (λ l. cond l (negsuc 0) (pos 0)) (passes_level t s p f e (sym level) ∙ ap (λ y. int_lt (pos p.q *ℤ y) p.y) (sym level)) ∙ back (under s)
+          ap (λ l. cond l (negsuc 0) (pos 0)) (passes_horizontal t s p f e (sym level) ∙ ap (λ y. int_lt (pos p.q *ℤ y) p.y) (sym level)) ∙ back (under s)
 
-  upright_adds : (l m a b : Bool) → a ≡ b → pos 0 ≡ adds l m a b
-  upright_adds true true true true e = refl
-  upright_adds true true false false e = refl
-  upright_adds true false true true e = refl
-  upright_adds true false false false e = refl
-  upright_adds false true true true e = refl
-  upright_adds false true false false e = refl
-  upright_adds false false true true e = refl
-  upright_adds false false false false e = refl
-  upright_adds l m true false e = absurd (false≢true (sym e))
-  upright_adds l m false true e = absurd (false≢true e)
+  vertical_adds : (l m a b : Bool) → a ≡ b → pos 0 ≡ adds l m a b
+  vertical_adds true true true true e = refl
+  vertical_adds true true false false e = refl
+  vertical_adds true false true true e = refl
+  vertical_adds true false false false e = refl
+  vertical_adds false true true true e = refl
+  vertical_adds false true false false e = refl
+  vertical_adds false false true true e = refl
+  vertical_adds false false false false e = refl
+  vertical_adds l m true false e = absurd (false≢true (sym e))
+  vertical_adds l m false true e = absurd (false≢true e)
 
   -- to the right, nothing ends, and to the left, nothing begins
   right_adds : (l m a b : Bool) → (b ≡ true → a ≡ true) → adds l l a b ≡ adds l m a b
@@ -131,15 +131,15 @@ module _ (v : RationalPoint) where
   begun_alike : (s : Edge) → s.a.x ≡ s.b.x → at_or_before s.a p ≡ at_or_before s.b p
   begun_alike s e = ap (λ x. int_le (pos p.q *ℤ x) p.x) e
 
-  step_adds : (s : Edge) → is_level_or_upright s ≡ true
+  step_adds : (s : Edge) → is_rectilinear s ≡ true
       → step_winding s.a s.b p ≡ (none s.a -ℤ none s.b) +ℤ (up_to (row_over v) (right_past v) v.x s -ℤ up_to (row_over v) (left_past v) v.x s)
-  step_adds s straight = by (level_or_upright s.a s.b straight) ∙ no_fall (up_to (row_over v) (right_past v) v.x s -ℤ up_to (row_over v) (left_past v) v.x s)
+  step_adds s straight = by (rectilinear s.a s.b straight) ∙ no_fall (up_to (row_over v) (right_past v) v.x s -ℤ up_to (row_over v) (left_past v) v.x s)
     where
       by : (s.a.y ≡ s.b.y) ⊎ (s.a.x ≡ s.b.x) → step_winding s.a s.b p ≡ up_to (row_over v) (right_past v) v.x s -ℤ up_to (row_over v) (left_past v) v.x s
-      by (inl e) = level_adds s.a s.b e ∙ ap (λ l. adds l l (at_or_before s.a p) (at_or_before s.b p)) (le_one (pos v.q *ℤ s.a.y) v.x)
+      by (inl e) = horizontal_adds s.a s.b e ∙ ap (λ l. adds l l (at_or_before s.a p) (at_or_before s.b p)) (le_one (pos v.q *ℤ s.a.y) v.x)
       by (inr e) =
-          upright_winds p s.a s.b e
-          ∙ upright_adds (int_le (row_over v s) v.x) (int_le (row_over v s) v.x) (at_or_before s.a p) (at_or_before s.b p) (begun_alike s e)
+          vertical_winds p s.a s.b e
+          ∙ vertical_adds (int_le (row_over v s) v.x) (int_le (row_over v s) v.x) (at_or_before s.a p) (at_or_before s.b p) (begun_alike s e)
 
   -- ---- moved
 
@@ -147,8 +147,8 @@ module _ (v : RationalPoint) where
     abbrev moved_adds : Edge → ℤ
     moved_adds s = up_to (row_over v) (right_past v) (v.x +ℤ (pos v.q *ℤ bottom)) s -ℤ up_to (row_over v) (left_past v) (v.x -ℤ (pos v.q *ℤ top)) s
 
-    step_moves : (s : Edge) → is_level_or_upright s ≡ true → IsMoved p none (λ u. u.x) (moved_up bottom top) moved_adds s
-    step_moves s straight = by (int_eq s.a.x s.b.x) refl (level_or_upright s.a s.b straight)
+    step_moves : (s : Edge) → is_rectilinear s ≡ true → IsMoved p none (λ u. u.x) (moved_up bottom top) moved_adds s
+    step_moves s straight = by (int_eq s.a.x s.b.x) refl (rectilinear s.a s.b straight)
       where
         amount : ℤ
         amount = cond (int_lt s.b.x s.a.x) top (neg_ℤ bottom)
@@ -190,14 +190,14 @@ module _ (v : RationalPoint) where
 
         by : (e : Bool) → int_eq s.a.x s.b.x ≡ e → (s.a.y ≡ s.b.y) ⊎ (s.a.x ≡ s.b.x) → IsMoved p none (λ u. u.x) (moved_up bottom top) moved_adds s
         by true e straight =
-            let upright = (Decides-int_eq s.a.x s.b.x).0 e in
-            still (ap (λ b. cond b [] (first ∷ second ∷ [])) e) upright
-            (sym (upright_adds begun ended (at_or_before s.a p) (at_or_before s.b p) (begun_alike s upright)))
-        by false e (inr upright) = absurd (false≢true (sym e ∙ (Decides-int_eq s.a.x s.b.x).1 upright))
+            let vertical = (Decides-int_eq s.a.x s.b.x).0 e in
+            still (ap (λ b. cond b [] (first ∷ second ∷ [])) e) vertical
+            (sym (vertical_adds begun ended (at_or_before s.a p) (at_or_before s.b p) (begun_alike s vertical)))
+        by false e (inr vertical) = absurd (false≢true (sym e ∙ (Decides-int_eq s.a.x s.b.x).1 vertical))
         by false e (inl level) =
             moves first second (ap (λ b. cond b [] (first ∷ second ∷ [])) e) refl refl
-            (level_adds first second (ap (λ y. y +ℤ amount) level) ∙ (adds_so (int_lt s.b.x s.a.x) refl ∙ no_fall (moved_adds s)))
-            (is_level first second (ap (λ y. y +ℤ amount) level))
+            (horizontal_adds first second (ap (λ y. y +ℤ amount) level) ∙ (adds_so (int_lt s.b.x s.a.x) refl ∙ no_fall (moved_adds s)))
+            (is_horizontal first second (ap (λ y. y +ℤ amount) level))
 
 pub up_has_places : UpHasPlaces
 up_has_places cs bottom top v all apart = (
@@ -220,7 +220,7 @@ up_has_places cs bottom top v all apart = (
     steps : List Edge
     steps = flat_map contour_steps cs
 
-    after : (contour_winding (map (moved (moved_up bottom top)) cs) (exchanged v) ≡ total (moved_adds v bottom top) (flat_map contour_steps cs)) × AreLevelOrUpright (map (moved (moved_up bottom top)) cs)
+    after : (contour_winding (map (moved (moved_up bottom top)) cs) (exchanged v) ≡ total (moved_adds v bottom top) (flat_map contour_steps cs)) × AreRectilinear (map (moved (moved_up bottom top)) cs)
     after =
         moved_contours_sum (exchanged v) (none v) (λ u. u.x) (moved_up bottom top) (moved_adds v bottom top) cs all
-        (λ s t upright. (upright_winds (exchanged v) s t upright, is_upright s t upright)) (step_moves v bottom top)
+        (λ s t vertical. (vertical_winds (exchanged v) s t vertical, is_vertical s t vertical)) (step_moves v bottom top)

@@ -8,7 +8,7 @@ use Rattle.plane_base.specs.Regions.{FillRule, OverlayRule, region}
 use Rattle.plane_base.specs.Windings.{contour_winding}
 use Rattle.plane_base.proofs.Facts.Windings.Sums.{region_of_nothing}
 use Rattle.segment_split.specs.Groups.{Bounds}
-use Rattle.segment_split.specs.LineLaws.{AllLevelOrUpright, LevelAndUprightMeetWhole}
+use Rattle.segment_split.specs.LineLaws.{AllRectilinear, HorizontalAndVerticalMeetWhole}
 use Rattle.segment_split.specs.Redrawing.{redrawn}
 use Rattle.segment_split.specs.RedrawLaws.{Rearranges, RedrawsToTheEnd}
 use Rattle.segment_split.specs.WholeLaws.{WholeMeetingsKeepWindings}
@@ -23,7 +23,7 @@ use Rattle.polygon_overlay.specs.Builders.{IsHeld}
 use Rattle.polygon_overlay.specs.GivenLaws.{HeldWindsAsGiven}
 use Rattle.polygon_overlay.specs.Overlays.{redrawn_of}
 use Rattle.polygon_overlay.specs.OverlayLaws.{HoldsContours, overlay_of}
-use Rattle.polygon_overlay.specs.Tiles.{in_tile, clamped, KeepsTo, straight, AreLevelOrUpright}
+use Rattle.polygon_overlay.specs.Tiles.{in_tile, clamped, KeepsTo, straight, AreRectilinear}
 use Rattle.polygon_overlay.specs.TileLaws.{TilesAnswerTheirRegion}
 use Rattle.polygon_overlay.proofs.AgreementLaws.{winds_as_contours}
 use Rattle.polygon_overlay.proofs.ArrangementLaws.{redrawn_arrangement}
@@ -34,20 +34,20 @@ pub region_alike : (fill : FillRule) (rule : OverlayRule) {s t c d : ℤ} → s 
     → region fill rule (record { subject = s; clip = c }) ≡ region fill rule (record { subject = t; clip = d })
 region_alike fill rule e f = ap₂ (λ s c. region fill rule (record { subject = s; clip = c })) e f
 
--- level and upright steps keep to every tile
-pub all_keep : (tile : Bounds) (cs : List (List Point)) → AreLevelOrUpright cs → All (λ c. All (KeepsTo tile) (contour_steps c)) cs
+-- horizontal and vertical steps keep to every tile
+pub all_keep : (tile : Bounds) (cs : List (List Point)) → AreRectilinear cs → All (λ c. All (KeepsTo tile) (contour_steps c)) cs
 all_keep tile cs all =
-    All-weaker (λ c. AllLevelOrUpright (contour_steps c)) (λ c. All (KeepsTo tile) (contour_steps c))
+    All-weaker (λ c. AllRectilinear (contour_steps c)) (λ c. All (KeepsTo tile) (contour_steps c))
     (λ c h i d l. straight (h i d l)) cs all
 
 module _ (rearranges : (precision : Precision) → Rearranges boolean (redrawn boolean precision)) (ends : (precision : Precision) → RedrawsToTheEnd boolean precision)
     (balanced : (precision : Precision) (es : List (Entry Count)) → IsBalancedMap es → IsBalancedMap (redrawn boolean precision es))
     (bounded : FilledIsBounded) (orderly : AnswersAreOrderly) (wind : AnswersWind) (keep : WholeMeetingsKeepWindings) (winds : HeldWindsAsGiven)
-    (whole : LevelAndUprightMeetWhole boolean) where
-  -- the answer for level and upright contours winds round the region of their windings
+    (whole : HorizontalAndVerticalMeetWhole boolean) where
+  -- the answer for horizontal and vertical contours winds round the region of their windings
   pub answer_winds :
       (least greatest : ℤ) (keep_all : Bool) (subjects clips : List (List Point)) (held : List (Entry Count)) (o : Answering) (fill : FillRule)
-      (rule : OverlayRule) (precision : Precision) (p : RationalPoint) → AreLevelOrUpright subjects → AreLevelOrUpright clips →
+      (rule : OverlayRule) (precision : Precision) (p : RationalPoint) → AreRectilinear subjects → AreRectilinear clips →
       HoldsContours keep_all subjects clips held → IsHeld least greatest held → o.least ≡ 0 → IsRational p
       → contour_winding (all_contours (overlay_of o fill rule precision held)) p
       ≡ turns_of o.clockwise (region fill rule (record { subject = contour_winding subjects p; clip = contour_winding clips p }))

@@ -10,7 +10,7 @@ use Rattle.plane_base.proofs.Facts.Numbers.Products.{product_monotone, product_p
 use Rattle.plane_base.proofs.Facts.Points.OneLine.{contribution, at_or_before, is_above, step_winding_is}
 use Rattle.plane_base.proofs.Facts.Points.Turns.{coordinates, place, a_side}
 use Rattle.segment_split.specs.Groups.{Bounds, LiesWithin}
-use Rattle.segment_split.specs.LineLaws.{is_level_or_upright}
+use Rattle.segment_split.specs.LineLaws.{is_rectilinear}
 use Rattle.segment_arrangement.proofs.Facts.ColumnPlaces.{lt_holds, lt_fails, lt_tells, lt_tells_not, le_holds, le_fails, le_tells}
 use Rattle.polygon_overlay.specs.Tiles.{in_tile, clamped_number, clamped_point, KeepsTo, straight, within, left_of, right_of, under, over}
 
@@ -97,33 +97,33 @@ row_kept q least greatest v y above to = by (int_lt v least) (int_lt greatest v)
         ∙ sym (lt_fails (pos q *ℤ v) y (at_most y (pos q *ℤ greatest) (pos q *ℤ v) to (times_le q greatest v (weak greatest v (lt_tells greatest v f)))))
     by false false e f = refl
 
--- ---- level and upright steps
+-- ---- horizontal and vertical steps
 
-pub level_or_upright : (u v : Point) → is_level_or_upright (record { a = u; b = v }) ≡ true → (u.y ≡ v.y) ⊎ (u.x ≡ v.x)
-level_or_upright u v e =
+pub rectilinear : (u v : Point) → is_rectilinear (record { a = u; b = v }) ≡ true → (u.y ≡ v.y) ⊎ (u.x ≡ v.x)
+rectilinear u v e =
     ⊎_elim (λ h. inl ((Decides-int_eq u.y v.y).0 h)) (λ h. inr ((Decides-int_eq u.x v.x).0 h)) (one_true (int_eq u.y v.y) (int_eq u.x v.x) e)
 
-pub is_level : (u v : Point) → u.y ≡ v.y → is_level_or_upright (record { a = u; b = v }) ≡ true
-is_level u v e = or_left (int_eq u.y v.y) (int_eq u.x v.x) ((Decides-int_eq u.y v.y).1 e)
+pub is_horizontal : (u v : Point) → u.y ≡ v.y → is_rectilinear (record { a = u; b = v }) ≡ true
+is_horizontal u v e = or_left (int_eq u.y v.y) (int_eq u.x v.x) ((Decides-int_eq u.y v.y).1 e)
 
-pub is_upright : (u v : Point) → u.x ≡ v.x → is_level_or_upright (record { a = u; b = v }) ≡ true
-is_upright u v e = or_right (int_eq u.y v.y) (int_eq u.x v.x) ((Decides-int_eq u.x v.x).1 e)
+pub is_vertical : (u v : Point) → u.x ≡ v.x → is_rectilinear (record { a = u; b = v }) ≡ true
+is_vertical u v e = or_right (int_eq u.y v.y) (int_eq u.x v.x) ((Decides-int_eq u.x v.x).1 e)
 
-pub straight_back : (u v : Point) → is_level_or_upright (record { a = u; b = v }) ≡ true → is_level_or_upright (record { a = v; b = u }) ≡ true
-straight_back u v e = by (level_or_upright u v e)
+pub straight_back : (u v : Point) → is_rectilinear (record { a = u; b = v }) ≡ true → is_rectilinear (record { a = v; b = u }) ≡ true
+straight_back u v e = by (rectilinear u v e)
   where
-    by : (u.y ≡ v.y) ⊎ (u.x ≡ v.x) → is_level_or_upright (record { a = v; b = u }) ≡ true
-    by (inl h) = is_level v u (sym h)
-    by (inr h) = is_upright v u (sym h)
+    by : (u.y ≡ v.y) ⊎ (u.x ≡ v.x) → is_rectilinear (record { a = v; b = u }) ≡ true
+    by (inl h) = is_horizontal v u (sym h)
+    by (inr h) = is_vertical v u (sym h)
 
--- they are level or upright once they are clamped
-pub straight_clamped : (tile : Bounds) (u v : Point) → is_level_or_upright (record { a = u; b = v }) ≡ true
-    → is_level_or_upright (record { a = clamped_point tile u; b = clamped_point tile v }) ≡ true
-straight_clamped tile u v e = by (level_or_upright u v e)
+-- they are horizontal or vertical once they are clamped
+pub straight_clamped : (tile : Bounds) (u v : Point) → is_rectilinear (record { a = u; b = v }) ≡ true
+    → is_rectilinear (record { a = clamped_point tile u; b = clamped_point tile v }) ≡ true
+straight_clamped tile u v e = by (rectilinear u v e)
   where
-    by : (u.y ≡ v.y) ⊎ (u.x ≡ v.x) → is_level_or_upright (record { a = clamped_point tile u; b = clamped_point tile v }) ≡ true
-    by (inl h) = is_level (clamped_point tile u) (clamped_point tile v) (ap (clamped_number tile.bottom tile.top) h)
-    by (inr h) = is_upright (clamped_point tile u) (clamped_point tile v) (ap (clamped_number tile.left tile.right) h)
+    by : (u.y ≡ v.y) ⊎ (u.x ≡ v.x) → is_rectilinear (record { a = clamped_point tile u; b = clamped_point tile v }) ≡ true
+    by (inl h) = is_horizontal (clamped_point tile u) (clamped_point tile v) (ap (clamped_number tile.bottom tile.top) h)
+    by (inr h) = is_vertical (clamped_point tile u) (clamped_point tile v) (ap (clamped_number tile.left tile.right) h)
 
 keeps_back : (tile : Bounds) (u v : Point) → KeepsTo tile (record { a = u; b = v }) → KeepsTo tile (record { a = v; b = u })
 keeps_back tile u v (straight e) = straight (straight_back u v e)
@@ -195,8 +195,8 @@ module _ (u v : Point) (p : RationalPoint) (begun : at_or_before u p ≡ true) (
       sum : (z x y : ℤ) → z ≡ x +ℤ y → x ≤ℤ pos 0 → y ≤ℤ pos 0 → z ≤ℤ pos 0
       sum z x y e l m = omega (arith, ints)
 
-  pub passes_level : u.y ≡ v.y → is_above u v p ≡ int_lt (pos p.q *ℤ u.y) p.y
-  passes_level e = by (int_lt (pos p.q *ℤ u.y) p.y) refl
+  pub passes_horizontal : u.y ≡ v.y → is_above u v p ≡ int_lt (pos p.q *ℤ u.y) p.y
+  passes_horizontal e = by (int_lt (pos p.q *ℤ u.y) p.y) refl
     where
       by : (b : Bool) → int_lt (pos p.q *ℤ u.y) p.y ≡ b → is_above u v p ≡ b
       by true h = let l = lt_tells (pos p.q *ℤ u.y) p.y h in passes_below l (subst (λ y. (pos p.q *ℤ y) <ℤ p.y) e l)
@@ -250,8 +250,8 @@ module _ (tile : Bounds) (p : RationalPoint) (inside : IsInside tile p) where
 
       of_straight : (u.y ≡ v.y) ⊎ (u.x ≡ v.x) → is_above (clamp u) (clamp v) p ≡ is_above u v p
       of_straight (inl e) =
-          passes_level (clamp u) (clamp v) p begun_clamped unended_clamped (ap (clamped_number tile.bottom tile.top) e)
-          ∙ (under_kept u ∙ sym (passes_level u v p begun unended e))
+          passes_horizontal (clamp u) (clamp v) p begun_clamped unended_clamped (ap (clamped_number tile.bottom tile.top) e)
+          ∙ (under_kept u ∙ sym (passes_horizontal u v p begun unended e))
       of_straight (inr e) = absurd (false≢true (sym unended ∙ (sym (ap (λ x. int_le (pos p.q *ℤ x) p.x) e) ∙ begun)))
 
       below : (w : Point) → w.y ≤ℤ tile.bottom → (pos p.q *ℤ w.y) <ℤ p.y
@@ -267,7 +267,7 @@ module _ (tile : Bounds) (p : RationalPoint) (inside : IsInside tile p) where
       above_clamped w l = lt_tells_not (pos p.q *ℤ (clamp w).y) p.y (under_kept w ∙ lt_fails (pos p.q *ℤ w.y) p.y (above w l))
 
       by : KeepsTo tile (record { a = u; b = v }) → is_above (clamp u) (clamp v) p ≡ is_above u v p
-      by (straight e) = of_straight (level_or_upright u v e)
+      by (straight e) = of_straight (rectilinear u v e)
       by (within h k) = ap₂ (λ s t. is_above s t p) (point_stays tile u h) (point_stays tile v k)
       by (left_of h k) =
           absurd (false≢true (sym unended ∙ le_holds (pos p.q *ℤ v.x) p.x (at_most (pos p.q *ℤ v.x) (pos p.q *ℤ tile.left) p.x (times_le p.q v.x tile.left k) inside.left)))

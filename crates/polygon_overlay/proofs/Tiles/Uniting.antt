@@ -14,7 +14,7 @@ use Rattle.plane_base.proofs.Facts.Lists.Totals.{total_zero_on}
 use Rattle.plane_base.proofs.Facts.Maps.Normal.{AllPairs-head, AllPairs-tail}
 use Rattle.plane_base.proofs.Facts.Windings.Sums.{contour_winding_append, contour_winding_is, region_of_nothing}
 use Rattle.segment_split.specs.Groups.{Bounds, LiesWithin}
-use Rattle.segment_split.specs.LineLaws.{AllLevelOrUpright, LevelAndUprightMeetWhole, RedrawsByLines}
+use Rattle.segment_split.specs.LineLaws.{AllRectilinear, HorizontalAndVerticalMeetWhole, RedrawsByLines}
 use Rattle.segment_split.specs.Redrawing.{redrawn}
 use Rattle.segment_split.specs.RedrawLaws.{Rearranges, RedrawsToTheEnd}
 use Rattle.segment_split.specs.WholeLaws.{WholeMeetingsKeepWindings}
@@ -28,13 +28,13 @@ use Rattle.contour_walk.specs.WalkLaws.{contour_steps, turns_of}
 use Rattle.polygon_overlay.specs.GivenLaws.{HeldWindsAsGiven}
 use Rattle.polygon_overlay.specs.OverlayLaws.{overlay_of}
 use Rattle.polygon_overlay.specs.TileGrids.{AreTilesOf}
-use Rattle.polygon_overlay.specs.Tiles.{in_tile, IsTile, clamped, AreLevelOrUpright}
-use Rattle.polygon_overlay.specs.TileLaws.{HoldTiles, answers_of, TilesUnite, TilesAnswerTheirRegion, AnswersStayLevelOrUpright}
+use Rattle.polygon_overlay.specs.Tiles.{in_tile, IsTile, clamped, AreRectilinear}
+use Rattle.polygon_overlay.specs.TileLaws.{HoldTiles, answers_of, TilesUnite, TilesAnswerTheirRegion, AnswersStayRectilinear}
 use Rattle.polygon_overlay.proofs.ReturnLaws.{once_is_filled}
 use Rattle.polygon_overlay.proofs.Tiles.Contours.{off_tile}
 use Rattle.polygon_overlay.proofs.Tiles.Grids.{Any-cases}
 use Rattle.polygon_overlay.proofs.Tiles.Regions.{region_alike, answer_winds, tiles_answer_their_region}
-use Rattle.polygon_overlay.proofs.Tiles.Straight.{contours_clamped, keys_straight, both_straight, answers_stay_level_or_upright}
+use Rattle.polygon_overlay.proofs.Tiles.Straight.{contours_clamped, keys_straight, both_straight, answers_stay_rectilinear}
 
 -- ---- at each point one tile
 
@@ -100,23 +100,23 @@ contours_off box p cs all e =
 module _ (rearranges : (precision : Precision) → Rearranges boolean (redrawn boolean precision)) (ends : (precision : Precision) → RedrawsToTheEnd boolean precision)
     (balanced : (precision : Precision) (es : List (Entry Count)) → IsBalancedMap es → IsBalancedMap (redrawn boolean precision es))
     (bounded : FilledIsBounded) (orderly : AnswersAreOrderly) (wind : AnswersWind) (corners : CornersStay) (keep : WholeMeetingsKeepWindings) (winds : HeldWindsAsGiven)
-    (whole : LevelAndUprightMeetWhole boolean) (lines : (precision : Precision) → RedrawsByLines boolean precision) where
-  answers_straight : AnswersStayLevelOrUpright
-  answers_straight = answers_stay_level_or_upright rearranges ends balanced orderly corners whole lines
+    (whole : HorizontalAndVerticalMeetWhole boolean) (lines : (precision : Precision) → RedrawsByLines boolean precision) where
+  answers_straight : AnswersStayRectilinear
+  answers_straight = answers_stay_rectilinear rearranges ends balanced orderly corners whole lines
 
   answers_in_tiles : TilesAnswerTheirRegion
   answers_in_tiles = tiles_answer_their_region rearranges ends balanced bounded orderly wind keep winds whole
 
-  module _ (least greatest : ℤ) (keep_all : Bool) (subjects clips : List (List Point)) (all : AreLevelOrUpright (subjects ++ clips)) (o : Answering) (none : o.least ≡ 0)
+  module _ (least greatest : ℤ) (keep_all : Bool) (subjects clips : List (List Point)) (all : AreRectilinear (subjects ++ clips)) (o : Answering) (none : o.least ≡ 0)
       (fill : FillRule) (rule : OverlayRule) (precision : Precision) where
-    -- what tiles answer is level and upright
+    -- what tiles answer is horizontal and vertical
     parts_straight : (tiles : List Bounds) (parts : List (List (Entry Count))) → HoldTiles least greatest keep_all subjects clips tiles parts
-        → AreLevelOrUpright (answers_of o fill rule precision parts)
-    parts_straight [] [] zip = All-nil (λ c. AllLevelOrUpright (contour_steps c))
+        → AreRectilinear (answers_of o fill rule precision parts)
+    parts_straight [] [] zip = All-nil (λ c. AllRectilinear (contour_steps c))
     parts_straight [] (part ∷ parts) zip = absurd zip
     parts_straight (t ∷ tiles) [] zip = absurd zip
     parts_straight (t ∷ tiles) (part ∷ parts) zip =
-        All-append (λ c. AllLevelOrUpright (contour_steps c)) (all_contours (overlay_of o fill rule precision part)) (answers_of o fill rule precision parts)
+        All-append (λ c. AllRectilinear (contour_steps c)) (all_contours (overlay_of o fill rule precision part)) (answers_of o fill rule precision parts)
         (answers_straight least greatest o fill rule precision part zip.0.1 none
         (keys_straight keep_all (map (clamped t) subjects) (map (clamped t) clips) part zip.0.0
         (contours_clamped t subjects (both_straight subjects clips all).0) (contours_clamped t clips (both_straight subjects clips all).1)))
@@ -152,7 +152,7 @@ module _ (rearranges : (precision : Precision) → Rearranges boolean (redrawn b
   pub tiles_unite : TilesUnite
   tiles_unite least greatest keep_all other_keeps box tiles subjects clips parts held again o other fill rule precision another_precision other_precision p are within all holds is_held zip back again_held none other_none alike some =
       answer_winds rearranges ends balanced bounded orderly wind keep winds whole least greatest other_keeps joined [] again other NonZero Subject other_precision p
-      (parts_straight least greatest keep_all subjects clips all o none fill rule precision tiles parts zip) (All-nil (λ c. AllLevelOrUpright (contour_steps c))) back again_held other_none some
+      (parts_straight least greatest keep_all subjects clips all o none fill rule precision tiles parts zip) (All-nil (λ c. AllRectilinear (contour_steps c))) back again_held other_none some
       ∙ (ap (λ c. turns_of c (is_filled NonZero (contour_winding joined p))) alike
       ∙ (ap (λ n. turns_of o.clockwise (is_filled NonZero n)) together
       ∙ (ap (turns_of o.clockwise) (once_is_filled o.clockwise inside)

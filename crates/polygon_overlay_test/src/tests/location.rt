@@ -241,7 +241,7 @@ const ROWS: &str = "\
 1 2 0 4 0 0 10 0 10 10 0 10 2 5 5 12 5 10
 # the edges end and begin in the column of the points
 1 1 4 0 0 5 -5 10 0 5 5 3 5 0 5 6 5 -6 100
-# corners, points along edges and upright ones, and on their lines outside
+# corners, points along edges and vertical ones, and on their lines outside
 1 1 4 0 0 10 0 10 10 0 10 7 0 0 10 5 5 10 0 3 11 0 0 -1 5 5 eeee001
 1 1 3 0 0 6 4 0 8 5 3 2 6 4 3 6 0 4 9 6 eeee0
 ";

@@ -5,9 +5,7 @@ use contour_walk::options::IntOverlayOptions;
 use plane_base::fault::Fault;
 use plane_base::path::{IntShape, IntShapes};
 use plane_base::range::source_in_range;
-use polygon_overlay::sizing::{
-    Sizing, are_level_or_upright, fits, fits_in_turn, sized, sized_in_turn,
-};
+use polygon_overlay::sizing::{Sizing, are_rectilinear, fits, fits_in_turn, sized, sized_in_turn};
 use row_words::Words;
 use segment_arrangement::fill_rule::FillRule;
 use segment_split::solver::Solver;
@@ -37,7 +35,7 @@ fn sized_if_it_can_be(
     if !source_in_range(source) {
         return Ok(None);
     }
-    if !are_level_or_upright(source) {
+    if !are_rectilinear(source) {
         return Ok(None);
     }
     if !fits(source, by) {
@@ -106,7 +104,7 @@ fn sized_in_turn_if_it_can_be(
     if !source_in_range(source) {
         return Ok(None);
     }
-    if !are_level_or_upright(source) {
+    if !are_rectilinear(source) {
         return Ok(None);
     }
     if !fits_in_turn(source, first, second) {
@@ -194,12 +192,11 @@ fn is_told(alloc: Global, row: &str) -> bool {
     let source = IntShape { contours };
     let are_straight = words.next() == "straight";
     let are_fitting = words.next() == "fits";
-    let is_right = are_level_or_upright(&source) == are_straight
-        && fits(&source, by) == are_fitting;
+    let is_right = are_rectilinear(&source) == are_straight && fits(&source, by) == are_fitting;
     words.are_read() && is_right
 }
 
-// A row has amounts, contours, whether all their steps are level or upright, and whether they fit.
+// A row has amounts, contours, whether all their steps are horizontal or vertical, and whether they fit.
 const TOLD: &str = "\
 1 1 1 1 1 4 0 0 10 0 10 10 0 10 straight fits
 1 1 1 1 2 4 0 0 10 0 10 10 0 10 3 20 0 30 0 20 1 slanted fits

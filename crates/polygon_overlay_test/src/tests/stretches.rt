@@ -127,23 +127,24 @@ fn one_shape(alloc: Global, shape: IntShape<i32>) -> Result<IntShapes<i32>, Faul
     })
 }
 
-// A comb: its back lies from x -2 to 0, and its teeth, 100 units long, begin at each fourth y and are two units wide. Or its mirror image, whose teeth are upright.
-fn comb(alloc: Global, teeth: u8, is_upright: bool) -> Result<IntShape<i32>, Fault> {
+// A comb: its back lies from x -2 to 0, and its teeth, 100 units long, begin at each fourth y and are two units wide. Or its mirror image, whose teeth are
+// vertical.
+fn comb(alloc: Global, teeth: u8, is_vertical: bool) -> Result<IntShape<i32>, Fault> {
     let mut points = Vec::new(alloc);
-    points.push(placed(-2, 0, is_upright))?;
+    points.push(placed(-2, 0, is_vertical))?;
     for tooth in 0..teeth {
         let low = 4 * i32::from(tooth);
-        points.push(placed(100, low, is_upright))?;
-        points.push(placed(100, low + 2, is_upright))?;
-        points.push(placed(0, low + 2, is_upright))?;
-        points.push(placed(0, low + 4, is_upright))?;
+        points.push(placed(100, low, is_vertical))?;
+        points.push(placed(100, low + 2, is_vertical))?;
+        points.push(placed(0, low + 2, is_vertical))?;
+        points.push(placed(0, low + 4, is_vertical))?;
     }
-    points.push(placed(-2, 4 * i32::from(teeth), is_upright))?;
+    points.push(placed(-2, 4 * i32::from(teeth), is_vertical))?;
     shape_of(alloc, &points)
 }
 
-fn placed(x: i32, y: i32, is_upright: bool) -> IntPoint<i32> {
-    if is_upright {
+fn placed(x: i32, y: i32, is_vertical: bool) -> IntPoint<i32> {
+    if is_vertical {
         IntPoint::new(y, x)
     } else {
         IntPoint::new(x, y)
@@ -155,23 +156,23 @@ fn ask_at(asked: &mut Asked, point: IntPoint<i32>, is_inside: bool) -> Result<()
 }
 
 // Points in each tooth, behind it, beside it, and in the back.
-fn ask_comb(alloc: Global, teeth: u8, is_upright: bool) -> Result<Asked, Fault> {
+fn ask_comb(alloc: Global, teeth: u8, is_vertical: bool) -> Result<Asked, Fault> {
     let mut asked = ask_nothing(alloc);
     for tooth in 0..teeth {
         let low = 4 * i32::from(tooth);
-        ask_at(&mut asked, placed(50, low + 1, is_upright), true)?;
-        ask_at(&mut asked, placed(50, low + 3, is_upright), false)?;
-        ask_at(&mut asked, placed(101, low + 1, is_upright), false)?;
-        ask_at(&mut asked, placed(-1, low + 3, is_upright), true)?;
-        ask_at(&mut asked, placed(-3, low + 1, is_upright), false)?;
+        ask_at(&mut asked, placed(50, low + 1, is_vertical), true)?;
+        ask_at(&mut asked, placed(50, low + 3, is_vertical), false)?;
+        ask_at(&mut asked, placed(101, low + 1, is_vertical), false)?;
+        ask_at(&mut asked, placed(-1, low + 3, is_vertical), true)?;
+        ask_at(&mut asked, placed(-3, low + 1, is_vertical), false)?;
     }
     Ok(asked)
 }
 
-fn tells_comb(alloc: Global, teeth: u8, is_upright: bool) -> Result<bool, Fault> {
-    let shape = comb(alloc, teeth, is_upright)?;
+fn tells_comb(alloc: Global, teeth: u8, is_vertical: bool) -> Result<bool, Fault> {
+    let shape = comb(alloc, teeth, is_vertical)?;
     let shapes = one_shape(alloc, shape)?;
-    let asked = ask_comb(alloc, teeth, is_upright)?;
+    let asked = ask_comb(alloc, teeth, is_vertical)?;
     is_told(alloc, &shapes, &asked)
 }
 
@@ -319,7 +320,7 @@ const FAR: i64 = 34_359_738_368;
 
 const WIDTH: i64 = 1_073_741_824;
 
-// 32 upright bars from left to right, each a shape, with a gap as wide as a bar behind each.
+// 32 vertical bars from left to right, each a shape, with a gap as wide as a bar behind each.
 fn bars(alloc: Global) -> Result<IntShapes<i64>, Fault> {
     let mut shapes = Vec::new(alloc);
     for place in 0..32_u8 {

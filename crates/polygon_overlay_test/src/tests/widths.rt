@@ -6,7 +6,7 @@ use plane_base::fault::Fault;
 use plane_base::path::{IntShape, IntShapes};
 use plane_base::range::source_in_range;
 use polygon_overlay::checks::{evenly, is_side, space_errors, width_errors};
-use polygon_overlay::sizing::{Sizing, are_level_or_upright, fits};
+use polygon_overlay::sizing::{Sizing, are_rectilinear, fits};
 use row_words::Words;
 use segment_arrangement::fill_rule::FillRule;
 use segment_split::solver::Solver;
@@ -15,7 +15,7 @@ use std::alloc::Global;
 // Whether a source can be checked for a side.
 fn is_checkable(source: &IntShape<i32>, side: i32) -> bool {
     source_in_range(source)
-        && are_level_or_upright(source)
+        && are_rectilinear(source)
         && is_side(side)
         && fits(source, evenly(side))
 }
@@ -31,7 +31,7 @@ fn narrow(
     if !source_in_range(source) {
         return Ok(None);
     }
-    if !are_level_or_upright(source) {
+    if !are_rectilinear(source) {
         return Ok(None);
     }
     if !is_side(width) {
@@ -55,7 +55,7 @@ fn near(
     if !source_in_range(source) {
         return Ok(None);
     }
-    if !are_level_or_upright(source) {
+    if !are_rectilinear(source) {
         return Ok(None);
     }
     if !is_side(space) {

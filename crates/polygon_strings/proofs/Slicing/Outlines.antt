@@ -21,7 +21,7 @@ use Rattle.segment_arrangement.specs.SideLaws.{IsArrangement}
 use Rattle.segment_arrangement.specs.Strings.{subject_of}
 use Rattle.segment_arrangement.proofs.Facts.Angles.{angle_is_lawful}
 use Rattle.segment_arrangement.proofs.Facts.ColumnPlaces.{lt_holds, lt_fails}
-use Rattle.segment_arrangement.proofs.Facts.Fans.{turn_upright}
+use Rattle.segment_arrangement.proofs.Facts.Fans.{turn_vertical}
 use Rattle.segment_arrangement.proofs.Facts.LastBelow.{under}
 use Rattle.contour_walk.specs.Binding.{least_point, lowest_from, anchor}
 use Rattle.contour_walk.specs.BindingLaws.{anchor_order}
@@ -84,7 +84,7 @@ module _ {A : Type 0} (less : A → A → Bool) (P : A → Type 0) (itself : (x 
 
 -- ---- at the least point
 
--- the lower of two edges from one point, to the right of the other, isn't upright
+-- the lower of two edges from one point, to the right of the other, isn't vertical
 lower_is_wide : (v low other : Point) → is_before v low ≡ true → is_before v other ≡ true → pos 0 <ℤ turn v low other → v.x <ℤ low.x
 lower_is_wide v low other first second left = by (point_less v low (before_is_less v low first))
   where
@@ -97,8 +97,8 @@ lower_is_wide v low other first second left = by (point_less v low (before_is_le
 
     by : (v.x <ℤ low.x) ⊎ ((v.x ≡ low.x) × (v.y <ℤ low.y)) → v.x <ℤ low.x
     by (inl wide) = wide
-    by (inr upright) =
-        absurd (clash (turn v low other) (turn_upright (record { a = v; b = low }) other upright.0 upright.1 (over (point_less v other (before_is_less v other second)))) left)
+    by (inr vertical) =
+        absurd (clash (turn v low other) (turn_vertical (record { a = v; b = low }) other vertical.0 vertical.1 (over (point_less v other (before_is_less v other second)))) left)
 
 module _ (fill : FillRule) (es : List (Entry StringCount)) (arranged : IsArrangement (subject_of es)) (output : Bool) (keep : LoopsKeepSteps) (once : LoopsRepeatNoPoint)
     (walks : List (List Point)) (pass : PassAll output (halves fill es) walks) where

@@ -63,7 +63,7 @@ fan_of_three v a b c =
     (plus (times (minus (var 2) (var 0)) (a_turn (place 0) (place 2) (place 3))) (times (minus (var 6) (var 0)) (a_turn (place 0) (place 1) (place 2))))
     refl
 
--- what has something of a fan to its left isn't upright
+-- what has something of a fan to its left isn't vertical
 pub wide_below : (v a b : Point) → is_before v a ≡ true → is_before v b ≡ true → pos 0 <ℤ turn v a b → pos 0 <ℤ (a.x -ℤ v.x)
 wide_below v a b da db left = by (point_less v a (before_is_less v a da)) (rightward (point_less v b (before_is_less v b db)))
   where

@@ -16,12 +16,12 @@ use Rattle.segment_arrangement.specs.EdgeSides.{middle, lower_side}
 use Rattle.segment_arrangement.specs.SideLaws.{IsPartedFrom, IsArrangement, SidesAreConstant, WindingAlongSegment}
 use Rattle.segment_arrangement.proofs.Facts.ColumnPlaces.{column_of}
 use Rattle.segment_arrangement.proofs.Facts.AlongKey.{below_constant}
-use Rattle.segment_arrangement.proofs.Facts.InnerPoints.{inner_between, middle_between, winding_inner, winding_upright, reaching}
+use Rattle.segment_arrangement.proofs.Facts.InnerPoints.{inner_between, middle_between, winding_inner, winding_vertical, reaching}
 
 pub Contains-map : {A B : Type 0} (f : A → B) (xs : List A) (x : A) → Contains xs x → Contains (map f xs) (f x)
 Contains-map f xs x h = (h.0, rw length-map h.1, get_or-map f xs h.0 x (f x) h.1 ∙ ap f h.2)
 
--- all inner points of a segment that isn't upright are seen at each of its columns
+-- all inner points of a segment that isn't vertical are seen at each of its columns
 at_inner : (es : List (Entry Count)) (s : Edge) (p : RationalPoint) (x : ℤ) → IsDirected es → IsBalancedMap es → IsPartedFrom s es → IsRational p → IsBetween p s → IsLive x s → winding es p ≡ below es s x
 at_inner es s p x directed balanced others some between live =
     let c = column_of p some in
@@ -45,9 +45,9 @@ module _ (es : List (Entry Count)) (arranged : IsArrangement es) where
     pub lower_is_below : (x : ℤ) → IsLive x e.edge → lower_side es e.edge ≡ below es e.edge x
     lower_is_below x live = winding_is_below (middle e.edge) (omega arith) (middle_between e.edge (directed_entry e here)) x live
 
-    pub lower_upright : e.edge.a.x ≡ e.edge.b.x → lower_side es e.edge ≡ reaching es e.edge.a
-    lower_upright upright =
-        winding_upright e.edge (middle e.edge) (omega arith) (middle_between e.edge (directed_entry e here)) (directed_entry e here) upright es (parted_from_others e here)
+    pub lower_vertical : e.edge.a.x ≡ e.edge.b.x → lower_side es e.edge ≡ reaching es e.edge.a
+    lower_vertical vertical =
+        winding_vertical e.edge (middle e.edge) (omega arith) (middle_between e.edge (directed_entry e here)) (directed_entry e here) vertical es (parted_from_others e here)
 
     one_side : (p : RationalPoint) → IsRational p → IsBetween p e.edge → winding es p ≡ lower_side es e.edge
     one_side p some between = by (point_less e.edge.a e.edge.b (before_is_less e.edge.a e.edge.b (directed_entry e here)))
@@ -56,7 +56,7 @@ module _ (es : List (Entry Count)) (arranged : IsArrangement es) where
         by (inl wide) =
             let live : IsLive e.edge.a.x e.edge = (omega (arith, ints), wide) in
             winding_is_below p some between e.edge.a.x live ∙ sym (lower_is_below e.edge.a.x live)
-        by (inr h) = winding_upright e.edge p some between (directed_entry e here) h.0 es (parted_from_others e here) ∙ sym (lower_upright h.0)
+        by (inr h) = winding_vertical e.edge p some between (directed_entry e here) h.0 es (parted_from_others e here) ∙ sym (lower_vertical h.0)
 
 pub sides_are_constant : SidesAreConstant
 sides_are_constant es e p arranged here inner = one_side es arranged e here p inner.rational (inner_between e.edge p inner)
@@ -74,4 +74,4 @@ winding_along_segment = record {
     by es s p r directed balanced others before sp bp sr br (inl wide) =
         let live : IsLive s.a.x s = (omega (arith, ints), wide) in
         at_inner es s p s.a.x directed balanced others sp bp live ∙ sym (at_inner es s r s.a.x directed balanced others sr br live)
-    by es s p r directed balanced others before sp bp sr br (inr h) = winding_upright s p sp bp before h.0 es others ∙ sym (winding_upright s r sr br before h.0 es others)
+    by es s p r directed balanced others before sp bp sr br (inr h) = winding_vertical s p sp bp before h.0 es others ∙ sym (winding_vertical s r sr br before h.0 es others)

@@ -32,7 +32,7 @@ use Rattle.segment_arrangement.proofs.Facts.EndsAlong.{precedes_by_start, preced
 use Rattle.segment_arrangement.proofs.Facts.AlongKey.{part, same_count, sums_agree}
 use Rattle.segment_arrangement.proofs.Facts.InnerPoints.{middle_between, not_between}
 use Rattle.segment_arrangement.proofs.Facts.LastBelow.{under}
-use Rattle.segment_arrangement.proofs.Facts.ConstantSides.{parted_from_others, directed_entry, lower_is_below, lower_upright}
+use Rattle.segment_arrangement.proofs.Facts.ConstantSides.{parted_from_others, directed_entry, lower_is_below, lower_vertical}
 use Rattle.segment_arrangement.proofs.Facts.Fans.{Parts, first, second, sum_of_parts, none, and_first, wide_live, below_whole}
 
 -- ends at v, and starts to the left of the way from v to the start of s
@@ -43,7 +43,7 @@ end_fan v s t = is_eq (point_order t.b v) && int_lt (pos 0) (turn v s.a t.a)
 abbrev left_below : Point → Edge → Bool
 left_below v t = is_live (v.x -ℤ pos 1) t && int_lt (pos 0) (turn t.a t.b v)
 
--- upright, with v above
+-- vertical, with v above
 abbrev stands_below : Point → Edge → Bool
 stands_below v t = is_eq (point_order t.b v) && not (is_live (v.x -ℤ pos 1) t)
 
@@ -57,7 +57,7 @@ turn_between t p r =
 elsewhere : {t v : Point} (o : Ordering) → point_order t v ≡ o → o ≢ Equal → t ≢ v
 elsewhere {t} {v} o e other same = other (sym e ∙ (ap (λ p. point_order t p) (sym same) ∙ point_itself t))
 
--- ---- an edge that isn't upright
+-- ---- an edge that isn't vertical
 
 module _ (s t : Edge) (v : Point) (ends : s.b ≡ v) (parts : s ≢ t → parted s t ≡ true) where
   -- two that end at v are told apart by their starts
@@ -159,23 +159,23 @@ module _ (s t : Edge) (v : Point) (ends : s.b ≡ v) (parts : s ≢ t → parted
           first (and_first (is_live (v.x -ℤ pos 1) t) (end_fan v s t) l)
           (and_first (is_live (v.x -ℤ pos 1) t) (precedes t s) l ∙ sym (and_first (is_live (v.x -ℤ pos 1) t) (int_lt (pos 0) (turn t.a t.b v)) l))
 
--- ---- an edge that is upright
+-- ---- an edge that is vertical
 
-module _ (s t : Edge) (v : Point) (ends : s.b ≡ v) (directed : is_before s.a s.b ≡ true) (upright : s.a.x ≡ s.b.x) (rises : s.a.y <ℤ s.b.y) where
+module _ (s t : Edge) (v : Point) (ends : s.b ≡ v) (directed : is_before s.a s.b ≡ true) (vertical : s.a.x ≡ s.b.x) (rises : s.a.y <ℤ s.b.y) where
   -- nothing passes between its ends
   through_or_below : (s ≢ t → parted s t ≡ true) → is_live s.a.x t && int_le (pos 0) (turn t.a t.b s.a) ≡ is_live v.x t && int_lt (pos 0) (turn t.a t.b v)
-  through_or_below parts = ap (λ x. is_live x t && int_le (pos 0) (turn t.a t.b s.a)) (upright ∙ ap (λ p. p.x) ends) ∙ live_or_not (cases_Bool (is_live v.x t))
+  through_or_below parts = ap (λ x. is_live x t && int_le (pos 0) (turn t.a t.b s.a)) (vertical ∙ ap (λ p. p.x) ends) ∙ live_or_not (cases_Bool (is_live v.x t))
     where
       higher : IsLive v.x t → turn t.a t.b s.a <ℤ turn t.a t.b v
       higher h =
           over _ _ _ _ (turn_between t s.a s.b) (product_positive (t.b.x -ℤ t.a.x) (s.b.y -ℤ s.a.y) (wide_live v.x t h) (omega (arith, ints)))
-          (ap (λ z. (t.b.y -ℤ t.a.y) *ℤ z) (none _ _ upright) ∙ *ℤ-zero (t.b.y -ℤ t.a.y)) (ap (λ p. turn t.a t.b p) ends)
+          (ap (λ z. (t.b.y -ℤ t.a.y) *ℤ z) (none _ _ vertical) ∙ *ℤ-zero (t.b.y -ℤ t.a.y)) (ap (λ p. turn t.a t.b p) ends)
         where
           over : (y z m n : ℤ) {w : ℤ} → z -ℤ y ≡ m -ℤ n → pos 0 <ℤ m → n ≡ pos 0 → z ≡ w → y <ℤ w
           over y z m n e l f g = omega (arith, ints)
 
       live_at_start : IsLive v.x t → IsLive s.a.x t
-      live_at_start h = let e : v.x ≡ s.a.x = sym (upright ∙ ap (λ p. p.x) ends) in (omega (arith, ints, h.0), omega (arith, ints, h.1))
+      live_at_start h = let e : v.x ≡ s.a.x = sym (vertical ∙ ap (λ p. p.x) ends) in (omega (arith, ints, h.0), omega (arith, ints, h.1))
 
       tests : IsLive v.x t → int_le (pos 0) (turn t.a t.b s.a) ≡ int_lt (pos 0) (turn t.a t.b v)
       tests h =
@@ -183,7 +183,7 @@ module _ (s t : Edge) (v : Point) (ends : s.b ≡ v) (directed : is_before s.a s
           (λ e. lt_holds (pos 0) (turn t.a t.b v) (chain _ _ (le_tells (pos 0) (turn t.a t.b s.a) e) (higher h)))
           (λ e. le_holds (pos 0) (turn t.a t.b s.a)
           (by_lt_z (turn t.a t.b s.a) (pos 0)
-          (λ l. absurd (not_between s (middle s) (omega arith) (middle_between s directed) directed upright t parts (live_at_start h) (moved _ _ (ap (λ p. turn t.a t.b p) ends) (lt_tells (pos 0) (turn t.a t.b v) e)) l))
+          (λ l. absurd (not_between s (middle s) (omega arith) (middle_between s directed) directed vertical t parts (live_at_start h) (moved _ _ (ap (λ p. turn t.a t.b p) ends) (lt_tells (pos 0) (turn t.a t.b v) e)) l))
           (λ l. l)))
         where
           chain : (y z : ℤ) → pos 0 ≤ℤ y → y <ℤ z → pos 0 <ℤ z
@@ -197,13 +197,13 @@ module _ (s t : Edge) (v : Point) (ends : s.b ≡ v) (directed : is_before s.a s
       live_or_not (inr l) = and_first (is_live v.x t) (int_le (pos 0) (turn t.a t.b s.a)) l ∙ sym (and_first (is_live v.x t) (int_lt (pos 0) (turn t.a t.b v)) l)
 
   -- it comes last of those that end there
-  none_after_upright : is_before t.a t.b ≡ true → end_fan v s t ≡ false
-  none_after_upright before = by (point_order t.b v) refl
+  none_after_vertical : is_before t.a t.b ≡ true → end_fan v s t ≡ false
+  none_after_vertical before = by (point_order t.b v) refl
     where
       right : t.b ≡ v → turn v s.a t.a ≤ℤ pos 0
       right here =
           level ((s.a.x -ℤ v.x) *ℤ (t.a.y -ℤ v.y)) ((s.a.y -ℤ v.y) *ℤ (t.a.x -ℤ v.x))
-          (ap (λ z. z *ℤ (t.a.y -ℤ v.y)) (none _ _ (sym (upright ∙ ap (λ p. p.x) ends))) ∙ zero-*ℤ (t.a.y -ℤ v.y))
+          (ap (λ z. z *ℤ (t.a.y -ℤ v.y)) (none _ _ (sym (vertical ∙ ap (λ p. p.x) ends))) ∙ zero-*ℤ (t.a.y -ℤ v.y))
           (both (s.a.y -ℤ v.y) (t.a.x -ℤ v.x) (below (ap (λ p. p.y) ends)) (left (ap (λ p. p.x) here) (point_less_x t.a t.b (before_is_less t.a t.b before))))
         where
           level : (m n : ℤ) → m ≡ pos 0 → pos 0 ≤ℤ n → (m -ℤ n) ≤ℤ pos 0
@@ -451,7 +451,7 @@ module _ (es : List (Entry Count)) (arranged : IsArrangement es) (e : Entry Coun
   right_of_v : winding es (whole v) ≡ sum_of (λ t. is_live v.x t && int_lt (pos 0) (turn t.a t.b v)) es
   right_of_v = sums_agree (λ t. is_below t.a t.b (whole v)) (λ t. is_live v.x t && int_lt (pos 0) (turn t.a t.b v)) es (λ i d l. below_whole v (get_or es i d).edge)
 
-  -- the edges that end at v to the left of e, upright or not
+  -- the edges that end at v to the left of e, vertical or not
   parts_at_end : e.edge.a.x <ℤ v.x → (t : Edge) → is_before t.a t.b ≡ true → Parts (end_fan v e.edge t) (is_live (v.x -ℤ pos 1) t && end_fan v e.edge t) (stands_below v t)
   parts_at_end left t directed = live_or_not (cases_Bool (is_live (v.x -ℤ pos 1) t))
     where
@@ -512,7 +512,7 @@ module _ (es : List (Entry Count)) (arranged : IsArrangement es) (e : Entry Coun
           regrouped : (l r s k m : ℤ) → l ≡ r +ℤ s → m ≡ k +ℤ s → l +ℤ k ≡ r +ℤ m
           regrouped l r s k m f g = omega (arith, ints)
       by (inr h) =
-          lower_upright es arranged e here h.0
+          lower_vertical es arranged e here h.0
           ∙ (sums_agree (λ t. is_live e.edge.a.x t && int_le (pos 0) (turn t.a t.b e.edge.a)) (λ t. is_live v.x t && int_lt (pos 0) (turn t.a t.b v)) es
           (λ i d l. through_or_below e.edge (get_or es i d).edge v ends (directed_entry es arranged e here) h.0 h.1 (parted_from_others es arranged e here i d l))
           ∙ same_count (sum_of (λ t. is_live v.x t && int_lt (pos 0) (turn t.a t.b v)) es) (boolean.join (sum_of (λ t. is_live v.x t && int_lt (pos 0) (turn t.a t.b v)) es) (sum_of (end_fan v e.edge) es))
@@ -525,16 +525,16 @@ module _ (es : List (Entry Count)) (arranged : IsArrangement es) (e : Entry Coun
           no_more n =
               total_zero_on (λ f. cond (end_fan v e.edge f.edge) (n f.count) (pos 0)) es
               (λ i d l. ap (λ b. cond b (n (get_or es i d).count) (pos 0))
-              (none_after_upright e.edge (get_or es i d).edge v ends (directed_entry es arranged e here) h.0 h.1 (directed_entry es arranged (get_or es i d) (All-contains_itself es i d l))))
+              (none_after_vertical e.edge (get_or es i d).edge v ends (directed_entry es arranged e here) h.0 h.1 (directed_entry es arranged (get_or es i d) (All-contains_itself es i d l))))
 
-  -- what lies to the right of an upright edge that ends at v lies below v
-  pub right_of_upright : e.edge.a.x ≡ e.edge.b.x → lower_side es e.edge ≡ winding es (whole v)
-  right_of_upright upright = by (point_less e.edge.a e.edge.b (before_is_less e.edge.a e.edge.b (directed_entry es arranged e here)))
+  -- what lies to the right of a vertical edge that ends at v lies below v
+  pub right_of_vertical : e.edge.a.x ≡ e.edge.b.x → lower_side es e.edge ≡ winding es (whole v)
+  right_of_vertical vertical = by (point_less e.edge.a e.edge.b (before_is_less e.edge.a e.edge.b (directed_entry es arranged e here)))
     where
       by : (e.edge.a.x <ℤ e.edge.b.x) ⊎ ((e.edge.a.x ≡ e.edge.b.x) × (e.edge.a.y <ℤ e.edge.b.y)) → lower_side es e.edge ≡ winding es (whole v)
-      by (inl wide) = absurd (omega (arith, ints, wide, upright))
+      by (inl wide) = absurd (omega (arith, ints, wide, vertical))
       by (inr h) =
-          lower_upright es arranged e here h.0
+          lower_vertical es arranged e here h.0
           ∙ (sums_agree (λ t. is_live e.edge.a.x t && int_le (pos 0) (turn t.a t.b e.edge.a)) (λ t. is_live v.x t && int_lt (pos 0) (turn t.a t.b v)) es
           (λ i d l. through_or_below e.edge (get_or es i d).edge v ends (directed_entry es arranged e here) h.0 h.1 (parted_from_others es arranged e here i d l))
           ∙ sym right_of_v)

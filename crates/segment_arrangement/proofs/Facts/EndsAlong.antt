@@ -101,9 +101,9 @@ module _ (g k : Edge) (e : parted k g ≡ true) where
           (over (width g.a g.b) (turn k.a k.b g.b) _ (lift_at_second g.a g.b k.a k.b) wide_g
           (order_is_place.nowhere_above k g x g.b.x 1 e hk hg (omega arith) (omega (arith, ints)) (omega (arith, ints)) (order_is_lawful.reversed g k ∙ rw f refl))))
 
-  -- an upright one doesn't pass through it
-  upright : g.a.x ≡ g.b.x → g.a.y <ℤ g.b.y → k.a.x <ℤ g.a.x → g.b.x <ℤ k.b.x → int_lt (turn k.a k.b g.a) (pos 0) ≡ int_lt (turn k.a k.b g.b) (pos 0)
-  upright level rises from to =
+  -- a vertical one doesn't pass through it
+  vertical : g.a.x ≡ g.b.x → g.a.y <ℤ g.b.y → k.a.x <ℤ g.a.x → g.b.x <ℤ k.b.x → int_lt (turn k.a k.b g.a) (pos 0) ≡ int_lt (turn k.a k.b g.b) (pos 0)
+  vertical level rises from to =
       same_tests (int_lt (turn k.a k.b g.a) (pos 0)) (int_lt (turn k.a k.b g.b) (pos 0))
       (λ f. lt_holds (turn k.a k.b g.b) (pos 0) (stays (lt_tells (turn k.a k.b g.a) (pos 0) f)))
       (λ f. lt_holds (turn k.a k.b g.a) (pos 0) (under _ _ _ higher (lt_tells (turn k.a k.b g.b) (pos 0) f)))
@@ -173,4 +173,4 @@ module _ (g k : Edge) (e : parted k g ≡ true) where
     where
       by : (g.a.x <ℤ g.b.x) ⊎ ((g.a.x ≡ g.b.x) × (g.a.y <ℤ g.b.y)) → int_lt (turn k.a k.b g.a) (pos 0) ≡ int_lt (turn k.a k.b g.b) (pos 0)
       by (inl wide) = sym (precedes_by_start g k (point_less_by_x k.a g.a from)) ∙ precedes_by_end wide (omega (arith, ints)) to
-      by (inr h) = upright h.0 h.1 from to
+      by (inr h) = vertical h.0 h.1 from to

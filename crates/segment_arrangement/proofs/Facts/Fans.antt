@@ -29,7 +29,7 @@ use Rattle.segment_arrangement.proofs.Facts.EndsAlong.{is_lt_cmp, precedes_by_st
 use Rattle.segment_arrangement.proofs.Facts.AlongKey.{same_count, sums_agree}
 use Rattle.segment_arrangement.proofs.Facts.InnerPoints.{reaching}
 use Rattle.segment_arrangement.proofs.Facts.LastBelow.{under}
-use Rattle.segment_arrangement.proofs.Facts.ConstantSides.{parted_from_others, directed_entry, lower_is_below, lower_upright}
+use Rattle.segment_arrangement.proofs.Facts.ConstantSides.{parted_from_others, directed_entry, lower_is_below, lower_vertical}
 
 -- ---- the column of a whole point
 
@@ -68,9 +68,9 @@ turn_under t v wide level over =
     by : (m n : ℤ) → m <ℤ pos 0 → n ≡ pos 0 → (m -ℤ n) <ℤ pos 0
     by m n l e = omega (arith, ints)
 
--- an upright edge has nothing of a fan above it
-pub turn_upright : (t : Edge) (p : Point) → t.a.x ≡ t.b.x → t.a.y <ℤ t.b.y → t.a.x ≤ℤ p.x → turn t.a t.b p ≤ℤ pos 0
-turn_upright t p level rises right =
+-- a vertical edge has nothing of a fan above it
+pub turn_vertical : (t : Edge) (p : Point) → t.a.x ≡ t.b.x → t.a.y <ℤ t.b.y → t.a.x ≤ℤ p.x → turn t.a t.b p ≤ℤ pos 0
+turn_vertical t p level rises right =
     by ((t.b.x -ℤ t.a.x) *ℤ (p.y -ℤ t.a.y)) ((t.b.y -ℤ t.a.y) *ℤ (p.x -ℤ t.a.x)) (ap (λ z. z *ℤ (p.y -ℤ t.a.y)) (none t.a.x t.b.x level) ∙ zero-*ℤ (p.y -ℤ t.a.y)) (product_not_negative (t.b.y -ℤ t.a.y) (p.x -ℤ t.a.x) (omega (arith, ints)) (omega (arith, ints)))
   where
     by : (m n : ℤ) → m ≡ pos 0 → pos 0 ≤ℤ n → (m -ℤ n) ≤ℤ pos 0
@@ -79,9 +79,9 @@ turn_upright t p level rises right =
 pub angle_is : (t s : Edge) → is_lt (angle_order t s) ≡ int_lt (pos 0) (turn t.a t.b s.b)
 angle_is t s = is_lt_cmp (pos 0) (turn t.a t.b s.b)
 
--- one that starts at v and doesn't reach over its column is upright
-pub upright_if_ended : (t : Edge) (v : Point) → t.a ≡ v → is_before t.a t.b ≡ true → is_live v.x t ≡ false → (t.a.x ≡ t.b.x) × (t.a.y <ℤ t.b.y)
-upright_if_ended t v here directed ended = by (point_less t.a t.b (before_is_less t.a t.b directed))
+-- one that starts at v and doesn't reach over its column is vertical
+pub vertical_if_ended : (t : Edge) (v : Point) → t.a ≡ v → is_before t.a t.b ≡ true → is_live v.x t ≡ false → (t.a.x ≡ t.b.x) × (t.a.y <ℤ t.b.y)
+vertical_if_ended t v here directed ended = by (point_less t.a t.b (before_is_less t.a t.b directed))
   where
     by : (t.a.x <ℤ t.b.x) ⊎ ((t.a.x ≡ t.b.x) × (t.a.y <ℤ t.b.y)) → (t.a.x ≡ t.b.x) × (t.a.y <ℤ t.b.y)
     by (inl wide) = let e : t.a.x ≡ v.x = ap (λ p. p.x) here in absurd (false≢true (sym ended ∙ live_holds v.x t (omega (arith, ints), omega (arith, ints))))
@@ -121,13 +121,13 @@ module _ (s t : Edge) (v : Point) (start : s.a ≡ v) (directed : is_before t.a 
   on_start : point_order t.a v ≡ Equal → in_fan v s t ≡ int_lt (pos 0) (turn t.a t.b s.b)
   on_start e = ap (λ o. is_eq o && is_lt (angle_order t s)) e ∙ angle_is t s
 
-  level_at_start : point_order t.a v ≡ Equal → turn t.a t.b v ≡ pos 0
-  level_at_start e = ap (λ p. turn t.a t.b p) (sym (at_v e)) ∙ turn_there_and_back t.a t.b
+  horizontal_at_start : point_order t.a v ≡ Equal → turn t.a t.b v ≡ pos 0
+  horizontal_at_start e = ap (λ p. turn t.a t.b p) (sym (at_v e)) ∙ turn_there_and_back t.a t.b
 
   not_below_start : point_order t.a v ≡ Equal → is_live v.x t && int_lt (pos 0) (turn t.a t.b v) ≡ false
-  not_below_start e = and_right (is_live v.x t) (int_lt (pos 0) (turn t.a t.b v)) (ap (λ z. int_lt (pos 0) z) (level_at_start e))
+  not_below_start e = and_right (is_live v.x t) (int_lt (pos 0) (turn t.a t.b v)) (ap (λ z. int_lt (pos 0) z) (horizontal_at_start e))
 
-  -- an edge that isn't upright
+  -- an edge that isn't vertical
   parts_wide : s.a.x <ℤ s.b.x → Parts (under v.x s t) (is_live v.x t && int_lt (pos 0) (turn t.a t.b v)) (in_fan v s t)
   parts_wide wide = by (point_order t.a v) refl
     where
@@ -143,9 +143,9 @@ module _ (s t : Edge) (v : Point) (start : s.a ≡ v) (directed : is_before t.a 
           live_or_not : (is_live v.x t ≡ true) ⊎ (is_live v.x t ≡ false) → under v.x s t ≡ int_lt (pos 0) (turn t.a t.b s.b)
           live_or_not (inl l) = ap (λ b. b && precedes t s) l ∙ precedes_by_angle t s (at_v e ∙ sym start)
           live_or_not (inr l) =
-              let h = upright_if_ended t v (at_v e) directed l in
+              let h = vertical_if_ended t v (at_v e) directed l in
               and_first (is_live v.x t) (precedes t s) l
-              ∙ sym (lt_fails (pos 0) (turn t.a t.b s.b) (turn_upright t s.b h.0 h.1 (right (ap (λ p. p.x) (at_v e)) (ap (λ p. p.x) start))))
+              ∙ sym (lt_fails (pos 0) (turn t.a t.b s.b) (turn_vertical t s.b h.0 h.1 (right (ap (λ p. p.x) (at_v e)) (ap (λ p. p.x) start))))
             where
               right : t.a.x ≡ v.x → s.a.x ≡ v.x → t.a.x ≤ℤ s.b.x
               right f g = omega (arith, ints)
@@ -170,8 +170,8 @@ module _ (s t : Edge) (v : Point) (start : s.a ≡ v) (directed : is_before t.a 
               lifted : s.a.y ≡ v.y → v.y <ℤ t.a.y → s.a.y <ℤ t.a.y
               lifted f l = omega (arith, ints)
 
-  -- an upright edge
-  module _ (upright : s.a.x ≡ s.b.x) (rises : s.a.y <ℤ s.b.y) (parts : s ≢ t → parted s t ≡ true) where
+  -- a vertical edge
+  module _ (vertical : s.a.x ≡ s.b.x) (rises : s.a.y <ℤ s.b.y) (parts : s ≢ t → parted s t ≡ true) where
     x_of_start : s.a.x ≡ v.x
     x_of_start = ap (λ p. p.x) start
 
@@ -181,8 +181,8 @@ module _ (s t : Edge) (v : Point) (start : s.a ≡ v) (directed : is_before t.a 
     ended : is_live v.x t ≡ false → (o : Ordering) → point_order t.a v ≡ o → in_fan v s t ≡ false
     ended l Less e = off_start Less e (λ f. absurd (cc))
     ended l Equal e =
-        let h = upright_if_ended t v (at_v e) directed l in
-        on_start e ∙ lt_fails (pos 0) (turn t.a t.b s.b) (turn_upright t s.b h.0 h.1 (right (ap (λ p. p.x) (at_v e)) x_of_start))
+        let h = vertical_if_ended t v (at_v e) directed l in
+        on_start e ∙ lt_fails (pos 0) (turn t.a t.b s.b) (turn_vertical t s.b h.0 h.1 (right (ap (λ p. p.x) (at_v e)) x_of_start))
       where
         right : t.a.x ≡ v.x → s.a.x ≡ v.x → t.a.x ≤ℤ s.b.x
         right f g = omega (arith, ints)
@@ -193,7 +193,7 @@ module _ (s t : Edge) (v : Point) (start : s.a ≡ v) (directed : is_before t.a 
       live = live_tells v.x t l
 
       differ : s ≢ t
-      differ e = let f : s.a.x ≡ t.a.x = ap (λ z. z.a.x) e in let g : s.b.x ≡ t.b.x = ap (λ z. z.b.x) e in absurd (clash f g upright live.0 live.1)
+      differ e = let f : s.a.x ≡ t.a.x = ap (λ z. z.a.x) e in let g : s.b.x ≡ t.b.x = ap (λ z. z.b.x) e in absurd (clash f g vertical live.0 live.1)
         where
           clash : s.a.x ≡ t.a.x → s.b.x ≡ t.b.x → s.a.x ≡ s.b.x → t.a.x ≤ℤ v.x → v.x <ℤ t.b.x → ⊥
           clash f g h m n = absurd (omega (arith, ints, x_of_start))
@@ -212,14 +212,14 @@ module _ (s t : Edge) (v : Point) (start : s.a ≡ v) (directed : is_before t.a 
 
       not_in_fan : turn t.a t.b v ≢ pos 0 → (o : Ordering) → point_order t.a v ≡ o → in_fan v s t ≡ false
       not_in_fan off Less e = off_start Less e (λ f. absurd (cc))
-      not_in_fan off Equal e = absurd (off (level_at_start e))
+      not_in_fan off Equal e = absurd (off (horizontal_at_start e))
       not_in_fan off Greater e = off_start Greater e (λ f. absurd (cc))
 
       below_the_end : point_order t.a v ≡ Equal → in_fan v s t ≡ true
       below_the_end e =
           on_start e
           ∙ lt_holds (pos 0) (turn t.a t.b s.b)
-          (turn_over t s.b (wide_live v.x t live) (ap (λ p. p.x) (at_v e) ∙ (sym x_of_start ∙ upright)) (lifted (ap (λ p. p.y) (at_v e)) y_of_start))
+          (turn_over t s.b (wide_live v.x t live) (ap (λ p. p.x) (at_v e) ∙ (sym x_of_start ∙ vertical)) (lifted (ap (λ p. p.y) (at_v e)) y_of_start))
         where
           lifted : t.a.y ≡ v.y → s.a.y ≡ v.y → t.a.y <ℤ s.b.y
           lifted f g = omega (arith, ints)
@@ -253,8 +253,8 @@ module _ (s t : Edge) (v : Point) (start : s.a ≡ v) (directed : is_before t.a 
         first (ended l (point_order t.a v) refl)
         (and_first (is_live v.x t) (int_le (pos 0) (turn t.a t.b v)) l ∙ sym (and_first (is_live v.x t) (int_lt (pos 0) (turn t.a t.b v)) l))
 
-    parts_upright : Parts (is_live v.x t && int_le (pos 0) (turn t.a t.b v)) (is_live v.x t && int_lt (pos 0) (turn t.a t.b v)) (in_fan v s t)
-    parts_upright = live_or_not (cases_Bool (is_live v.x t))
+    parts_vertical : Parts (is_live v.x t && int_le (pos 0) (turn t.a t.b v)) (is_live v.x t && int_lt (pos 0) (turn t.a t.b v)) (in_fan v s t)
+    parts_vertical = live_or_not (cases_Bool (is_live v.x t))
 
 -- ---- the lower side of each
 
@@ -290,7 +290,7 @@ module _ (es : List (Entry Count)) (arranged : IsArrangement es) (e : Entry Coun
           live : e.edge.a.x ≡ v.x → IsLive v.x e.edge
           live f = (omega (arith, ints), omega (arith, ints))
       by (inr h) =
-          lower_upright es arranged e here h.0
+          lower_vertical es arranged e here h.0
           ∙ (ap (λ p. reaching es p) start
           ∙ sum_of_parts (λ t. is_live v.x t && int_le (pos 0) (turn t.a t.b v)) (λ t. is_live v.x t && int_lt (pos 0) (turn t.a t.b v)) (in_fan v e.edge) es
-          (λ i d l. parts_upright e.edge (get_or es i d).edge v start (directed_entry es arranged (get_or es i d) (All-contains_itself es i d l)) h.0 h.1 (parted_from_others es arranged e here i d l)))
+          (λ i d l. parts_vertical e.edge (get_or es i d).edge v start (directed_entry es arranged (get_or es i d) (All-contains_itself es i d l)) h.0 h.1 (parted_from_others es arranged e here i d l)))

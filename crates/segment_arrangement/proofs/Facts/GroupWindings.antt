@@ -96,11 +96,11 @@ module _ (boxes : List Bounds) (box : Bounds) (at : Contains boxes box) (es : Li
         added (cond b (n e.count) (pos 0)) (cond b (n e.count) (pos 0)) (n e.count) refl
         ∙ ap (λ z. cond b (n e.count) (pos 0) +ℤ z)
         (sym (none_under (is_under boxes box e.edge.a) (is_under boxes box e.edge.b) (int_le (pos p.q *ℤ e.edge.a.x) p.x) (int_le (pos p.q *ℤ e.edge.b.x) p.x)
-        (under_told boxes groups.apart box box e.edge.a at ends.0 ∙ upright (within_told box e.edge.a ends.0))
-        (under_told boxes groups.apart box box e.edge.b at ends.1 ∙ upright (within_told box e.edge.a ends.0))))
+        (under_told boxes groups.apart box box e.edge.a at ends.0 ∙ vertical (within_told box e.edge.a ends.0))
+        (under_told boxes groups.apart box box e.edge.b at ends.1 ∙ vertical (within_told box e.edge.a ends.0))))
       where
-        upright : LiesWithin box e.edge.a → int_lt box.top box.bottom ≡ false
-        upright k = lt_fails box.top box.bottom (chain _ _ _ k.bottom k.top)
+        vertical : LiesWithin box e.edge.a → int_lt box.top box.bottom ≡ false
+        vertical k = lt_fails box.top box.bottom (chain _ _ _ k.bottom k.top)
           where
             chain : (x y z : ℤ) → x ≤ℤ y → y ≤ℤ z → x ≤ℤ z
             chain x y z l m = omega (arith, ints)

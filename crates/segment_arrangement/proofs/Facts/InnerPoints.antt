@@ -77,7 +77,7 @@ and_agree : (b c d : Bool) → (b ≡ true → c ≡ d) → b && c ≡ b && d
 and_agree true c d h = h refl
 and_agree false c d h = refl
 
--- ---- an edge that isn't upright
+-- ---- an edge that isn't vertical
 
 module _ (s : Edge) (p : RationalPoint) (some : IsRational p) (between : IsBetween p s) where
   -- it spans the columns of its inner points
@@ -158,7 +158,7 @@ module _ (s : Edge) (p : RationalPoint) (some : IsRational p) (between : IsBetwe
       let live : IsLive x s = live_tells x s (sym (spans_live x p some column s) ∙ spans_inner wide) in
       (live, sums_agree (λ t. is_below t.a t.b p) (λ t. is_live x t && precedes t s) es (λ i d l. below_inner x column live (get_or es i d).edge (others i d l)))
 
--- ---- an upright edge
+-- ---- a vertical edge
 
 side_by_turn : (a b v : Point) (p : RationalPoint) → side a b p ≡ (pos p.q *ℤ turn a b v) +ℤ (((b.x -ℤ a.x) *ℤ (p.y -ℤ (pos p.q *ℤ v.y))) -ℤ ((b.y -ℤ a.y) *ℤ (p.x -ℤ (pos p.q *ℤ v.x))))
 side_by_turn a b v p =
@@ -171,7 +171,7 @@ side_by_turn a b v p =
 abbrev pub reaching : List (Entry Count) → Point → Count
 reaching es v = sum_of (λ t. is_live v.x t && int_le (pos 0) (turn t.a t.b v)) es
 
-module _ (s : Edge) (p : RationalPoint) (some : IsRational p) (between : IsBetween p s) (directed : is_before s.a s.b ≡ true) (upright : s.a.x ≡ s.b.x) where
+module _ (s : Edge) (p : RationalPoint) (some : IsRational p) (between : IsBetween p s) (directed : is_before s.a s.b ≡ true) (vertical : s.a.x ≡ s.b.x) where
   record IsOnColumn : Type 0 where
     here : pos p.q *ℤ s.a.x ≡ p.x
     end_here : p.x ≡ pos p.q *ℤ s.b.x
@@ -182,7 +182,7 @@ module _ (s : Edge) (p : RationalPoint) (some : IsRational p) (between : IsBetwe
   on_column = by (point_less (scaled p.q s.a) (numerators p) between.after) (point_less (numerators p) (scaled p.q s.b) between.before)
     where
       same : pos p.q *ℤ s.a.x ≡ pos p.q *ℤ s.b.x
-      same = ap (λ z. pos p.q *ℤ z) upright
+      same = ap (λ z. pos p.q *ℤ z) vertical
 
       clash : (y z w : ℤ) {A : Type 0} → y ≡ w → y <ℤ z → z ≤ℤ w → A
       clash y z w e l m = absurd (omega (arith, ints))
@@ -245,7 +245,7 @@ module _ (s : Edge) (p : RationalPoint) (some : IsRational p) (between : IsBetwe
 
         through : t.a.x <ℤ s.a.x → ⊥
         through l =
-            let e : int_lt (turn t.a t.b s.b) (pos 0) ≡ true = sym (ends_on_one_side s t t_s directed l (omega (arith, ints, h.1, upright))) ∙ lt_holds (turn t.a t.b s.a) (pos 0) low in
+            let e : int_lt (turn t.a t.b s.b) (pos 0) ≡ true = sym (ends_on_one_side s t t_s directed l (omega (arith, ints, h.1, vertical))) ∙ lt_holds (turn t.a t.b s.a) (pos 0) low in
             clash _ high (lt_tells (turn t.a t.b s.b) (pos 0) e)
           where
             clash : (y : ℤ) → pos 0 <ℤ y → y <ℤ pos 0 → ⊥
@@ -254,11 +254,11 @@ module _ (s : Edge) (p : RationalPoint) (some : IsRational p) (between : IsBetwe
         started : s.a.x ≤ℤ t.a.x → ⊥
         started l =
             let level : s.a.x ≡ t.a.x = omega (arith, ints, h.0) in
-            let flat : turn s.a s.b t.a ≡ pos 0 = no_turn _ _ _ _ (none _ _ upright) (none _ _ level) in
+            let flat : turn s.a s.b t.a ≡ pos 0 = no_turn _ _ _ _ (none _ _ vertical) (none _ _ level) in
             let low_y : s.a.y <ℤ t.a.y = falls _ _ _ _ _ wide (none _ _ (sym level)) low in
-            let high_y : t.a.y <ℤ s.b.y = rises _ _ _ _ _ wide (none _ _ (sym level ∙ upright)) high in
+            let high_y : t.a.y <ℤ s.b.y = rises _ _ _ _ _ wide (none _ _ (sym level ∙ vertical)) high in
             false≢true (sym (parted_tells t s t_s).own_first
-            ∙ inside_from t.a s flat (before_of_order s.a t.a (point_less_by_y s.a t.a level low_y)) (before_of_order t.a s.b (point_less_by_y t.a s.b (sym level ∙ upright) high_y)))
+            ∙ inside_from t.a s flat (before_of_order s.a t.a (point_less_by_y s.a t.a level low_y)) (before_of_order t.a s.b (point_less_by_y t.a s.b (sym level ∙ vertical) high_y)))
           where
             no_turn : (w m n d : ℤ) → w ≡ pos 0 → d ≡ pos 0 → (w *ℤ m) -ℤ (n *ℤ d) ≡ pos 0
             no_turn w m n d e f = rw (e, f, zero-*ℤ m, *ℤ-zero n) refl
@@ -281,8 +281,8 @@ module _ (s : Edge) (p : RationalPoint) (some : IsRational p) (between : IsBetwe
                 over : pos 0 <ℤ (y -ℤ z) → z <ℤ y
                 over l = omega (arith, ints)
 
-    below_upright : int_lt (pos 0) (side t.a t.b p) ≡ int_le (pos 0) (turn t.a t.b s.a)
-    below_upright = same_tests (int_lt (pos 0) (side t.a t.b p)) (int_le (pos 0) (turn t.a t.b s.a)) forth back
+    below_vertical : int_lt (pos 0) (side t.a t.b p) ≡ int_le (pos 0) (turn t.a t.b s.a)
+    below_vertical = same_tests (int_lt (pos 0) (side t.a t.b p)) (int_le (pos 0) (turn t.a t.b s.a)) forth back
       where
         forth : int_lt (pos 0) (side t.a t.b p) ≡ true → int_le (pos 0) (turn t.a t.b s.a) ≡ true
         forth e =
@@ -301,10 +301,10 @@ module _ (s : Edge) (p : RationalPoint) (some : IsRational p) (between : IsBetwe
             chain x y z l m = omega (arith, ints)
 
   -- the winding there is that of the edges that pass below or start at its lower end
-  pub winding_upright : (es : List (Entry Count)) → IsPartedFrom s es → winding es p ≡ reaching es s.a
-  winding_upright es others = sums_agree (λ t. is_below t.a t.b p) (λ t. is_live s.a.x t && int_le (pos 0) (turn t.a t.b s.a)) es (λ i d l. each (get_or es i d).edge (others i d l))
+  pub winding_vertical : (es : List (Entry Count)) → IsPartedFrom s es → winding es p ≡ reaching es s.a
+  winding_vertical es others = sums_agree (λ t. is_below t.a t.b p) (λ t. is_live s.a.x t && int_le (pos 0) (turn t.a t.b s.a)) es (λ i d l. each (get_or es i d).edge (others i d l))
     where
       each : (t : Edge) → (s ≢ t → parted s t ≡ true) → is_below t.a t.b p ≡ is_live s.a.x t && int_le (pos 0) (turn t.a t.b s.a)
       each t parts =
           ap (λ b. b && int_lt (pos 0) (side t.a t.b p)) (spans_live s.a.x p some (whole_column p s.a.x some on_column.here) t)
-          ∙ and_agree (is_live s.a.x t) (int_lt (pos 0) (side t.a t.b p)) (int_le (pos 0) (turn t.a t.b s.a)) (λ e. below_upright t parts (live_tells s.a.x t e))
+          ∙ and_agree (is_live s.a.x t) (int_lt (pos 0) (side t.a t.b p)) (int_le (pos 0) (turn t.a t.b s.a)) (λ e. below_vertical t parts (live_tells s.a.x t e))

@@ -26,16 +26,16 @@ not_back : (v : Point) → IsForth v → pos 0 ≤ℤ v.x
 not_back v (inl l) = omega (arith, ints, l)
 not_back v (inr e) = omega (arith, ints, e.0)
 
--- ---- where one of the two is upright
+-- ---- where one of the two is vertical
 
-to_upright : (v w : Point) → pos 0 ≡ w.x → cross v w ≡ w.y *ℤ v.x
-to_upright v w e = ap (λ t. (v.x *ℤ w.y) -ℤ (v.y *ℤ t)) (sym e) ∙ left v.x v.y w.y
+to_vertical : (v w : Point) → pos 0 ≡ w.x → cross v w ≡ w.y *ℤ v.x
+to_vertical v w e = ap (λ t. (v.x *ℤ w.y) -ℤ (v.y *ℤ t)) (sym e) ∙ left v.x v.y w.y
   where
     left : (a b d : ℤ) → (a *ℤ d) -ℤ (b *ℤ pos 0) ≡ d *ℤ a
     left a b d = let e : a *ℤ d ≡ d *ℤ a = *ℤ_comm a d in omega (arith, ints, e)
 
-from_upright : (v w : Point) → pos 0 ≡ v.x → cross v w ≡ neg_ℤ (v.y *ℤ w.x)
-from_upright v w e = ap (λ t. (t *ℤ w.y) -ℤ (v.y *ℤ w.x)) (sym e) ∙ left w.y (v.y *ℤ w.x)
+from_vertical : (v w : Point) → pos 0 ≡ v.x → cross v w ≡ neg_ℤ (v.y *ℤ w.x)
+from_vertical v w e = ap (λ t. (t *ℤ w.y) -ℤ (v.y *ℤ w.x)) (sym e) ∙ left w.y (v.y *ℤ w.x)
   where
     left : (a b : ℤ) → (pos 0 *ℤ a) -ℤ b ≡ neg_ℤ b
     left a b = omega (arith, ints)
@@ -51,14 +51,14 @@ no_left x y z f (inl right) h l m =
 no_left x y z f (inr up) h l m = by f
   where
     level : x.x ≤ℤ pos 0
-    level = factor_not_positive y.y x.x up.1 (rw (sym (to_upright x y up.0)) l)
+    level = factor_not_positive y.y x.x up.1 (rw (sym (to_vertical x y up.0)) l)
 
     turned : (n : ℤ) → pos 0 ≤ℤ n → neg_ℤ n ≤ℤ pos 0
     turned n l = omega (arith, ints)
 
     by : IsForth x → cross x z ≤ℤ pos 0
     by (inl right) = absurd (omega (arith, ints, level, right))
-    by (inr too) = rw (from_upright x z too.0) (turned (x.y *ℤ z.x) (product_not_negative x.y z.x (below x.y too.1) (not_back z h)))
+    by (inr too) = rw (from_vertical x z too.0) (turned (x.y *ℤ z.x) (product_not_negative x.y z.x (below x.y too.1) (not_back z h)))
       where
         below : (n : ℤ) → pos 0 <ℤ n → pos 0 ≤ℤ n
         below n l = omega (arith, ints)

@@ -20,7 +20,7 @@ use Rattle.segment_arrangement.specs.SweepViews.{AreStartsAt}
 use Rattle.segment_arrangement.proofs.Facts.GreatestEntry.{Contains-head, Contains-later}
 use Rattle.segment_arrangement.proofs.Sweeps.Seams.{All-from, IsSeam}
 
--- ---- edges that are not upright
+-- ---- edges that are not vertical
 
 abbrev is_slanted : Entry Count → ℕ
 is_slanted e = cond (int_lt e.edge.a.x e.edge.b.x) 1 0

@@ -172,15 +172,15 @@ module _ {K E : Type 0} (value : E → ℤ) (cmp : E → E → Ordering) (ordere
     coming : All (λ e. value time ≤ℤ e.edge.a.x) (drop (n + 1) es)
     coming = All-tail (λ e. value time ≤ℤ e.edge.a.x) f (drop (n + 1) es) (subst (All (λ e. value time ≤ℤ e.edge.a.x)) (drop_more es n d within) (swept.in_time time now))
 
-    -- an upright one never lives
+    -- a vertical one never lives
     pub passed_over : f.edge.b.x ≤ℤ value time → IsSwept value cmp expires edge es (n + 1) kept
-    passed_over upright = record {
+    passed_over vertical = record {
       in_time = λ t same. let e : time ≡ t = cc (now) in subst (λ t. All (λ e. value t ≤ℤ e.edge.a.x) (drop (n + 1) es)) e coming;
       few = omega (arith, swept.few);
       stored = omega (arith, swept.stored);
       holds = λ t after.
           let on : value time ≤ℤ value t = after time now in
-          let over : int_lt (value t) f.edge.b.x ≡ false = grind (arith, ints, on, upright) in
+          let over : int_lt (value t) f.edge.b.x ≡ false = grind (arith, ints, on, vertical) in
           subst (λ l. HoldsUppers edge es l (live_at cmp expires t kept.entries)) (sym (same_reaching t over)) (from_now t on);
     }
       where

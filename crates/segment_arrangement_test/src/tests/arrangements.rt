@@ -48,7 +48,7 @@ fn squared(points: [(i32, i32); 6]) -> [(i32, i32); 6] {
     ]
 }
 
-// Contours of three to six points of a small grid, or of six points with level and upright edges.
+// Contours of three to six points of a small grid, or of six points with horizontal and vertical edges.
 fn drawn(
     alloc: Global,
     number: usize,
@@ -75,7 +75,7 @@ fn drawn(
     Ok(contours)
 }
 
-// What so many drawn subjects and clips are split into, with level and upright edges alone or with any.
+// What so many drawn subjects and clips are split into, with horizontal and vertical edges alone or with any.
 pub(super) fn drawn_arrangement(
     alloc: Global,
     subjects: usize,

@@ -336,7 +336,7 @@ fn agrees_in_way(
     }
 }
 
-// How many maps are drawn, of how many contours, whether with level and upright edges alone, and whether each is swept in all ways
+// How many maps are drawn, of how many contours, whether with horizontal and vertical edges alone, and whether each is swept in all ways
 // or in one of these after another.
 #[derive(Clone, Copy)]
 struct Maps {
@@ -429,7 +429,7 @@ fn fills_of_larger_maps(rt: HostRuntime) {
     assert!(rt; first_unlike(rt.alloc(), maps) == None);
 }
 
-// With level and upright edges alone, from a few to more than 64.
+// With horizontal and vertical edges alone, from a few to more than 64.
 #[test]
 fn fills_of_square_maps(rt: HostRuntime) {
     for contours in 1..6 {

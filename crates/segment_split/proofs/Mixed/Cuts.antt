@@ -16,7 +16,7 @@ use Rattle.plane_base.specs.declared.rounding.Rounding.TheVariants.{Nearest}
 use Rattle.plane_base.proofs.Facts.Lists.Views.{none_first}
 use Rattle.plane_base.proofs.Facts.Maps.Laying.{lay_by, laid_path_directed}
 use Rattle.plane_base.proofs.Facts.Points.Orders.{edge_total, edge_equal, edge_itself, is_equal, less_apart, before_is_less}
-use Rattle.segment_split.specs.LineLaws.{is_level_or_upright}
+use Rattle.segment_split.specs.LineLaws.{is_rectilinear}
 use Rattle.segment_split.specs.MarkLists.{LaidMark, IsAt, IsLaid, HasMark, AreInPlace}
 use Rattle.segment_split.specs.Mixed.{is_one_slanted, AreSlantedMarks, lines_among, slanted_among, laid_through, ArePartsApart, IsCutApart}
 use Rattle.segment_split.specs.Passes.{edges_of, marks_in, marks_on, cut, all_cut, all_cut_at}
@@ -113,7 +113,7 @@ module _ (stride least greatest : ℤ) (precision : Precision) (k : ℕ) (es : L
             absurd (contains_no p (subst (λ m. Contains m.first p) (ap (lays s) same ∙ (unless_parted precision k s s).1 (parted_itself s)) c))
         by j there (inr (inl l)) = All-contains (HasMark laid i) (lays s t).first p (h.all i j s t l at there slanted).0 c
         by j there (inr (inr l)) =
-            All-contains (HasMark laid i) (lays t s).second p (h.all j i t s l there at (slanted_turned (is_level_or_upright s) (is_level_or_upright t) slanted)).1
+            All-contains (HasMark laid i) (lays t s).second p (h.all j i t s l there at (slanted_turned (is_rectilinear s) (is_rectilinear t) slanted)).1
             (subst (λ ps. Contains ps p) (ap (λ m. m.first) (marks_exchanged precision k t s (less_apart edge_total t s (rises stride least greatest Nearest es rising j i t s l there at)))) c)
 
     base_has : (Contains (base_of es laid s) p → HasMark laid i p) × (HasMark laid i p → Contains (base_of es laid s) p)
@@ -134,10 +134,10 @@ module _ (stride least greatest : ℤ) (precision : Precision) (k : ℕ) (es : L
     )
 
     -- all marks on a slanted edge are there
-    slanted_has : is_level_or_upright s ≡ false → (Contains (marks_on lays es s) p → HasMark laid i p) × (HasMark laid i p → Contains (marks_on lays es s) p)
+    slanted_has : is_rectilinear s ≡ false → (Contains (marks_on lays es s) p → HasMark laid i p) × (HasMark laid i p → Contains (marks_on lays es s) p)
     slanted_has slanted = (
       λ c. let found = joined_tells (λ t. (lays s t).first) es p c in
-          mark_to found.0 found.1 (slanted_first (is_level_or_upright s) (is_level_or_upright found.0) slanted) found.2,
+          mark_to found.0 found.1 (slanted_first (is_rectilinear s) (is_rectilinear found.0) slanted) found.2,
       mark_from,
     )
 
@@ -178,16 +178,16 @@ module _ (stride least greatest : ℤ) {C : Type 0} (kind : Counting C) (es : Li
       → AreFirstCuts precision k (edges_of es) (edges_of (lines_among es)) (edges_of (slanted_among es)) base
   first_cuts precision k h = record {
     marked = λ s p at c.
-        let line = chosen_edge (λ e. is_level_or_upright e.edge) es s at in
+        let line = chosen_edge (λ e. is_rectilinear e.edge) es s at in
         let here = contains_at (edges_of es) s (subst (Contains (edges_of es)) line.3 (edge_at es line.0 line.1)) in
         let found = joined_tells (λ t. (marks_in precision k s t).first) (edges_of (slanted_among es)) p c in
-        let other = chosen_edge (λ e. not (is_level_or_upright e.edge)) es found.0 found.1 in
+        let other = chosen_edge (λ e. not (is_rectilinear e.edge)) es found.0 found.1 in
         (base_has stride least greatest precision k (edges_of es) (edges_rising es normal) laid h here.0 s here.1 p).1
         (mark_to stride least greatest precision k (edges_of es) (edges_rising es normal) laid h here.0 s here.1 p found.0
         (subst (Contains (edges_of es)) other.3 (edge_at es other.0 other.1))
-        (slanted_second (is_level_or_upright s) (is_level_or_upright found.0) (subst (λ t. is_level_or_upright t ≡ false) other.3 (is_not (is_level_or_upright other.0.edge) other.2))) found.2);
+        (slanted_second (is_rectilinear s) (is_rectilinear found.0) (subst (λ t. is_rectilinear t ≡ false) other.3 (is_not (is_rectilinear other.0.edge) other.2))) found.2);
     only = λ s p at c.
-        let line = chosen_edge (λ e. is_level_or_upright e.edge) es s at in
+        let line = chosen_edge (λ e. is_rectilinear e.edge) es s at in
         let here = contains_at (edges_of es) s (subst (Contains (edges_of es)) line.3 (edge_at es line.0 line.1)) in
         mark_from stride least greatest precision k (edges_of es) (edges_rising es normal) laid h here.0 s here.1 p
         ((base_has stride least greatest precision k (edges_of es) (edges_rising es normal) laid h here.0 s here.1 p).0 c);
@@ -203,25 +203,25 @@ module _ (stride least greatest : ℤ) {C : Type 0} (kind : Counting C) (es : Li
       through_points ps same =
           cut_by_points laid rest run more i in_place left parts own apart stride least greatest span strides reach (marks_in precision k) (edges_of es) h.only e.edge at kind e.count ps same
 
-      -- level and upright entries are cut at first
-      pub line_next : (lines new : List (Entry C)) → new ≡ lines ++ cond (is_level_or_upright e.edge) (laid_through kind e run) []
+      -- horizontal and vertical entries are cut at first
+      pub line_next : (lines new : List (Entry C)) → new ≡ lines ++ cond (is_rectilinear e.edge) (laid_through kind e run) []
           → lines ≡ all_cut_at kind base (lines_among before) → new ≡ all_cut_at kind base (lines_among (before ++ e ∷ []))
       line_next lines new told so_far =
           told
-          ∙ (ap₂ (λ l m. l ++ cond (is_level_or_upright e.edge) m []) so_far
+          ∙ (ap₂ (λ l m. l ++ cond (is_rectilinear e.edge) m []) so_far
           (through_points (base e.edge) (base_has stride least greatest precision k (edges_of es) (edges_rising es normal) laid h i e.edge at))
-          ∙ sym (chosen_next (λ e. laid_path kind e.count (path e.edge (base e.edge))) (λ e. is_level_or_upright e.edge) before e))
+          ∙ sym (chosen_next (λ e. laid_path kind e.count (path e.edge (base e.edge))) (λ e. is_rectilinear e.edge) before e))
 
       -- slanted ones wholly
-      pub other_next : (others new : List (Entry C)) → new ≡ others ++ cond (is_level_or_upright e.edge) [] (laid_through kind e run)
+      pub other_next : (others new : List (Entry C)) → new ≡ others ++ cond (is_rectilinear e.edge) [] (laid_through kind e run)
           → others ≡ all_cut kind (marks_in precision k) (edges_of es) (slanted_among before)
           → new ≡ all_cut kind (marks_in precision k) (edges_of es) (slanted_among (before ++ e ∷ []))
       other_next others new told so_far =
           told
-          ∙ (ap₂ (λ l m. l ++ m) so_far (by (is_level_or_upright e.edge) refl)
-          ∙ sym (chosen_next (cut kind (marks_in precision k) (edges_of es)) (λ e. not (is_level_or_upright e.edge)) before e))
+          ∙ (ap₂ (λ l m. l ++ m) so_far (by (is_rectilinear e.edge) refl)
+          ∙ sym (chosen_next (cut kind (marks_in precision k) (edges_of es)) (λ e. not (is_rectilinear e.edge)) before e))
         where
-          by : (b : Bool) → is_level_or_upright e.edge ≡ b → cond b [] (laid_through kind e run) ≡ cond (not b) (cut kind (marks_in precision k) (edges_of es) e) []
+          by : (b : Bool) → is_rectilinear e.edge ≡ b → cond b [] (laid_through kind e run) ≡ cond (not b) (cut kind (marks_in precision k) (edges_of es) e) []
           by true slope = refl
           by false slope =
               through_points (marks_on (marks_in precision k) (edges_of es) e.edge)
@@ -246,11 +246,11 @@ module _ {C : Type 0} (kind : Counting C) where
   through_none e forward = append-nil (lay kind e.edge.a e.edge.b e.count) ∙ ap (λ o. lay_by kind o e.edge.a e.edge.b e.count) (before_is_less e.edge.a e.edge.b forward)
 
   pub none_next : (e : Entry C) (run : List LaidMark) (before lines new : List (Entry C)) → is_before e.edge.a e.edge.b ≡ true → run ≡ []
-      → new ≡ lines ++ cond (is_level_or_upright e.edge) (laid_through kind e run) [] → lines ≡ lines_among before → new ≡ lines_among (before ++ e ∷ [])
+      → new ≡ lines ++ cond (is_rectilinear e.edge) (laid_through kind e run) [] → lines ≡ lines_among before → new ≡ lines_among (before ++ e ∷ [])
   none_next e run before lines new forward none told so_far =
       told
-      ∙ (ap₂ (λ l m. l ++ cond (is_level_or_upright e.edge) m []) so_far (ap (laid_through kind e) none ∙ through_none e forward)
-      ∙ sym (filter-append (λ e. is_level_or_upright e.edge) before (e ∷ [])))
+      ∙ (ap₂ (λ l m. l ++ cond (is_rectilinear e.edge) m []) so_far (ap (laid_through kind e) none ∙ through_none e forward)
+      ∙ sym (filter-append (λ e. is_rectilinear e.edge) before (e ∷ [])))
 
 -- ---- pieces are directed
 
@@ -258,10 +258,10 @@ abbrev pub AreDirected : {C : Type 0} → List (Entry C) → Type 0
 AreDirected es = All (λ e. is_before e.edge.a e.edge.b ≡ true) es
 
 module _ {C : Type 0} (kind : Counting C) where
-  pub directed_next : (e : Entry C) (run : List LaidMark) (lines new : List (Entry C)) → new ≡ lines ++ cond (is_level_or_upright e.edge) (laid_through kind e run) []
+  pub directed_next : (e : Entry C) (run : List LaidMark) (lines new : List (Entry C)) → new ≡ lines ++ cond (is_rectilinear e.edge) (laid_through kind e run) []
       → AreDirected lines → AreDirected new
   directed_next e run lines new told so_far =
-      subst AreDirected (sym told) (All-append (λ e. is_before e.edge.a e.edge.b ≡ true) lines (cond (is_level_or_upright e.edge) (laid_through kind e run) []) so_far (by (is_level_or_upright e.edge)))
+      subst AreDirected (sym told) (All-append (λ e. is_before e.edge.a e.edge.b ≡ true) lines (cond (is_rectilinear e.edge) (laid_through kind e run) []) so_far (by (is_rectilinear e.edge)))
     where
       by : (b : Bool) → AreDirected (cond b (laid_through kind e run) [])
       by true = laid_path_directed kind e.count (e.edge.a ∷ (map (λ m. m.point) run ++ (e.edge.b ∷ [])))
@@ -289,8 +289,8 @@ none_left f marks run rest more i left parts none = first left.done (map f run) 
 
 module _ {C : Type 0} {kind : Counting C} {fits : C → Bool} {of : ℤ → ℤ → C} (added : IsAdded kind fits of) where
   pub sums_laid : (key : Entry Count) (e : Entry C) (run : List LaidMark) (lines new : List (Entry Count)) → key.edge ≡ e.edge → of_count of key.count ≡ e.count
-      → is_level_or_upright e.edge ≡ true → new ≡ lines ++ laid_through boolean key run
-      → with_counts (of_count of) new ≡ with_counts (of_count of) lines ++ cond (is_level_or_upright e.edge) (laid_through kind e run) []
+      → is_rectilinear e.edge ≡ true → new ≡ lines ++ laid_through boolean key run
+      → with_counts (of_count of) new ≡ with_counts (of_count of) lines ++ cond (is_rectilinear e.edge) (laid_through kind e run) []
   sums_laid key e run lines new edge count level told =
       let f = of_count of in
       let points : Edge → List Point = λ s. s.a ∷ (map (λ m. m.point) run ++ (s.b ∷ [])) in
@@ -329,7 +329,7 @@ sorted_in_order es directed sorted = record { directed = directed; firsts = λ i
 pub lines_in_order : {C : Type 0} {kind : Counting C} {fits : C → Bool} {of : ℤ → ℤ → C} → IsAdded kind fits of → (es : List (Entry C)) (lines : List (Entry Count)) → IsNormal kind es
     → with_counts (of_count of) lines ≡ lines_among es → AreInOrder lines
 lines_in_order {kind = kind} added es lines normal same =
-    normal_in_order lines (sums_normal added lines (subst (IsNormal kind) (sym same) (filter_normal (λ e. is_level_or_upright e.edge) es normal)))
+    normal_in_order lines (sums_normal added lines (subst (IsNormal kind) (sym same) (filter_normal (λ e. is_rectilinear e.edge) es normal)))
 
 -- ---- whether there are marks
 

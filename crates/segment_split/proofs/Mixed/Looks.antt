@@ -8,7 +8,7 @@ use Rattle.plane_base.specs.Plane.{Point, Edge, is_before}
 use Rattle.plane_base.specs.Counts.{Count, Entry, boolean}
 use Rattle.plane_base.specs.WholeLaws.{IsPiece}
 use Rattle.plane_base.proofs.Facts.Maps.Laying.{IsDirected}
-use Rattle.segment_split.specs.LineLaws.{is_level_or_upright, IsCrossing, PassesLevelThrough, PassesUpThrough}
+use Rattle.segment_split.specs.LineLaws.{is_rectilinear, IsCrossing, PassesHorizontalThrough, PassesUpThrough}
 use Rattle.segment_split.specs.MarkLists.{IsAt}
 use Rattle.segment_split.specs.Mixed.{TellsOld, TakesBothNew, is_one_slanted, slanted_pairs, lines_among}
 use Rattle.segment_split.specs.Passes.{edges_of}
@@ -26,21 +26,21 @@ use Rattle.segment_split.proofs.Whole.Coordinates.{cut_by_coordinates}
 use Rattle.segment_split.proofs.Whole.CutPoints.{part_from}
 use Rattle.segment_split.proofs.Whole.Pieces.{IsPieceOfSome}
 
--- the pairs of level and upright edges that share an x
+-- the pairs of horizontal and vertical edges that share an x
 abbrev pub line_pairs : List Edge → ℕ
-line_pairs es = pairs_by (λ s t. (is_level_or_upright s && is_level_or_upright t) && share_point (x_range s) (x_range t)) es
+line_pairs es = pairs_by (λ s t. (is_rectilinear s && is_rectilinear t) && share_point (x_range s) (x_range t)) es
 
 -- ---- which pairs are looked at
 
--- where level and upright edges are told to be old, pairs with a slanted one
-pub takes_slanted : (es : List Edge) (next_new : List ℕ) → TellsOld is_level_or_upright es next_new
+-- where horizontal and vertical edges are told to be old, pairs with a slanted one
+pub takes_slanted : (es : List Edge) (next_new : List ℕ) → TellsOld is_rectilinear es next_new
     → TakesNew es next_new (λ s t. is_one_slanted s t && share_point (x_range s) (x_range t))
 takes_slanted es next_new told i j s t p at there shared =
     ap₂ (λ a b. a && b) (ap not (sym (ap₂ (λ a b. a && b) (told i s at) (told j t there)) ∙ p.1)) shared
 
--- where slanted ones are, pairs of level and upright ones
-pub takes_lines : (es : List Edge) (next_new : List ℕ) → TellsOld (λ s. not (is_level_or_upright s)) es next_new
-    → TakesBothNew es next_new (λ s t. (is_level_or_upright s && is_level_or_upright t) && share_point (x_range s) (x_range t))
+-- where slanted ones are, pairs of horizontal and vertical ones
+pub takes_lines : (es : List Edge) (next_new : List ℕ) → TellsOld (λ s. not (is_rectilinear s)) es next_new
+    → TakesBothNew es next_new (λ s t. (is_rectilinear s && is_rectilinear t) && share_point (x_range s) (x_range t))
 takes_lines es next_new told i j s t p at there shared =
     ap₂ (λ a b. a && b) (ap₂ (λ a b. a && b) (line i s at p.1) (line j t there p.2)) shared
   where
@@ -48,8 +48,8 @@ takes_lines es next_new told i j s t p at there shared =
     not_slanted true e = refl
     not_slanted false e = sym e
 
-    line : (i : ℕ) (s : Edge) → IsAt es i s → is_old next_new i ≡ false → is_level_or_upright s ≡ true
-    line i s at new = not_slanted (is_level_or_upright s) (sym (told i s at) ∙ new)
+    line : (i : ℕ) (s : Edge) → IsAt es i s → is_old next_new i ≡ false → is_rectilinear s ≡ true
+    line i s at new = not_slanted (is_rectilinear s) (sym (told i s at) ∙ new)
 
 -- ---- their bounds
 
@@ -63,8 +63,8 @@ module _ (es : List Edge) (directed : All (λ s. is_before s.a s.b ≡ true) es)
 
   pub both_most : slanted_pairs es + line_pairs es ≤ most_pairs strategy.Auto es
   both_most =
-      let both = slanted_and_kept is_level_or_upright (λ s t. share_point (x_range s) (x_range t)) es in
-      let kept = pairs_kept is_level_or_upright (λ s t. share_point (x_range s) (x_range t)) es in
+      let both = slanted_and_kept is_rectilinear (λ s t. share_point (x_range s) (x_range t)) es in
+      let kept = pairs_kept is_rectilinear (λ s t. share_point (x_range s) (x_range t)) es in
       let most = shared_most in
       omega (arith, both, kept, most)
 
@@ -74,7 +74,7 @@ module _ (es : List Edge) (directed : All (λ s. is_before s.a s.b ≡ true) es)
       let most = both_most in
       subst (λ by. CountsPairsUpTo first now (most_pairs by es)) (sym auto) (up_to_greater first now (slanted_pairs es) (most_pairs strategy.Auto es) (omega (arith, most)) looks)
 
-  -- and then pairs of level and upright ones
+  -- and then pairs of horizontal and vertical ones
   pub lines_most : (solver : Strategy) → solver ≡ strategy.Auto → (first now next : Counts) → CountsPairsUpTo first now (slanted_pairs es) → CountsPairsUpTo now next (line_pairs es)
       → CountsPairsUpTo first next (most_pairs solver es)
   lines_most solver auto first now next looks more =
@@ -92,7 +92,7 @@ module _ (u s : Edge) (p : Point) (forward : is_before s.a s.b ≡ true) (piece 
 
   up_through : PassesUpThrough u p → PassesUpThrough s p
   up_through h =
-      let spans = ((cut_by_coordinates boolean).upright_part u s piece.forward forward (h.first ∙ sym h.second)).0 (part_from u s piece) in
+      let spans = ((cut_by_coordinates boolean).vertical_part u s piece.forward forward (h.first ∙ sym h.second)).0 (part_from u s piece) in
       record {
         first = spans.first ∙ h.first;
         second = spans.second ∙ h.first;
@@ -100,9 +100,9 @@ module _ (u s : Edge) (p : Point) (forward : is_before s.a s.b ≡ true) (piece 
         above = less_weak p.y u.b.y s.b.y h.above spans.to;
       }
 
-  level_through : PassesLevelThrough u p → PassesLevelThrough s p
-  level_through h =
-      let spans = ((cut_by_coordinates boolean).level_part u s piece.forward forward (h.first ∙ sym h.second)).0 (part_from u s piece) in
+  horizontal_through : PassesHorizontalThrough u p → PassesHorizontalThrough s p
+  horizontal_through h =
+      let spans = ((cut_by_coordinates boolean).horizontal_part u s piece.forward forward (h.first ∙ sym h.second)).0 (part_from u s piece) in
       record {
         first = spans.first ∙ h.first;
         second = spans.second ∙ h.first;
@@ -114,7 +114,7 @@ module _ (u s : Edge) (p : Point) (forward : is_before s.a s.b ≡ true) (piece 
 pub crossing_of_edges : (es us : List Edge) → All (λ s. is_before s.a s.b ≡ true) es → All (IsPieceOfSome es) us → (p : Point) → IsCrossing us p → IsCrossing es p
 crossing_of_edges es us directed pieces p h = (
   (up.of, up.listed, up_through h.0.0 up.of p (forward up.of up.listed) up.piece h.0.2),
-  (level.of, level.listed, level_through h.1.0 level.of p (forward level.of level.listed) level.piece h.1.2),
+  (level.of, level.listed, horizontal_through h.1.0 level.of p (forward level.of level.listed) level.piece h.1.2),
 )
   where
     up : IsPieceOfSome es h.0.0
@@ -126,14 +126,14 @@ crossing_of_edges es us directed pieces p h = (
     forward : (s : Edge) → Contains es s → is_before s.a s.b ≡ true
     forward s at = All-contains (λ s. is_before s.a s.b ≡ true) es s directed at
 
--- ---- a sweep over pieces of level and upright edges
+-- ---- a sweep over pieces of horizontal and vertical edges
 
-pub edges_of_lines : {C : Type 0} (es : List (Entry C)) → edges_of (lines_among es) ≡ filter is_level_or_upright (edges_of es)
+pub edges_of_lines : {C : Type 0} (es : List (Entry C)) → edges_of (lines_among es) ≡ filter is_rectilinear (edges_of es)
 edges_of_lines [] = refl
-edges_of_lines {C} (e ∷ es) = by (is_level_or_upright e.edge) (edges_of_lines es)
+edges_of_lines {C} (e ∷ es) = by (is_rectilinear e.edge) (edges_of_lines es)
   where
-    by : (b : Bool) → edges_of (lines_among es) ≡ filter is_level_or_upright (edges_of es)
-        → edges_of (cond b (e ∷ lines_among es) (lines_among es)) ≡ cond b (e.edge ∷ filter is_level_or_upright (edges_of es)) (filter is_level_or_upright (edges_of es))
+    by : (b : Bool) → edges_of (lines_among es) ≡ filter is_rectilinear (edges_of es)
+        → edges_of (cond b (e ∷ lines_among es) (lines_among es)) ≡ cond b (e.edge ∷ filter is_rectilinear (edges_of es)) (filter is_rectilinear (edges_of es))
     by true h = ap (λ l. e.edge ∷ l) h
     by false h = h
 
@@ -143,7 +143,7 @@ module _ {C : Type 0} (es : List (Entry C)) (directed : IsDirected es) (pieces :
 
   directed_lines : All (λ s. is_before s.a s.b ≡ true) (edges_of (lines_among es))
   directed_lines =
-      subst (All (λ s. is_before s.a s.b ≡ true)) (sym (edges_of_lines es)) (All-filter is_level_or_upright (λ s. is_before s.a s.b ≡ true) (edges_of es) directed_edges)
+      subst (All (λ s. is_before s.a s.b ≡ true)) (sym (edges_of_lines es)) (All-filter is_rectilinear (λ s. is_before s.a s.b ≡ true) (edges_of es) directed_edges)
 
   -- it counts no more crossings than there are pairs of such edges that share an x
   pub ticks_in_lines : (ps : List Point) (first now : ℕ) → Ticked pieces ps first now → (first ≤ now) × (now ≤ first + line_pairs (edges_of es))
@@ -152,7 +152,7 @@ module _ {C : Type 0} (es : List (Entry C)) (directed : IsDirected es) (pieces :
       let some = share_pairs lines ticked.crossings ticked.rising
       (All-weaker (IsCrossing (edges_of pieces)) (IsCrossing lines) (crossing_of_edges lines (edges_of pieces) directed_lines are) ticked.crossings ticked.only) in
       let same = ap (pairs_by (λ s t. share_point (x_range s) (x_range t))) (edges_of_lines es) in
-      let kept = pairs_kept is_level_or_upright (λ s t. share_point (x_range s) (x_range t)) (edges_of es) in
+      let kept = pairs_kept is_rectilinear (λ s t. share_point (x_range s) (x_range t)) (edges_of es) in
       let number = ticked.number in
       (omega (arith, number), omega (arith, number, some, same, kept))
 

@@ -9,7 +9,7 @@ use Rattle.plane_base.specs.Counts.{Count, Counting, Entry, boolean, IsNormal}
 use Rattle.plane_base.specs.Crossing.{no_marks, exchanged}
 use Rattle.plane_base.specs.declared.rounding.Rounding.TheVariants.{Nearest}
 use Rattle.plane_base.proofs.Facts.Points.Orders.{edge_total, less_apart}
-use Rattle.segment_split.specs.LineLaws.{is_level_or_upright}
+use Rattle.segment_split.specs.LineLaws.{is_rectilinear}
 use Rattle.segment_split.specs.MarkLists.{LaidMark, IsAt, IsLaid, HasMark, HasPair}
 use Rattle.segment_split.specs.Mixed.{is_one_slanted, AreSlantedMarks, lines_among}
 use Rattle.segment_split.specs.Passes.{edges_of, marks_in, MarksSome}
@@ -50,7 +50,7 @@ module _ (stride least greatest : ℤ) (precision : Precision) (k : ℕ) (es : L
         λ n. record { first = first n; second = second n }
 
     either_way : (u v : Edge) → is_one_slanted u v ≡ true → is_one_slanted v u ≡ true
-    either_way u v = by (is_level_or_upright u) (is_level_or_upright v)
+    either_way u v = by (is_rectilinear u) (is_rectilinear v)
       where
         by : (b c : Bool) → not (b && c) ≡ true → not (c && b) ≡ true
         by true true e = e
@@ -72,12 +72,12 @@ module _ (stride least greatest : ℤ) (precision : Precision) (k : ℕ) (es : L
             marks_exchanged precision k v u (less_apart edge_total v u (rises stride least greatest Nearest es rising j i v u l there at))
             ∙ ap exchanged (slanted_pair j i v u l there at (either_way u v one))
 
--- level and upright entries that aren't cut
+-- horizontal and vertical entries that aren't cut
 pub uncut_normal : {C : Type 0} {kind : Counting C} {fits : C → Bool} {of : ℤ → ℤ → C} → IsAdded kind fits of → (es : List (Entry C)) → IsNormal kind es
     → (lines : List (Entry Count))
     → with_counts (of_count of) lines ≡ lines_among es → IsNormal boolean lines
 uncut_normal {kind = kind} added es h lines uncut =
-    sums_normal added lines (subst (IsNormal kind) (sym uncut) (filter_normal (λ e. is_level_or_upright e.edge) es h))
+    sums_normal added lines (subst (IsNormal kind) (sym uncut) (filter_normal (λ e. is_rectilinear e.edge) es h))
 
 module _ (stride least greatest : ℤ) (precision : Precision) {C : Type 0} {kind : Counting C} {fits : C → Bool} {of : ℤ → ℤ → C} (added : IsAdded kind fits of)
     (es : List (Entry C)) (h : IsNormal kind es) (laid : List LaidMark) (found : AreSlantedMarks stride least greatest precision 0 (edges_of es) laid) where
@@ -91,24 +91,24 @@ module _ (stride least greatest : ℤ) (precision : Precision) {C : Type 0} {kin
       by [] all none = absurd (none refl)
       by (m ∷ l) all none = marked_by_one stride least greatest precision 0 (edges_of es) (edges_rising es h) m (all 0 m (omega arith))
 
-  -- where they lay none, level and upright edges are all that may be marked
+  -- where they lay none, horizontal and vertical edges are all that may be marked
   module _ (none : laid ≡ []) where
     slanted : AreSlantedMarks stride least greatest precision 0 (edges_of es) []
     slanted = subst (AreSlantedMarks stride least greatest precision 0 (edges_of es)) none found
 
     to_lines : Marks_some → MarksSome (marks_in precision 0) (edges_of (lines_among es))
-    to_lines (s, t, in_s, in_t, marks) = by (is_level_or_upright s) (is_level_or_upright t) refl refl
+    to_lines (s, t, in_s, in_t, marks) = by (is_rectilinear s) (is_rectilinear t) refl refl
       where
-        in_lines : (u : Edge) → Contains (edges_of es) u → is_level_or_upright u ≡ true → Contains (edges_of (lines_among es)) u
-        in_lines u at line = subst (λ l. Contains l u) (sym (edges_of_lines es)) (contains_filtered is_level_or_upright (edges_of es) u at line)
+        in_lines : (u : Edge) → Contains (edges_of es) u → is_rectilinear u ≡ true → Contains (edges_of (lines_among es)) u
+        in_lines u at line = subst (λ l. Contains l u) (sym (edges_of_lines es)) (contains_filtered is_rectilinear (edges_of es) u at line)
 
         not_slanted : is_one_slanted s t ≡ true → ⊥
         not_slanted one = marks (slanted_none stride least greatest precision 0 (edges_of es) (edges_rising es h) slanted s t in_s in_t one)
 
-        by : (b c : Bool) → is_level_or_upright s ≡ b → is_level_or_upright t ≡ c → MarksSome (marks_in precision 0) (edges_of (lines_among es))
+        by : (b c : Bool) → is_rectilinear s ≡ b → is_rectilinear t ≡ c → MarksSome (marks_in precision 0) (edges_of (lines_among es))
         by true true e f = (s, t, in_lines s in_s e, in_lines t in_t f, marks)
-        by true false e f = absurd (not_slanted (ap (λ b. not (b && is_level_or_upright t)) e ∙ ap not f))
-        by false c e f = absurd (not_slanted (ap (λ b. not (b && is_level_or_upright t)) e))
+        by true false e f = absurd (not_slanted (ap (λ b. not (b && is_rectilinear t)) e ∙ ap not f))
+        by false c e f = absurd (not_slanted (ap (λ b. not (b && is_rectilinear t)) e))
 
     from_lines : MarksSome (marks_in precision 0) (edges_of (lines_among es)) → Marks_some
     from_lines (s, t, in_s, in_t, marks) = (s, t, in_es s in_s, in_es t in_t, marks)
@@ -117,9 +117,9 @@ module _ (stride least greatest : ℤ) (precision : Precision) {C : Type 0} {kin
         in_es u at =
             All-contains (Contains (edges_of es)) (edges_of (lines_among es)) u
             (All-map (Contains (edges_of es)) (λ (e : Entry C). e.edge) (lines_among es)
-            (All-filter (λ (e : Entry C). is_level_or_upright e.edge) (λ e. Contains (edges_of es) e.edge) es (edges_contain es))) at
+            (All-filter (λ (e : Entry C). is_rectilinear e.edge) (λ e. Contains (edges_of es) e.edge) es (edges_contain es))) at
 
-  -- what is cut at them, or where level and upright edges are among themselves
+  -- what is cut at them, or where horizontal and vertical edges are among themselves
   pub marked_where_cut : (lines : List (Entry Count)) (is_marked is_cut : Bool) → (is_marked ≡ false) ↔ (laid ≡ [])
       → (is_marked ≡ false → with_counts (of_count of) lines ≡ lines_among es)
       → (is_marked ≡ true → is_cut ≡ true) → (is_marked ≡ false → (is_cut ≡ true) ↔ ((n : ℕ) × MarksInPass boolean precision lines n))

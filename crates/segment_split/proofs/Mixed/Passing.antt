@@ -1,4 +1,4 @@
--- The promise of a first pass that cuts level and upright entries in turn, from the calls that it is made of.
+-- The promise of a first pass that cuts horizontal and vertical entries in turn, from the calls that it is made of.
 use Rattle.std.specs.Prelude.{◌≡◌, ◌≤◌, ◌<◌, ◌^◌, ◌↔◌, ◌+◌, ◌++◌, ℕ, ℤ, Bool, true, false, List, length, Ok, Err}
 use Rattle.std.proofs.Common.{refl, subst, arith}
 use Rattle.std.proofs.lemmas.Bool.{false≢true}

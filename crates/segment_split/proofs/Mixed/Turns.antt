@@ -1,4 +1,4 @@
--- What a pass makes of level and upright entries that are cut apart from slanted ones, and then laid.
+-- What a pass makes of horizontal and vertical entries that are cut apart from slanted ones, and then laid.
 use Rattle.std.specs.Prelude.{◌≡◌, ◌≤◌, ◌+◌, ℕ, Bool, true, false, ◌||◌, not, List, ◌++◌, length, flat_map, All, Contains, IsPermutation}
 use Rattle.std.specs.Ordering.{int_eq}
 use Rattle.std.proofs.Common.{refl, sym, ap, ◌∙◌, subst, ◌⊎◌, inl, inr, ⊎_elim, get_or, arith}
@@ -14,7 +14,7 @@ use Rattle.plane_base.specs.Crossing.{late_marks}
 use Rattle.plane_base.specs.WholeLaws.{IsPiece}
 use Rattle.plane_base.proofs.Facts.Maps.Laying.{IsDirected}
 use Rattle.plane_base.proofs.Facts.Maps.Normal.{IsCounting, normal_edges, normal_permutation, normal_normal_append}
-use Rattle.segment_split.specs.LineLaws.{is_level_or_upright, AllLevelOrUpright}
+use Rattle.segment_split.specs.LineLaws.{is_rectilinear, AllRectilinear}
 use Rattle.segment_split.specs.MarkLists.{AllParted}
 use Rattle.segment_split.specs.Merging.{IsMap}
 use Rattle.segment_split.specs.Mixed.{lines_among, slanted_among, ArePartsApart}
@@ -34,33 +34,33 @@ use Rattle.segment_split.proofs.Redrawing.Lengths.{no_fewer_cuts}
 use Rattle.segment_split.proofs.Redrawing.Neighbours.{overfull_before, overfull_after}
 use Rattle.segment_split.proofs.Spread.Lists.{all_flat_map, edges_contain}
 use Rattle.segment_split.proofs.Stops.Permuted.{flat_map_permuted, flat_map_parted}
-use Rattle.segment_split.proofs.Whole.Coordinates.{level_flat, upright_flat}
+use Rattle.segment_split.proofs.Whole.Coordinates.{horizontal_flat, vertical_flat}
 use Rattle.segment_split.proofs.Whole.InTurn.{cuts_in_turn}
-use Rattle.segment_split.proofs.Whole.LevelEdges.{level_or_upright}
+use Rattle.segment_split.proofs.Whole.RectilinearEdges.{rectilinear}
 use Rattle.segment_split.proofs.Whole.Marks.{whole_marks_on, whole_marks_inside}
 use Rattle.segment_split.proofs.Whole.Pieces.{IsPieceOfSome}
 
--- ---- pieces of level and upright edges are such edges
+-- ---- pieces of horizontal and vertical edges are such edges
 
 one_of_both : (b c : Bool) → (b ≡ true) ⊎ (c ≡ true) → b || c ≡ true
 one_of_both true c h = refl
 one_of_both false c (inl e) = absurd (false≢true e)
 one_of_both false c (inr e) = e
 
-piece_of_line : (u s : Edge) → IsPiece u s → is_before s.a s.b ≡ true → is_level_or_upright s ≡ true → is_level_or_upright u ≡ true
+piece_of_line : (u s : Edge) → IsPiece u s → is_before s.a s.b ≡ true → is_rectilinear s ≡ true → is_rectilinear u ≡ true
 piece_of_line u s piece forward line =
     one_of_both (int_eq u.a.y u.b.y) (int_eq u.a.x u.b.x)
     (⊎_elim
-    (λ l. inl ((Decides-int_eq u.a.y u.b.y).1 ((level_flat s u.a forward l).0 piece.first_on ∙ sym ((level_flat s u.b forward l).0 piece.second_on))))
-    (λ l. inr ((Decides-int_eq u.a.x u.b.x).1 ((upright_flat s u.a forward l).0 piece.first_on ∙ sym ((upright_flat s u.b forward l).0 piece.second_on))))
-    (level_or_upright s line))
+    (λ l. inl ((Decides-int_eq u.a.y u.b.y).1 ((horizontal_flat s u.a forward l).0 piece.first_on ∙ sym ((horizontal_flat s u.b forward l).0 piece.second_on))))
+    (λ l. inr ((Decides-int_eq u.a.x u.b.x).1 ((vertical_flat s u.a forward l).0 piece.first_on ∙ sym ((vertical_flat s u.b forward l).0 piece.second_on))))
+    (rectilinear s line))
 
 -- ----
 
 module _ {C : Type 0} {kind : Counting C} (laws : IsCounting kind) (precision : Precision) (k : ℕ) (es : List (Entry C)) (h : IsNormal kind es)
-    (whole : (s : Edge) → Contains (edges_of es) s → is_level_or_upright s ≡ true → MeetsAllWhole (edges_of es) s) where
+    (whole : (s : Edge) → Contains (edges_of es) s → is_rectilinear s ≡ true → MeetsAllWhole (edges_of es) s) where
   abbrev is_line : Entry C → Bool
-  is_line e = is_level_or_upright e.edge
+  is_line e = is_rectilinear e.edge
 
   abbrev cuts : Entry C → List (Entry C)
   cuts e = cut kind (marks_in precision k) (edges_of es) e
@@ -126,17 +126,17 @@ module _ {C : Type 0} {kind : Counting C} (laws : IsCounting kind) (precision : 
             (edges_contain (lines_among es)) at) there)))
             (apart.base e.edge) (All-contains_itself (apart.base e.edge))
 
-    pub first_lines : AllLevelOrUpright (edges_of lines)
-    first_lines = All-weaker (IsPieceOfSome (edges_of (lines_among es))) (λ s. is_level_or_upright s ≡ true) each (edges_of lines) first_pieces
+    pub first_lines : AllRectilinear (edges_of lines)
+    first_lines = All-weaker (IsPieceOfSome (edges_of (lines_among es))) (λ s. is_rectilinear s ≡ true) each (edges_of lines) first_pieces
       where
-        each : (u : Edge) → IsPieceOfSome (edges_of (lines_among es)) u → is_level_or_upright u ≡ true
+        each : (u : Edge) → IsPieceOfSome (edges_of (lines_among es)) u → is_rectilinear u ≡ true
         each u p =
             piece_of_line u p.of p.piece
             (All-contains (λ s. is_before s.a s.b ≡ true) (edges_of (lines_among es)) p.of
             (All-map (λ s. is_before s.a s.b ≡ true) (λ (e : Entry C). e.edge) (lines_among es)
             (All-filter is_line (λ e. is_before e.edge.a e.edge.b ≡ true) es h.directed)) p.listed)
-            (All-contains (λ s. is_level_or_upright s ≡ true) (edges_of (lines_among es)) p.of
-            (All-map (λ s. is_level_or_upright s ≡ true) (λ (e : Entry C). e.edge) (lines_among es) (filter_passes is_line es)) p.listed)
+            (All-contains (λ s. is_rectilinear s ≡ true) (edges_of (lines_among es)) p.of
+            (All-map (λ s. is_rectilinear s ≡ true) (λ (e : Entry C). e.edge) (lines_among es) (filter_passes is_line es)) p.listed)
 
     first_directed : IsDirected lines
     first_directed i d l =

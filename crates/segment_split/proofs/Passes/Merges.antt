@@ -16,7 +16,7 @@ use Rattle.segment_split.specs.Passes.{edges_of}
 use Rattle.segment_split.specs.MarkLists.{IsTold}
 use Rattle.segment_split.specs.Merging.{IsMap, Clashes}
 use Rattle.segment_split.specs.Refusals.{counts_on, all_joined, IsOverfull}
-use Rattle.segment_split.proofs.Redrawing.Neighbours.{normal_of_first, normal_of_level, counts_append}
+use Rattle.segment_split.proofs.Redrawing.Neighbours.{normal_of_first, normal_of_horizontal, counts_append}
 use Rattle.segment_split.proofs.Passes.Skips.{told_run}
 use Rattle.plane_base.proofs.Facts.Lists.Cycles.{All-front, All-back}
 
@@ -86,7 +86,7 @@ module _ {C : Type 0} {kind : Counting C} (laws : IsCounting kind) where
   both_first e f es fs h k level one is =
       sym (normal_permutation laws ((e ∷ es) ++ (f ∷ fs)) (f ∷ ((e ∷ es) ++ fs)) (permuted_to_front (e ∷ es) f fs))
       ∙ (sym (normal_permutation laws (f ∷ (e ∷ (es ++ fs))) (e ∷ (f ∷ (es ++ fs))) (permuted_to_front (f ∷ []) e (es ++ fs)))
-      ∙ (normal_of_level laws e f (es ++ fs) level
+      ∙ (normal_of_horizontal laws e f (es ++ fs) level
       ∙ (normal_of_first kind (record { edge = e.edge; count = kind.join e.count f.count }) (es ++ fs) (All-append (IsAbove e.edge) es fs (rising_above e es h.rising) after)
       ∙ ap (λ o. unless_empty kind o [] ++ normal kind (es ++ fs)) (sym is))))
     where

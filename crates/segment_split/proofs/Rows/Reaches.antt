@@ -136,7 +136,7 @@ module _ (es : List Edge) (rising : AllPairs (λ s t. edge_order s t ≡ Less) e
 
 -- ---- runs
 
--- an upright edge ends every run
+-- a vertical edge ends every run
 pub run_none : (es : List Edge) (j r : ℕ) → j < r → IsRun es j r
 run_none es j r l k u t at there h m = absurd (omega (arith, l, h, m))
 

@@ -50,7 +50,7 @@ taxicab_nowhere u = sum _ _ (none u.x) (none u.y)
     none x = omega (arith, ints)
 
 pub taxicab_positive : (u v : Point) → u ≢ v → 1 ≤ taxicab (step u v)
-taxicab_positive u v differ = some (taxicab (step u v)) (λ e. differ (λ i. record { x = level_x e i; y = level_y e i }))
+taxicab_positive u v differ = some (taxicab (step u v)) (λ e. differ (λ i. record { x = horizontal_x e i; y = horizontal_y e i }))
   where
     some : (n : ℕ) → n ≢ 0 → 1 ≤ n
     some n h = omega arith
@@ -61,11 +61,11 @@ taxicab_positive u v differ = some (taxicab (step u v)) (λ e. differ (λ i. rec
     other : (x y : ℤ) (m : ℕ) → m + unsigned_abs (y -ℤ x) ≡ 0 → x ≡ y
     other x y m e = omega (arith, ints)
 
-    level_x : taxicab (step u v) ≡ 0 → u.x ≡ v.x
-    level_x e = level u.x v.x (unsigned_abs (v.y -ℤ u.y)) e
+    horizontal_x : taxicab (step u v) ≡ 0 → u.x ≡ v.x
+    horizontal_x e = level u.x v.x (unsigned_abs (v.y -ℤ u.y)) e
 
-    level_y : taxicab (step u v) ≡ 0 → u.y ≡ v.y
-    level_y e = other u.y v.y (unsigned_abs (v.x -ℤ u.x)) e
+    horizontal_y : taxicab (step u v) ≡ 0 → u.y ≡ v.y
+    horizontal_y e = other u.y v.y (unsigned_abs (v.x -ℤ u.x)) e
 
 -- ---- the steps of a path
 

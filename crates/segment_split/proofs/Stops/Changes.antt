@@ -105,11 +105,11 @@ turned_about x y b t = by (int_eq x y) refl ∙ t
     by d k = grind (arith, ints)
 
 module _ (e : Entry Count) where
-  upright_row : (y : ℤ) → int_eq e.edge.a.x e.edge.b.x ≡ true → in_row y e ≡ false
-  upright_row y u = ap (λ (b : Bool). cond b false (int_eq e.edge.a.y y)) u
+  vertical_row : (y : ℤ) → int_eq e.edge.a.x e.edge.b.x ≡ true → in_row y e ≡ false
+  vertical_row y u = ap (λ (b : Bool). cond b false (int_eq e.edge.a.y y)) u
 
-  level_row : (y : ℤ) (b : Bool) → int_eq e.edge.a.x e.edge.b.x ≡ false → int_eq e.edge.a.y y ≡ b → in_row y e ≡ b
-  level_row y b u t = ap (λ (b : Bool). cond b false (int_eq e.edge.a.y y)) u ∙ t
+  horizontal_row : (y : ℤ) (b : Bool) → int_eq e.edge.a.x e.edge.b.x ≡ false → int_eq e.edge.a.y y ≡ b → in_row y e ≡ b
+  horizontal_row y b u t = ap (λ (b : Bool). cond b false (int_eq e.edge.a.y y)) u ∙ t
 
   pub all_come : (gone come : List (Entry Count)) (lines : LinesView) → length come + 1 < 2 ^ 64 → AllRun gone come lines → AllRun gone (e ∷ come) (at_line e.edge (changed true e.count) lines)
   all_come gone come lines few h = by (int_eq e.edge.a.x e.edge.b.x) refl
@@ -117,14 +117,14 @@ module _ (e : Entry Count) where
       by : (b : Bool) → int_eq e.edge.a.x e.edge.b.x ≡ b
           → AllRun gone (e ∷ come) (record { rows = cond b lines.rows (at_height e.edge.a.y (changed true e.count) lines.rows); column = cond b (changed true e.count lines.column) lines.column })
       by true u = record {
-        rows = All-weaker (λ r. Runs (in_row r.y) gone come r.line) (λ r. Runs (in_row r.y) gone (e ∷ come) r.line) (λ r k. passes_by (in_row r.y) gone come r.line k e (upright_row r.y u)) lines.rows h.rows;
+        rows = All-weaker (λ r. Runs (in_row r.y) gone come r.line) (λ r. Runs (in_row r.y) gone (e ∷ come) r.line) (λ r k. passes_by (in_row r.y) gone come r.line k e (vertical_row r.y u)) lines.rows h.rows;
         column = comes in_column gone come lines.column h.column e few u;
       }
       by false u = record {
         rows =
             changed_rows (λ r. Runs (in_row r.y) gone come r.line) (λ r. Runs (in_row r.y) gone (e ∷ come) r.line) e.edge.a.y (changed true e.count) lines.rows
-            (λ r k t. comes (in_row r.y) gone come r.line k e few (level_row r.y true u (turned_about e.edge.a.y r.y true t)))
-            (λ r k t. passes_by (in_row r.y) gone come r.line k e (level_row r.y false u (turned_about e.edge.a.y r.y false t)))
+            (λ r k t. comes (in_row r.y) gone come r.line k e few (horizontal_row r.y true u (turned_about e.edge.a.y r.y true t)))
+            (λ r k t. passes_by (in_row r.y) gone come r.line k e (horizontal_row r.y false u (turned_about e.edge.a.y r.y false t)))
             h.rows;
         column = passes_by in_column gone come lines.column h.column e u;
       }
@@ -137,14 +137,14 @@ module _ (e : Entry Count) where
           → AllRun (e ∷ gone) come
           (record { rows = cond b lines.rows (at_height e.edge.a.y (changed false (boolean.turned e.count)) lines.rows); column = cond b (changed false (boolean.turned e.count) lines.column) lines.column })
       by true u = record {
-        rows = All-weaker (λ r. Runs (in_row r.y) gone come r.line) (λ r. Runs (in_row r.y) (e ∷ gone) come r.line) (λ r k. leaves_it (in_row r.y) gone come r.line k e (upright_row r.y u)) lines.rows h.rows;
+        rows = All-weaker (λ r. Runs (in_row r.y) gone come r.line) (λ r. Runs (in_row r.y) (e ∷ gone) come r.line) (λ r k. leaves_it (in_row r.y) gone come r.line k e (vertical_row r.y u)) lines.rows h.rows;
         column = goes in_column gone come lines.column h.column e (few in_column) u;
       }
       by false u = record {
         rows =
             changed_rows (λ r. Runs (in_row r.y) gone come r.line) (λ r. Runs (in_row r.y) (e ∷ gone) come r.line) e.edge.a.y (changed false (boolean.turned e.count)) lines.rows
-            (λ r k t. goes (in_row r.y) gone come r.line k e (few (in_row r.y)) (level_row r.y true u (turned_about e.edge.a.y r.y true t)))
-            (λ r k t. leaves_it (in_row r.y) gone come r.line k e (level_row r.y false u (turned_about e.edge.a.y r.y false t)))
+            (λ r k t. goes (in_row r.y) gone come r.line k e (few (in_row r.y)) (horizontal_row r.y true u (turned_about e.edge.a.y r.y true t)))
+            (λ r k t. leaves_it (in_row r.y) gone come r.line k e (horizontal_row r.y false u (turned_about e.edge.a.y r.y false t)))
             h.rows;
         column = leaves_it in_column gone come lines.column h.column e u;
       }

@@ -8,14 +8,14 @@ use Rattle.std.proofs.lemmas.List.Elements.{All-head, All-tail}
 use Rattle.plane_base.specs.Plane.{Point, Edge}
 use Rattle.plane_base.specs.Counts.{Count, Entry, boolean, IsNormal}
 use Rattle.plane_base.proofs.Facts.Maps.Normal.{AllPairs-head, AllPairs-tail}
-use Rattle.segment_split.specs.Ranks.{is_member}
+use Rattle.segment_split.specs.PlaceSet.{is_member}
 use Rattle.segment_split.specs.Redrawing.{MarksInPass}
 use Rattle.segment_split.specs.SecondEnds.{nowhere, ended, CanBeSwept, AreAllAt, HaveRows, AreRunning, IsCounted}
 use Rattle.segment_split.specs.Stops.{LineView, RowView, LinesView, AreRising, heights_in, IsPlaceOf, IsAt, IsPlaceAbove, changed, stopped, at_height, at_line, all_changed, visited, bare, line_at, steps_from}
 use Rattle.segment_split.specs.Sweeps.{is_met, first_of, Swept, Crosses, IsSwept, IsGreatestEnd}
-use Rattle.segment_split.specs.declared.level.cut.Running.{Running}
-use Rattle.segment_split.specs.declared.level.ends.Left.{Left}
-use Rattle.segment_split.specs.declared.level.ends.SecondEnd.{SecondEnd}
+use Rattle.segment_split.specs.declared.lines.cut.Running.{Running}
+use Rattle.segment_split.specs.declared.lines.ends.Left.{Left}
+use Rattle.segment_split.specs.declared.lines.ends.SecondEnd.{SecondEnd}
 use Rattle.segment_split.specs.declared.solver.Precision.{Precision}
 use Rattle.segment_split.proofs.Stops.Counting.{met_key}
 use Rattle.segment_split.proofs.Stops.Crossings.{key_row}
@@ -124,16 +124,16 @@ module _ (lines : LinesView) (old new : Running) (are : AreRunning lines old) wh
   visited_runs p = record { rows = are.rows ∙ sym (counts_stay p.y p lines.rows); column = are.column; places = are.places }
 
   module _ (e : Edge) (more : Bool) (c : Count) (g : ℕ → ℕ) (same : (l : LineView) → (changed more c l).running ≡ g l.running) where
-    pub upright_runs : int_eq e.a.x e.b.x ≡ true → new.rows.items ≡ old.rows.items → new.places ≡ old.places → new.column ≡ g old.column → AreRunning (at_line e (changed more c) lines) new
-    upright_runs u rows places column = record {
+    pub vertical_runs : int_eq e.a.x e.b.x ≡ true → new.rows.items ≡ old.rows.items → new.places ≡ old.places → new.column ≡ g old.column → AreRunning (at_line e (changed more c) lines) new
+    vertical_runs u rows places column = record {
       rows = rows ∙ (are.rows ∙ sym (ap (λ (b : Bool). running_in (cond b lines.rows (at_height e.a.y (changed more c) lines.rows))) u));
       column = column ∙ (ap g are.column ∙ (sym (same lines.column) ∙ sym (ap (λ (b : Bool). (cond b (changed more c lines.column) lines.column).running) u)));
       places = places ∙ (are.places ∙ ap (map (nat_lt 0)) (sym rows));
     }
 
-    pub level_runs : int_eq e.a.x e.b.x ≡ false → AreRising lines.rows → (place : ℕ) → IsAt e.a.y (heights_in lines.rows) place → (n : ℕ) → n ≡ g (get_or old.rows.items place 0)
+    pub horizontal_runs : int_eq e.a.x e.b.x ≡ false → AreRising lines.rows → (place : ℕ) → IsAt e.a.y (heights_in lines.rows) place → (n : ℕ) → n ≡ g (get_or old.rows.items place 0)
         → new.rows.items ≡ set old.rows.items place n → new.places ≡ set old.places place (nat_lt 0 n) → new.column ≡ old.column → AreRunning (at_line e (changed more c) lines) new
-    level_runs u rising place at n told rows places column = record {
+    horizontal_runs u rising place at n told rows places column = record {
       rows =
           rows
           ∙ (ap₂ (λ l m. set l place m) are.rows (told ∙ ap (λ l. g (get_or l place 0)) are.rows)
@@ -303,7 +303,7 @@ module _ {I : Type 0} (value : I → ℤ) (es : List (Entry Count)) (ends : List
     lines = lines_come;
     laid = is.laid ++ steps_from p full;
     swept =
-        onward es (take left.starts es) (take left.ends (ended es ends)) full is.laid false 0 0 is.swept p greatest full is.laid 0 false (counted_crosses es ends heights left old is p low above free) sound.order sound.level sound.few
+        onward es (take left.starts es) (take left.ends (ended es ends)) full is.laid false 0 0 is.swept p greatest full is.laid 0 false (counted_crosses es ends heights left old is p low above free) sound.order sound.rectilinear sound.few
         (take starts es) (drop starts (take left.starts es)) (take ends_left (ended es ends)) (drop ends_left (take left.ends (ended es ends)))
         (taken_apart es starts left.starts gone.within) gone.at gone.none
         (taken_apart (ended es ends) ends_left left.ends come.within) come.at come.none
@@ -345,5 +345,5 @@ module _ {I : Type 0} (value : I → ℤ) (es : List (Entry Count)) (ends : List
   pub counted_last : IsNormal boolean es → left.starts ≡ 0 → IsCounted es ends (heights_in lines.rows) left running → (precision : Precision) → ((k : ℕ) × MarksInPass boolean precision es k) → ⊥
   counted_last h none is precision some =
       false≢true
-      ((ends_marked es (take left.ends (ended es ends)) is.lines is.laid false 0 0 h sound.level
+      ((ends_marked es (take left.ends (ended es ends)) is.lines is.laid false 0 0 h sound.rectilinear
       (subst (λ n. IsSwept es (take n es) (take left.ends (ended es ends)) is.lines is.laid false 0 0) none is.swept) precision).1 some)

@@ -11,11 +11,11 @@ use Rattle.plane_base.specs.Counts.{Count, Entry, boolean}
 use Rattle.plane_base.specs.Totals.{total}
 use Rattle.plane_base.proofs.Facts.Points.Orders.{point_less_x, point_less_by_x, point_less_by_y}
 use Rattle.segment_split.specs.Passes.{edges_of}
-use Rattle.segment_split.specs.LineLaws.{AllLevelOrUpright, is_part, count_along, sum_along, SpansLevel, SpansUp, IsEndOfSome, IsCrossing, right_of, above, CountsFrom}
+use Rattle.segment_split.specs.LineLaws.{AllRectilinear, is_part, count_along, sum_along, SpansHorizontal, SpansUp, IsEndOfSome, IsCrossing, right_of, above, CountsFrom}
 use Rattle.segment_split.specs.Stops.{RowView, LinesView}
 use Rattle.segment_split.specs.Sweeps.{AreInOrder, in_column, in_row, subject_if, clip_if, Runs, is_met, reached, IsBefore, Swept}
 use Rattle.segment_split.proofs.Spread.Lists.{edges_contain}
-use Rattle.segment_split.proofs.Whole.LevelEdges.{IsLevel}
+use Rattle.segment_split.proofs.Whole.RectilinearEdges.{IsHorizontal}
 use Rattle.segment_split.proofs.Whole.Coordinates.{less_by_x, less_by_y, cut_by_coordinates}
 use Rattle.segment_split.proofs.Whole.SumsAlong.{adds_along}
 use Rattle.segment_split.proofs.Stops.Rows.{same_height, other_height}
@@ -79,7 +79,7 @@ nothing_along es t test u both parts c none subject clip = adds_along es u ∙ a
     sum : c ≡ sum_along es u
     sum = let m = sum_is es t test u both parts (λ e. e.count.subject) c.subject subject in let n = sum_is es t test u both parts (λ e. e.count.clip) c.clip clip in λ i. record { subject = m i; clip = n i }
 
-module _ (es : List (Entry Count)) (h : AreInOrder es) (all : AllLevelOrUpright (edges_of es)) (t : Option Point) (ps : List Point) (before gone ahead come : List (Entry Count))
+module _ (es : List (Entry Count)) (h : AreInOrder es) (all : AllRectilinear (edges_of es)) (t : Option Point) (ps : List Point) (before gone ahead come : List (Entry Count))
     (lines : LinesView) (laid : List (Entry Count)) (marked : Bool) (swept : Swept es t ps before gone ahead come lines laid marked)
     (p : Point) (last : (r : Point) → IsEndOfSome (edges_of es) r → reached t r ≡ false → is_le (point_order r p) ≡ true) where
   both : All (λ e. reached t e.edge.a ≡ true → reached t e.edge.b ≡ true) es
@@ -136,8 +136,8 @@ module _ (es : List (Entry Count)) (h : AreInOrder es) (all : AllLevelOrUpright 
         s : Edge
         s = e.edge
 
-        spans : (is_part row_step s ≡ true) ↔ SpansLevel s row_step
-        spans = (cut_by_coordinates boolean).level_part row_step s one_right (directed es h all t ps swept.stops s at) refl
+        spans : (is_part row_step s ≡ true) ↔ SpansHorizontal s row_step
+        spans = (cut_by_coordinates boolean).horizontal_part row_step s one_right (directed es h all t ps swept.stops s at) refl
 
         forth : is_part row_step s ≡ true → runs_at t (in_row r.y) e ≡ true
         forth part =
@@ -148,14 +148,14 @@ module _ (es : List (Entry Count)) (h : AreInOrder es) (all : AllLevelOrUpright 
             wide : (a x b : ℤ) → a ≤ℤ x → (x +ℤ pos 1) ≤ℤ b → a ≡ b → ⊥
             wide a x b l m e = omega (arith, ints, l, m, e)
 
-            first_not : SpansLevel s row_step → (b : Bool) → reached t s.a ≡ b → b ≡ false
+            first_not : SpansHorizontal s row_step → (b : Bool) → reached t s.a ≡ b → b ≡ false
             first_not k false f = refl
             first_not k true f = absurd (clash s.a.x r.x k.from (less_by_x r s.a (sym k.first) (after s.a (s, at, inl refl) f)))
 
             short : (b p x : ℤ) → b ≤ℤ p → x ≡ p → (x +ℤ pos 1) ≤ℤ b → ⊥
             short b p x l e m = omega (arith, ints, l, e, m)
 
-            second_is : SpansLevel s row_step → (b : Bool) → reached t s.b ≡ b → b ≡ true
+            second_is : SpansHorizontal s row_step → (b : Bool) → reached t s.b ≡ b → b ≡ true
             second_is k true f = refl
             second_is k false f = absurd (short s.b.x p.x r.x (le_x s.b p (last s.b (s, at, inr refl) f)) place k.to)
 
@@ -170,7 +170,7 @@ module _ (es : List (Entry Count)) (h : AreInOrder es) (all : AllLevelOrUpright 
             by : reached t s.a ≡ false → reached t s.b ≡ true → (b : Bool) → int_eq s.a.x s.b.x ≡ b → cond b false (int_eq s.a.y r.y) ≡ true → is_part row_step s ≡ true
             by f g true w k = absurd (false≢true k)
             by f g false w k =
-                let level : IsLevel s = ⊎_elim (λ v. v) (λ v. absurd (false≢true (sym w ∙ same_height s.a.x s.b.x v))) (way es h all t ps swept.stops s at) in
+                let level : IsHorizontal s = ⊎_elim (λ v. v) (λ v. absurd (false≢true (sym w ∙ same_height s.a.x s.b.x v))) (way es h all t ps swept.stops s at) in
                 let height = (Decides-int_eq s.a.y r.y).0 k in
                 let second = sym level ∙ height in
                 spans.1 (record {
@@ -187,7 +187,7 @@ module _ (es : List (Entry Count)) (h : AreInOrder es) (all : AllLevelOrUpright 
         s = e.edge
 
         spans : (is_part up_step s ≡ true) ↔ SpansUp s up_step
-        spans = (cut_by_coordinates boolean).upright_part up_step s one_up (directed es h all t ps swept.stops s at) refl
+        spans = (cut_by_coordinates boolean).vertical_part up_step s one_up (directed es h all t ps swept.stops s at) refl
 
         forth : is_part up_step s ≡ true → runs_at t in_column e ≡ true
         forth part =
@@ -208,15 +208,15 @@ module _ (es : List (Entry Count)) (h : AreInOrder es) (all : AllLevelOrUpright 
         back : runs_at t in_column e ≡ true → is_part up_step s ≡ true
         back runs =
             let k = three_tell (reached t s.a) (reached t s.b) (in_column e) runs in
-            let upright = (Decides-int_eq s.a.x s.b.x).0 k.1.1 in
+            let vertical = (Decides-int_eq s.a.x s.b.x).0 k.1.1 in
             let lower = last s.a (s, at, inl refl) k.0 in
             let upper = after s.b (s, at, inr refl) k.1.0 in
-            let x = squeezed s.a.x s.b.x p.x r.x upright (le_x s.a p lower) (point_less_x r s.b upper) place in
+            let x = squeezed s.a.x s.b.x p.x r.x vertical (le_x s.a p lower) (point_less_x r s.b upper) place in
             spans.1 (record {
               first = x;
-              second = sym upright ∙ x;
+              second = sym vertical ∙ x;
               from = below s.a.y p.y r.y (le_y s.a p (x ∙ place) lower) higher;
-              to = further r.y s.b.y (less_by_y r s.b (sym x ∙ upright) upper);
+              to = further r.y s.b.y (less_by_y r s.b (sym x ∙ vertical) upper);
             })
           where
             squeezed : (a b p r : ℤ) → a ≡ b → a ≤ℤ p → r ≤ℤ b → r ≡ p → a ≡ r

@@ -7,7 +7,7 @@ use Rattle.plane_base.specs.Plane.{Point, Edge, point_order}
 use Rattle.plane_base.specs.Counts.{Count, Entry}
 use Rattle.plane_base.proofs.Facts.Points.Orders.{point_total, point_less_x, point_less_by_x, point_less_by_y}
 use Rattle.segment_split.specs.Passes.{edges_of}
-use Rattle.segment_split.specs.LineLaws.{AllLevelOrUpright, PassesUpThrough, PassesLevelThrough, IsEndOfSome}
+use Rattle.segment_split.specs.LineLaws.{AllRectilinear, PassesUpThrough, PassesHorizontalThrough, IsEndOfSome}
 use Rattle.segment_split.specs.Stops.{RowView, LinesView}
 use Rattle.segment_split.specs.Sweeps.{AreInOrder, in_column, in_row, Runs, IsStop, reached, IsBefore, Swept}
 use Rattle.segment_split.proofs.Stops.Rows.{other_height, same_height}
@@ -36,7 +36,7 @@ pub record IsBetween (lines : LinesView) (p r : Point) : Type 0 where
   pub place : r.x ≡ p.x
   pub above : p.y <ℤ r.y
 
-module _ (es : List (Entry Count)) (h : AreInOrder es) (all : AllLevelOrUpright (edges_of es)) (t : Option Point) (ps : List Point) (before gone ahead come : List (Entry Count))
+module _ (es : List (Entry Count)) (h : AreInOrder es) (all : AllRectilinear (edges_of es)) (t : Option Point) (ps : List Point) (before gone ahead come : List (Entry Count))
     (lines : LinesView) (laid : List (Entry Count)) (marked : Bool) (swept : Swept es t ps before gone ahead come lines laid marked)
     (p : Point) (last : (r : Point) → IsEndOfSome (edges_of es) r → reached t r ≡ false → is_le (point_order r p) ≡ true) where
   pub row_runs : (r : RowView) → Contains lines.rows r → Runs (in_row r.y) gone come r.line
@@ -60,7 +60,7 @@ module _ (es : List (Entry Count)) (h : AreInOrder es) (all : AllLevelOrUpright 
       absurd
       (⊎_elim (λ k. not_itself r (behind_is ps r r behind k.1)) (λ k. le_not r p (last r end k.0) l) (swept.stops.ends r end))
   between r (inr (up, level)) behind l = record {
-    open_column = key_column (record { key = upright.0; listed = upright.1; passes = ap (λ s. int_eq s.a.x s.b.x) upright.2 ∙ same_height u.a.x u.b.x (through.first ∙ sym through.second); first = ap (λ s. reached t s.a) upright.2 ∙ u_first; second = ap (λ s. reached t s.b) upright.2 ∙ u_second });
+    open_column = key_column (record { key = vertical.0; listed = vertical.1; passes = ap (λ s. int_eq s.a.x s.b.x) vertical.2 ∙ same_height u.a.x u.b.x (through.first ∙ sym through.second); first = ap (λ s. reached t s.a) vertical.2 ∙ u_first; second = ap (λ s. reached t s.b) vertical.2 ∙ u_second });
     row = row.0;
     listed = row.1;
     open_row = key_row row.0 row.1 (record { key = flat.0; listed = flat.1; passes = in_it; first = ap (λ s. reached t s.a) flat.2 ∙ v_first; second = ap (λ s. reached t s.b) flat.2 ∙ v_second });
@@ -78,11 +78,11 @@ module _ (es : List (Entry Count)) (h : AreInOrder es) (all : AllLevelOrUpright 
       through : PassesUpThrough u r
       through = up.2
 
-      along : PassesLevelThrough v r
+      along : PassesHorizontalThrough v r
       along = level.2
 
-      upright : (e : Entry Count) × Contains es e × (e.edge ≡ u)
-      upright = mapped_from (λ e. e.edge) es u up.1
+      vertical : (e : Entry Count) × Contains es e × (e.edge ≡ u)
+      vertical = mapped_from (λ e. e.edge) es u up.1
 
       flat : (e : Entry Count) × Contains es e × (e.edge ≡ v)
       flat = mapped_from (λ e. e.edge) es v level.1

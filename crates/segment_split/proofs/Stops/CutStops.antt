@@ -6,13 +6,13 @@ use Rattle.std.proofs.lemmas.List.Elements.{All-contains}
 use Rattle.plane_base.specs.Plane.{Point}
 use Rattle.plane_base.specs.Counts.{Count, Entry}
 use Rattle.segment_split.specs.Passes.{edges_of}
-use Rattle.segment_split.specs.Ranks.{is_member}
+use Rattle.segment_split.specs.PlaceSet.{is_member}
 use Rattle.segment_split.specs.SecondEnds.{entry_at, ended, CanBeSwept, AreAllAt, HaveRows, AreRunning, HasStopInside, IsCounted}
 use Rattle.segment_split.specs.Stops.{RowView, LinesView, heights_in, end_of, stopped, IsPlaceOf, IsAt, IsPlaceAbove, all_changed, visited, line_at, steps_from}
 use Rattle.segment_split.specs.Sweeps.{in_row, first_of, IsStop, IsSomeInside, IsNextEnd, IsSwept, IsGreatestEnd}
-use Rattle.segment_split.specs.declared.level.cut.Running.{Running}
-use Rattle.segment_split.specs.declared.level.ends.Left.{Left}
-use Rattle.segment_split.specs.declared.level.ends.SecondEnd.{SecondEnd}
+use Rattle.segment_split.specs.declared.lines.cut.Running.{Running}
+use Rattle.segment_split.specs.declared.lines.ends.Left.{Left}
+use Rattle.segment_split.specs.declared.lines.ends.SecondEnd.{SecondEnd}
 use Rattle.segment_split.proofs.Stops.Counted.{line_is, rows_changed, visited_runs, counted_crosses, rows_visited}
 use Rattle.segment_split.proofs.Stops.Crossings.{column_key, row_key}
 use Rattle.segment_split.proofs.Stops.Events.{is_crossing, c_inside, all_heights}
@@ -66,8 +66,8 @@ module _ {I : Type 0} (value : I → ℤ) (es : List (Entry Count)) (ends : List
 
       none : first_of is.swept.stops ≡ None → ⊥
       none e =
-          let on = column_key es sound.order sound.level is.swept.last is.swept.stops (take left.starts es) is.swept.gone (take left.ends (ended es ends)) is.swept.come full is.laid false is.swept.swept p next.last open_column in
-          empty is.swept.stops e on.key.edge.b (reached_end es sound.order sound.level is.swept.last is.swept.stops is.swept.swept.stops on.key.edge.b (on.key.edge, listed_edge es on.key on.listed, inr refl) on.second)
+          let on = column_key es sound.order sound.rectilinear is.swept.last is.swept.stops (take left.starts es) is.swept.gone (take left.ends (ended es ends)) is.swept.come full is.laid false is.swept.swept p next.last open_column in
+          empty is.swept.stops e on.key.edge.b (reached_end es sound.order sound.rectilinear is.swept.last is.swept.stops is.swept.swept.stops on.key.edge.b (on.key.edge, listed_edge es on.key on.listed, inr refl) on.second)
         where
           empty : (qs : List Point) → first_of qs ≡ None → (r : Point) → Contains qs r → ⊥
           empty [] e r at = contains_no r at
@@ -77,8 +77,8 @@ module _ {I : Type 0} (value : I → ℤ) (es : List (Entry Count)) (ends : List
       by None e = absurd (none e)
       by (Some q) e = (
         record { x = p.x; y = r.y },
-        inr (is_crossing es sound.order sound.level is.swept.last is.swept.stops (take left.starts es) is.swept.gone (take left.ends (ended es ends)) is.swept.come full is.laid false is.swept.swept p next q e open_column r level over under),
-        c_inside es sound.order sound.level is.swept.last is.swept.stops (take left.starts es) is.swept.gone (take left.ends (ended es ends)) is.swept.come full is.laid false is.swept.swept p next q e open_column r level over under,
+        inr (is_crossing es sound.order sound.rectilinear is.swept.last is.swept.stops (take left.starts es) is.swept.gone (take left.ends (ended es ends)) is.swept.come full is.laid false is.swept.swept p next q e open_column r level over under),
+        c_inside es sound.order sound.rectilinear is.swept.last is.swept.stops (take left.starts es) is.swept.gone (take left.ends (ended es ends)) is.swept.come full is.laid false is.swept.swept p next q e open_column r level over under,
       )
         where
           placed : IsPlaceOf q.y heights old.last
@@ -118,7 +118,7 @@ module _ {I : Type 0} (value : I → ℤ) (es : List (Entry Count)) (ends : List
               some n e = ltb-true 0 n e
 
           level : RunsOn es is.swept.last is.swept.last (in_row r.y)
-          level = row_key es sound.order sound.level is.swept.last is.swept.stops (take left.starts es) is.swept.gone (take left.ends (ended es ends)) is.swept.come full is.laid false is.swept.swept p next.last r listed running
+          level = row_key es sound.order sound.rectilinear is.swept.last is.swept.stops (take left.starts es) is.swept.gone (take left.ends (ended es ends)) is.swept.come full is.laid false is.swept.swept p next.last r listed running
 
   -- an end on a line on which an entry runs
   pub end_inside : left.ends ≤ length ends → (place low : ℕ) → IsPlaceOf p.y heights place → IsPlaceAbove p.y heights low → (0 < old.column → (k : ℕ) → low ≤ k → k < old.last → is_member old.places k ≡ false)
@@ -143,7 +143,7 @@ module _ {I : Type 0} (value : I → ℤ) (es : List (Entry Count)) (ends : List
       swept : IsSwept es (take starts es) (take come.0 (ended es ends)) lines_come (is.laid ++ steps_from p full) passed 0 0
       swept =
           onward es (take left.starts es) (take left.ends (ended es ends)) full is.laid false 0 0 is.swept p greatest full is.laid 0 false (counted_crosses es ends heights left old is p low above free)
-          sound.order sound.level sound.few (take starts es) (drop starts (take left.starts es)) (take come.0 (ended es ends)) (drop come.0 (take left.ends (ended es ends)))
+          sound.order sound.rectilinear sound.few (take starts es) (drop starts (take left.starts es)) (take come.0 (ended es ends)) (drop come.0 (take left.ends (ended es ends)))
           (taken_apart es starts left.starts gone.within) gone.at gone.none
           (taken_apart (ended es ends) come.0 left.ends come.1.within) come.1.at come.1.none
           lines_gone lines_come (is.laid ++ steps_from p full) passed refl refl refl refl

@@ -12,7 +12,7 @@ use Rattle.plane_base.specs.declared.fault.Fault.{Fault}
 use Rattle.segment_split.specs.Passes.{edges_of, all_cut, pass_by}
 use Rattle.segment_split.specs.Redrawing.{redrawn, MarksInPass}
 use Rattle.segment_split.specs.Kinds.{count_fits}
-use Rattle.segment_split.specs.LineLaws.{AllLevelOrUpright, IsCrossing}
+use Rattle.segment_split.specs.LineLaws.{AllRectilinear, IsCrossing}
 use Rattle.segment_split.specs.Refusals.{steps_in, IsOverfull, PassesTooMuch, LaysTooMany, IsRefusal, IsRefusalOf}
 use Rattle.segment_split.specs.Rows.{CountsPairsUpTo}
 use Rattle.segment_split.specs.StepBounds.{most_pairs}
@@ -23,7 +23,7 @@ use Rattle.segment_split.specs.declared.solver.Strategy.TheVariants as strategy
 use Rattle.segment_split.proofs.Redrawing.Changes.{normal_length}
 use Rattle.segment_split.proofs.Redrawing.Loops.{redrawn_before}
 use Rattle.segment_split.proofs.Redrawing.Refusals.{handed_on}
-use Rattle.segment_split.proofs.Whole.LevelEdges.{level_meet_whole, level_and_upright_meet_whole}
+use Rattle.segment_split.proofs.Whole.RectilinearEdges.{horizontal_meet_whole, horizontal_and_vertical_meet_whole}
 use Rattle.segment_split.proofs.Whole.Neighbours.{redrawn_by_a_pass}
 use Rattle.segment_split.proofs.Stops.Looks.{ticks_few}
 use Rattle.segment_split.proofs.Stops.Overfull.{steps_late}
@@ -51,7 +51,7 @@ none_ticked es now = (
 )
 
 -- what a sweep laid of entries in order
-module _ (es left : List (Entry Count)) (lines : LinesView) (laid : List (Entry Count)) (marked : Bool) (first now : ℕ) (h : AreInOrder es) (all : AllLevelOrUpright (edges_of es)) (is : IsSwept es [] left lines laid marked first now) where
+module _ (es left : List (Entry Count)) (lines : LinesView) (laid : List (Entry Count)) (marked : Bool) (first now : ℕ) (h : AreInOrder es) (all : AllRectilinear (edges_of es)) (is : IsSwept es [] left lines laid marked first now) where
   pub ends_laid : reverse laid ≡ pass_by boolean late_marks es
   ends_laid = is_laid es h all is.last is.stops is.gone left is.come lines laid marked is.swept
 
@@ -65,12 +65,12 @@ module _ (es left : List (Entry Count)) (lines : LinesView) (laid : List (Entry 
       enough m n k a e b = omega (arith, a, e, b)
 
 -- and of a map
-module _ (es left : List (Entry Count)) (lines : LinesView) (laid : List (Entry Count)) (marked : Bool) (first now : ℕ) (h : IsNormal boolean es) (all : AllLevelOrUpright (edges_of es)) (is : IsSwept es [] left lines laid marked first now) where
+module _ (es left : List (Entry Count)) (lines : LinesView) (laid : List (Entry Count)) (marked : Bool) (first now : ℕ) (h : IsNormal boolean es) (all : AllRectilinear (edges_of es)) (is : IsSwept es [] left lines laid marked first now) where
   pub ends_marked : (precision : Precision) → (marked ≡ true) ↔ ((k : ℕ) × MarksInPass boolean precision es k)
   ends_marked precision = is_marked es h all is.last is.stops is.gone left is.come lines laid marked is.swept precision
 
 -- the sweep's answers as redrawing's
-module _ (es : List (Entry Count)) (h : IsNormal boolean es) (all : AllLevelOrUpright (edges_of es)) where
+module _ (es : List (Entry Count)) (h : IsNormal boolean es) (all : AllRectilinear (edges_of es)) where
   abbrev pieces : List (Entry Count)
   pieces = all_cut boolean late_marks (edges_of es) es
 
@@ -78,7 +78,7 @@ module _ (es : List (Entry Count)) (h : IsNormal boolean es) (all : AllLevelOrUp
       → IfOk r (λ marked. (precision : Precision) → IsNormal boolean es → (marked ≡ true) ↔ ((k : ℕ) × MarksInPass boolean precision es k))
       → IfOk r (λ marked. (precision : Precision) → cond marked laid es ≡ redrawn boolean precision es)
   redrawn_where_marked (Err fault) laid is marks = tt
-  redrawn_where_marked (Ok true) laid is marks = λ precision. is ∙ sym (redrawn_by_a_pass boolean precision es h (level_and_upright_meet_whole boolean es h all))
+  redrawn_where_marked (Ok true) laid is marks = λ precision. is ∙ sym (redrawn_by_a_pass boolean precision es h (horizontal_and_vertical_meet_whole boolean es h all))
   redrawn_where_marked (Ok false) laid is marks = λ precision. redrawn_before boolean precision es es 0 h refl (λ some. false≢true ((marks precision h).1 (0, some)))
 
   pub refused_in_a_pass : (fault : Fault) → IsRefusalOf boolean count_fits pieces fault
@@ -88,7 +88,7 @@ module _ (es : List (Entry Count)) (h : IsNormal boolean es) (all : AllLevelOrUp
       (λ many. (0, subst (λ (l : List (Entry Count)). 2 ^ 31 ≤ length l) (sym (same precision)) many)) refused
     where
       same : (precision : Precision) → steps_in boolean precision es 0 ≡ pieces
-      same = steps_late es (normal_in_order es h) (level_meet_whole es h.directed all)
+      same = steps_late es (normal_in_order es h) (horizontal_meet_whole es h.directed all)
 
   pub ticked_few : (old new : Counts) → (ps : List Point) × Ticked es ps old.pairs new.pairs → new.comparisons ≡ old.comparisons
       → CountsPairsUpTo old new (most_pairs strategy.Auto (edges_of es))

@@ -16,7 +16,7 @@ use Rattle.plane_base.proofs.Facts.Lists.Cycles.{All-front, All-back}
 use Rattle.plane_base.proofs.Facts.Maps.Normal.{AllPairs-nil, AllPairs-cons, AllPairs-head, AllPairs-tail}
 use Rattle.plane_base.proofs.Facts.Points.Orders.{point_total, point_equal, point_itself, point_less, point_less_x, point_less_by_y, before_is_less, less_from_greater}
 use Rattle.segment_split.specs.Passes.{edges_of}
-use Rattle.segment_split.specs.LineLaws.{AllLevelOrUpright, PassesUpThrough, PassesLevelThrough, IsEndOfSome, IsCrossing, CountsFrom, first_by}
+use Rattle.segment_split.specs.LineLaws.{AllRectilinear, PassesUpThrough, PassesHorizontalThrough, IsEndOfSome, IsCrossing, CountsFrom, first_by}
 use Rattle.segment_split.specs.Stops.{LineView, RowView, LinesView, AreRising, changed, count_of, stopped, at_height, at_line, all_changed, visited, bare, line_at, steps_from}
 use Rattle.segment_split.specs.Sweeps.{AreInOrder, in_column, in_row, one_if, Runs, AllRun, IsStop, is_met, reached, IsBefore, Cut, first_of, same_y, IsSomeInside, Swept, IsNextEnd, IsClear}
 use Rattle.segment_split.proofs.Spread.Lists.{edges_contain}
@@ -28,8 +28,8 @@ use Rattle.segment_split.proofs.Stops.Crossings.{mapped_from, IsBetween, column_
 use Rattle.segment_split.proofs.Stops.Counting.{met_between}
 use Rattle.segment_split.proofs.Stops.Visits.{HasRow, row_or_none, laid_at, nexts_at, runs_at_stop}
 use Rattle.segment_split.proofs.Passes.Steps.{contains_head, contains_tail, inside_is, inside_from}
-use Rattle.segment_split.proofs.Whole.LevelEdges.{IsLevel, IsUpright}
-use Rattle.segment_split.proofs.Whole.Coordinates.{level_flat, upright_flat, less_by_x, less_by_y, upright_inside}
+use Rattle.segment_split.proofs.Whole.RectilinearEdges.{IsHorizontal, IsVertical}
+use Rattle.segment_split.proofs.Whole.Coordinates.{horizontal_flat, vertical_flat, less_by_x, less_by_y, vertical_inside}
 use Rattle.segment_split.proofs.Whole.Neighbours.{contained, contains_no, not_itself, not_there_and_back}
 
 pub listed_edge : (es : List (Entry Count)) (e : Entry Count) → Contains es e → Contains (edges_of es) e.edge
@@ -58,7 +58,7 @@ before_first (p ∷ ps) q c e rising l =
     All-cons (λ r. point_order c r ≡ Less) p ps to
     (All-weaker (λ r. point_order p r ≡ Less) (λ r. point_order c r ≡ Less) (λ r m. point_total.trans c p r to m) ps (AllPairs-head (λ p q. point_order p q ≡ Less) p ps rising))
 
-module _ (es : List (Entry Count)) (h : AreInOrder es) (all : AllLevelOrUpright (edges_of es)) (t : Option Point) (ps : List Point) (before gone ahead come : List (Entry Count))
+module _ (es : List (Entry Count)) (h : AreInOrder es) (all : AllRectilinear (edges_of es)) (t : Option Point) (ps : List Point) (before gone ahead come : List (Entry Count))
     (lines : LinesView) (laid : List (Entry Count)) (marked : Bool) (swept : Swept es t ps before gone ahead come lines laid marked) (p : Point) (next : IsNextEnd es t p) where
   pub p_before : IsBefore ps p
   p_before = end_ahead es h all t ps swept.stops p next.own next.ahead
@@ -72,29 +72,29 @@ module _ (es : List (Entry Count)) (h : AreInOrder es) (all : AllLevelOrUpright 
     p_to_q : point_order p q ≡ Less
     p_to_q = behind_is ps p q p_before q_first.0
 
-    abbrev upright : RunsOn es t t in_column
-    upright = column_key es h all t ps before gone ahead come lines laid marked swept p next.last open_column
+    abbrev vertical : RunsOn es t t in_column
+    vertical = column_key es h all t ps before gone ahead come lines laid marked swept p next.last open_column
 
     abbrev u : Edge
-    u = upright.key.edge
+    u = vertical.key.edge
 
     u_listed : Contains (edges_of es) u
-    u_listed = listed_edge es upright.key upright.listed
+    u_listed = listed_edge es vertical.key vertical.listed
 
     u_from : is_le (point_order u.a p) ≡ true
-    u_from = next.last u.a (u, u_listed, inl refl) upright.first
+    u_from = next.last u.a (u, u_listed, inl refl) vertical.first
 
     u_to : is_le (point_order q u.b) ≡ true
-    u_to = q_first.1 u.b (reached_end es h all t ps swept.stops u.b (u, u_listed, inr refl) upright.second)
+    u_to = q_first.1 u.b (reached_end es h all t ps swept.stops u.b (u, u_listed, inr refl) vertical.second)
 
-    u_upright : u.a.x ≡ u.b.x
-    u_upright = (Decides-int_eq u.a.x u.b.x).0 upright.passes
+    u_vertical : u.a.x ≡ u.b.x
+    u_vertical = (Decides-int_eq u.a.x u.b.x).0 vertical.passes
 
     squeezed : (a b p q : ℤ) → a ≡ b → a ≤ℤ p → q ≤ℤ b → p ≤ℤ q → (a ≡ p) × (q ≡ p)
     squeezed a b p q e k l m = (omega (arith, ints, e, k, l, m), omega (arith, ints, e, k, l, m))
 
     pub at_one_x : (u.a.x ≡ p.x) × (q.x ≡ p.x)
-    at_one_x = squeezed u.a.x u.b.x p.x q.x u_upright (le_x u.a p u_from) (le_x q u.b u_to) (point_less_x p q p_to_q)
+    at_one_x = squeezed u.a.x u.b.x p.x q.x u_vertical (le_x u.a p u_from) (le_x q u.b u_to) (point_less_x p q p_to_q)
 
     lower : (a b c : ℤ) → a ≤ℤ b → b <ℤ c → a <ℤ c
     lower a b c k l = omega (arith, ints, k, l)
@@ -121,9 +121,9 @@ module _ (es : List (Entry Count)) (h : AreInOrder es) (all : AllLevelOrUpright 
       up : PassesUpThrough u c
       up = record {
         first = at_one_x.0;
-        second = sym u_upright ∙ at_one_x.0;
+        second = sym u_vertical ∙ at_one_x.0;
         below = lower u.a.y p.y r.y (le_y u.a p at_one_x.0 u_from) over;
-        above = higher r.y q.y u.b.y under (le_y q u.b (at_one_x.1 ∙ (sym at_one_x.0 ∙ u_upright)) u_to);
+        above = higher r.y q.y u.b.y under (le_y q u.b (at_one_x.1 ∙ (sym at_one_x.0 ∙ u_vertical)) u_to);
       }
 
       in_it : (int_eq v.a.x v.b.x ≡ false) × (v.a.y ≡ r.y)
@@ -133,15 +133,15 @@ module _ (es : List (Entry Count)) (h : AreInOrder es) (all : AllLevelOrUpright 
           by true e f = absurd (false≢true f)
           by false e f = (e, (Decides-int_eq v.a.y r.y).0 f)
 
-      v_level : v.a.y ≡ v.b.y
-      v_level = ⊎_elim (λ e. e) (λ e. absurd (false≢true (sym in_it.0 ∙ same_height v.a.x v.b.x e))) (way es h all t ps swept.stops v v_listed)
+      v_horizontal : v.a.y ≡ v.b.y
+      v_horizontal = ⊎_elim (λ e. e) (λ e. absurd (false≢true (sym in_it.0 ∙ same_height v.a.x v.b.x e))) (way es h all t ps swept.stops v v_listed)
 
-      along : PassesLevelThrough v c
+      along : PassesHorizontalThrough v c
       along = record {
         first = in_it.1;
-        second = sym v_level ∙ in_it.1;
+        second = sym v_horizontal ∙ in_it.1;
         left = ⊎_elim (λ l. by_left (point_less v.a p l)) (λ e. absurd (not_level p.y r.y over (sym (ap (λ z. z.y) e) ∙ in_it.1))) (le_tells v.a p v_from);
-        right = ⊎_elim (λ l. by_right (point_less q v.b l)) (λ e. absurd (not_level r.y q.y under (sym in_it.1 ∙ (v_level ∙ sym (ap (λ z. z.y) e))))) (le_tells q v.b v_to);
+        right = ⊎_elim (λ l. by_right (point_less q v.b l)) (λ e. absurd (not_level r.y q.y under (sym in_it.1 ∙ (v_horizontal ∙ sym (ap (λ z. z.y) e))))) (le_tells q v.b v_to);
       }
         where
           not_level : (x y : ℤ) → x <ℤ y → x ≡ y → ⊥
@@ -162,7 +162,7 @@ module _ (es : List (Entry Count)) (h : AreInOrder es) (all : AllLevelOrUpright 
 
           by_right : (q.x <ℤ v.b.x) ⊎ ((q.x ≡ v.b.x) × (q.y <ℤ v.b.y)) → p.x <ℤ v.b.x
           by_right (inl l) = moved q.x p.x v.b.x at_one_x.1 l
-          by_right (inr l) = absurd (not_over v.b.y q.y r.y (sym in_it.1 ∙ v_level) under l.1)
+          by_right (inr l) = absurd (not_over v.b.y q.y r.y (sym in_it.1 ∙ v_horizontal) under l.1)
 
       p_to_c : point_order p c ≡ Less
       p_to_c = point_less_by_y p c refl over
@@ -180,7 +180,7 @@ module _ (es : List (Entry Count)) (h : AreInOrder es) (all : AllLevelOrUpright 
       is_crossing = ((u, u_listed, up), (v, v_listed, along))
 
       pub c_inside : (s : Edge) × Contains (edges_of es) s × (strictly_inside c s ≡ true)
-      c_inside = (u, u_listed, upright_inside u c (directed es h all t ps swept.stops u u_listed) up)
+      c_inside = (u, u_listed, vertical_inside u c (directed es h all t ps swept.stops u u_listed) up)
 
       module _ (clear : All (λ s. r.y <ℤ s.y → s.y <ℤ q.y → is_met lines.column s.line ≡ false) lines.rows) where
         known : (s : Point) → IsCrossing (edges_of es) s → CountsFrom boolean es s → Contains (c ∷ ps) s ⊎ IsBefore (c ∷ ps) s
@@ -302,7 +302,7 @@ module _ (g : Entry Count → Point) (p : Point) where
 
 -- ---- the next end
 
-module _ (es : List (Entry Count)) (h : AreInOrder es) (all : AllLevelOrUpright (edges_of es)) (t : Option Point) (ps : List Point) (before left mid gone ahead left_ends mid_ends come : List (Entry Count))
+module _ (es : List (Entry Count)) (h : AreInOrder es) (all : AllRectilinear (edges_of es)) (t : Option Point) (ps : List Point) (before left mid gone ahead left_ends mid_ends come : List (Entry Count))
     (lines : LinesView) (laid : List (Entry Count)) (marked : Bool) (swept : Swept es t ps before gone ahead come lines laid marked) (p : Point) (next : IsNextEnd es t p) (clear : IsClear p lines ps)
     (starts : before ≡ left ++ mid) (start_here : All (λ e. e.edge.a ≡ p) mid) (start_last : (front : List (Entry Count)) (e : Entry Count) → left ≡ front ++ e ∷ [] → e.edge.a ≢ p)
     (ends : ahead ≡ left_ends ++ mid_ends) (end_here : All (λ e. e.edge.b ≡ p) mid_ends) (end_last : (front : List (Entry Count)) (e : Entry Count) → left_ends ≡ front ++ e ∷ [] → e.edge.b ≢ p)
@@ -529,7 +529,7 @@ module _ (es : List (Entry Count)) (h : AreInOrder es) (all : AllLevelOrUpright 
   second_after e at k = behind_is ps p e.edge.b p_first (reached_end es h all t ps swept.stops e.edge.b (second_end e at) k)
 
   inside_column : RunsOn es (Some p) t in_column → IsSomeInside (edges_of es) (p ∷ ps)
-  inside_column on = (p, contains_head p ps, (s, listed, inside_from p s ((upright_flat s p (directed es h all t ps swept.stops s listed) upright).1 (squeezed s.a.x s.b.x p.x upright (point_less_x s.a p from) (point_less_x p s.b to))) from to))
+  inside_column on = (p, contains_head p ps, (s, listed, inside_from p s ((vertical_flat s p (directed es h all t ps swept.stops s listed) vertical).1 (squeezed s.a.x s.b.x p.x vertical (point_less_x s.a p from) (point_less_x p s.b to))) from to))
     where
       s : Edge
       s = on.key.edge
@@ -537,8 +537,8 @@ module _ (es : List (Entry Count)) (h : AreInOrder es) (all : AllLevelOrUpright 
       listed : Contains (edges_of es) s
       listed = listed_edge es on.key on.listed
 
-      upright : s.a.x ≡ s.b.x
-      upright = (Decides-int_eq s.a.x s.b.x).0 on.passes
+      vertical : s.a.x ≡ s.b.x
+      vertical = (Decides-int_eq s.a.x s.b.x).0 on.passes
 
       from : point_order s.a p ≡ Less
       from = after_first s.a on.first
@@ -562,8 +562,8 @@ module _ (es : List (Entry Count)) (h : AreInOrder es) (all : AllLevelOrUpright 
       by true e f = absurd (false≢true f)
       by false e f = ⊎_elim level (λ v. absurd (false≢true (sym e ∙ same_height s.a.x s.b.x v))) (way es h all t ps swept.stops s listed)
         where
-          level : IsLevel s → IsSomeInside (edges_of es) (p ∷ ps)
-          level v = (p, contains_head p ps, (s, listed, inside_from p s ((level_flat s p (directed es h all t ps swept.stops s listed) v).1 (sym ((Decides-int_eq s.a.y p.y).0 f))) (after_first s.a on.first) (second_after on.key on.listed on.second)))
+          level : IsHorizontal s → IsSomeInside (edges_of es) (p ∷ ps)
+          level v = (p, contains_head p ps, (s, listed, inside_from p s ((horizontal_flat s p (directed es h all t ps swept.stops s listed) v).1 (sym ((Decides-int_eq s.a.y p.y).0 f))) (after_first s.a on.first) (second_after on.key on.listed on.second)))
 
   went_came : All (λ e. is_le (point_order p e.edge.a) ≡ true → reached t e.edge.b ≡ true) es
   went_came = All-weaker (Contains es) (λ e. is_le (point_order p e.edge.a) ≡ true → reached t e.edge.b ≡ true) second_reached es (All-contains_itself es)
@@ -583,7 +583,7 @@ module _ (es : List (Entry Count)) (h : AreInOrder es) (all : AllLevelOrUpright 
   column_tells e = inside_column (some_runs es (Some p) t in_column lines_gone.column.running (half_runs in_column lines_gone.column runs_gone.column) (lt_tells lines_gone.column.running e))
 
   inside_told : (s : Edge) → Contains (edges_of es) s → strictly_inside p s ≡ true → (through_column ≡ true) ⊎ (through_row ≡ true)
-  inside_told s at e = ⊎_elim (λ v. inr (level v)) (λ v. inl (upright v)) (way es h all t ps swept.stops s at)
+  inside_told s at e = ⊎_elim (λ v. inr (level v)) (λ v. inl (vertical v)) (way es h all t ps swept.stops s at)
     where
       k : (turn s.a s.b p ≡ pos 0) × ((point_order s.a p ≡ Less) × (point_order p s.b ≡ Less))
       k = let m = inside_is p s e in (m.0, (m.1, m.2))
@@ -604,17 +604,17 @@ module _ (es : List (Entry Count)) (h : AreInOrder es) (all : AllLevelOrUpright 
           by true f = refl
           by false f = absurd (le_not s.b p (next.last s.b (s, at, inr refl) f) k.1.1)
 
-      upright : IsUpright s → through_column ≡ true
-      upright v =
+      vertical : IsVertical s → through_column ≡ true
+      vertical v =
           lt_from lines_gone.column.running
           (is_running es (Some p) t in_column lines_gone.column.running (half_runs in_column lines_gone.column runs_gone.column) went_came
           (record { key = entry.0; listed = entry.1; passes = ap (λ s. int_eq s.a.x s.b.x) entry.2 ∙ same_height s.a.x s.b.x v; first = first; second = second }))
 
-      level : IsLevel s → through_row ≡ true
+      level : IsHorizontal s → through_row ≡ true
       level v = ⊎_elim there none (row_or_none p.y lines_gone.rows)
         where
           height : p.y ≡ s.a.y
-          height = (level_flat s p forward v).0 k.0
+          height = (horizontal_flat s p forward v).0 k.0
 
           apart : (x y : ℤ) → x <ℤ y → x ≡ y → ⊥
           apart x y l e = omega (arith, ints, l, e)

@@ -9,7 +9,7 @@ use Rattle.plane_base.specs.Counts.{Count, Entry}
 use Rattle.plane_base.proofs.Facts.Crossings.Tests.{both_true}
 use Rattle.plane_base.proofs.Facts.Maps.Normal.{AllPairs-head, AllPairs-tail}
 use Rattle.segment_split.specs.Passes.{edges_of}
-use Rattle.segment_split.specs.LineLaws.{PassesUpThrough, PassesLevelThrough, IsCrossing}
+use Rattle.segment_split.specs.LineLaws.{PassesUpThrough, PassesHorizontalThrough, IsCrossing}
 use Rattle.segment_split.specs.StepBounds.{x_range, share_point, pairs_by, all_pairs, most_by_columns, most_pairs}
 use Rattle.segment_split.specs.Sweeps.{AreInOrder, Ticked}
 use Rattle.segment_split.specs.declared.solver.Strategy.TheVariants as strategy
@@ -56,11 +56,11 @@ pairs_no_more v w (s ∷ es) h =
 abbrev passes_up : Edge → Point → Bool
 passes_up s c = int_eq s.a.x c.x && (int_eq s.b.x c.x && (int_lt s.a.y c.y && int_lt c.y s.b.y))
 
-abbrev passes_level : Edge → Point → Bool
-passes_level s c = int_eq s.a.y c.y && (int_eq s.b.y c.y && (int_lt s.a.x c.x && int_lt c.x s.b.x))
+abbrev passes_horizontal : Edge → Point → Bool
+passes_horizontal s c = int_eq s.a.y c.y && (int_eq s.b.y c.y && (int_lt s.a.x c.x && int_lt c.x s.b.x))
 
 abbrev cross_so : Edge → Edge → Point → Bool
-cross_so s t c = passes_up s c && passes_level t c
+cross_so s t c = passes_up s c && passes_horizontal t c
 
 abbrev cross_at : Edge → Edge → Point → Bool
 cross_at s t c = cross_so s t c || cross_so t s c
@@ -71,8 +71,8 @@ less_is x y l = grind (arith, ints, l)
 up_is : (s : Edge) (c : Point) → PassesUpThrough s c → passes_up s c ≡ true
 up_is s c h = rw (same_height s.a.x c.x h.first, same_height s.b.x c.x h.second, less_is s.a.y c.y h.below, less_is c.y s.b.y h.above) refl
 
-level_is : (s : Edge) (c : Point) → PassesLevelThrough s c → passes_level s c ≡ true
-level_is s c h = rw (same_height s.a.y c.y h.first, same_height s.b.y c.y h.second, less_is s.a.x c.x h.left, less_is c.x s.b.x h.right) refl
+horizontal_is : (s : Edge) (c : Point) → PassesHorizontalThrough s c → passes_horizontal s c ≡ true
+horizontal_is s c h = rw (same_height s.a.y c.y h.first, same_height s.b.y c.y h.second, less_is s.a.x c.x h.left, less_is c.x s.b.x h.right) refl
 
 up_tells : (s : Edge) (c : Point) → passes_up s c ≡ true → PassesUpThrough s c
 up_tells s c e =
@@ -84,8 +84,8 @@ up_tells s c e =
     less : (x y : ℤ) → int_lt x y ≡ true → x <ℤ y
     less x y e = omega (arith, ints, e)
 
-level_tells : (s : Edge) (c : Point) → passes_level s c ≡ true → PassesLevelThrough s c
-level_tells s c e =
+horizontal_tells : (s : Edge) (c : Point) → passes_horizontal s c ≡ true → PassesHorizontalThrough s c
+horizontal_tells s c e =
     let k = both_true (int_eq s.a.y c.y) (int_eq s.b.y c.y && (int_lt s.a.x c.x && int_lt c.x s.b.x)) e in
     let l = both_true (int_eq s.b.y c.y) (int_lt s.a.x c.x && int_lt c.x s.b.x) k.1 in
     let m = both_true (int_lt s.a.x c.x) (int_lt c.x s.b.x) l.1 in
@@ -96,10 +96,10 @@ level_tells s c e =
 
 record CrossSo (s t : Edge) (c : Point) : Type 0 where
   up : PassesUpThrough s c
-  level : PassesLevelThrough t c
+  level : PassesHorizontalThrough t c
 
 so_tells : (s t : Edge) (c : Point) → cross_so s t c ≡ true → CrossSo s t c
-so_tells s t c e = let k = both_true (passes_up s c) (passes_level t c) e in record { up = up_tells s c k.0; level = level_tells t c k.1 }
+so_tells s t c e = let k = both_true (passes_up s c) (passes_horizontal t c) e in record { up = up_tells s c k.0; level = horizontal_tells t c k.1 }
 
 at_tells : (s t : Edge) (c : Point) → cross_at s t c ≡ true → CrossSo s t c ⊎ CrossSo t s c
 at_tells s t c e = by (cross_so s t c) refl e
@@ -108,17 +108,17 @@ at_tells s t c e = by (cross_so s t c) refl e
     by true f g = inl (so_tells s t c f)
     by false f g = inr (so_tells t s c g)
 
-so_at : (s t : Edge) (c : Point) → PassesUpThrough s c → PassesLevelThrough t c → cross_at s t c ≡ true
-so_at s t c up level = ap₂ (λ a b. (a && b) || cross_so t s c) (up_is s c up) (level_is t c level)
+so_at : (s t : Edge) (c : Point) → PassesUpThrough s c → PassesHorizontalThrough t c → cross_at s t c ≡ true
+so_at s t c up level = ap₂ (λ a b. (a && b) || cross_so t s c) (up_is s c up) (horizontal_is t c level)
 
-so_at_other : (s t : Edge) (c : Point) → PassesUpThrough t c → PassesLevelThrough s c → cross_at s t c ≡ true
-so_at_other s t c up level = ap₂ (λ a b. cross_so s t c || (a && b)) (up_is t c up) (level_is s c level) ∙ either (cross_so s t c)
+so_at_other : (s t : Edge) (c : Point) → PassesUpThrough t c → PassesHorizontalThrough s c → cross_at s t c ≡ true
+so_at_other s t c up level = ap₂ (λ a b. cross_so s t c || (a && b)) (up_is t c up) (horizontal_is s c level) ∙ either (cross_so s t c)
   where
     either : (b : Bool) → (b || true) ≡ true
     either true = refl
     either false = refl
 
-both_ways : (s : Edge) (c d : Point) → PassesUpThrough s c → PassesLevelThrough s d → ⊥
+both_ways : (s : Edge) (c d : Point) → PassesUpThrough s c → PassesHorizontalThrough s d → ⊥
 both_ways s c d up level = none s.a.y c.y s.b.y d.y up.below up.above level.first level.second
   where
     none : (a c b d : ℤ) → a <ℤ c → c <ℤ b → a ≡ d → b ≡ d → ⊥
@@ -186,18 +186,18 @@ one_of_points s t (c ∷ cs) rising = by (cross_at s t c) refl (one_of_points s 
         omega (arith, parts, here, shared, none)
 
 -- some pair crosses at a crossing
-some_pair : (c : Point) (es : List Edge) (u v : Edge) → Contains es u → Contains es v → PassesUpThrough u c → PassesLevelThrough v c → 1 ≤ pairs_by (λ s t. cross_at s t c) es
+some_pair : (c : Point) (es : List Edge) (u v : Edge) → Contains es u → Contains es v → PassesUpThrough u c → PassesHorizontalThrough v c → 1 ≤ pairs_by (λ s t. cross_at s t c) es
 some_pair c [] u v at there up level = absurd (contains_no u at)
 some_pair c (s ∷ es) u v at there up level = by (contained s es u at) (contained s es v there) (some_pair c es u v)
   where
-    by : (s ≡ u) ⊎ Contains es u → (s ≡ v) ⊎ Contains es v → (Contains es u → Contains es v → PassesUpThrough u c → PassesLevelThrough v c → 1 ≤ pairs_by (λ s t. cross_at s t c) es)
+    by : (s ≡ u) ⊎ Contains es u → (s ≡ v) ⊎ Contains es v → (Contains es u → Contains es v → PassesUpThrough u c → PassesHorizontalThrough v c → 1 ≤ pairs_by (λ s t. cross_at s t c) es)
         → 1 ≤ count_by (λ t. cross_at s t c) es + pairs_by (λ s t. cross_at s t c) es
-    by (inl e) (inl f) rest = absurd (both_ways u c c up (subst (λ z. PassesLevelThrough z c) (sym f ∙ e) level))
+    by (inl e) (inl f) rest = absurd (both_ways u c c up (subst (λ z. PassesHorizontalThrough z c) (sym f ∙ e) level))
     by (inl e) (inr l) rest =
         let one = some_counted (λ t. cross_at s t c) es v l (so_at s v c (subst (λ z. PassesUpThrough z c) (sym e) up) level) in
         omega (arith, one)
     by (inr k) (inl f) rest =
-        let one = some_counted (λ t. cross_at s t c) es u k (so_at_other s u c up (subst (λ z. PassesLevelThrough z c) (sym f) level)) in
+        let one = some_counted (λ t. cross_at s t c) es u k (so_at_other s u c up (subst (λ z. PassesHorizontalThrough z c) (sym f) level)) in
         omega (arith, one)
     by (inr k) (inr l) rest = let one = rest k l up level in omega (arith, one)
 

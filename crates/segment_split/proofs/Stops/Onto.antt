@@ -6,7 +6,7 @@ use Rattle.plane_base.specs.Plane.{Point, point_order}
 use Rattle.plane_base.proofs.Facts.Maps.Normal.{AllPairs-cons}
 use Rattle.plane_base.specs.Counts.{Count, Entry}
 use Rattle.segment_split.specs.Passes.{edges_of}
-use Rattle.segment_split.specs.LineLaws.{AllLevelOrUpright, IsCrossing}
+use Rattle.segment_split.specs.LineLaws.{AllRectilinear, IsCrossing}
 use Rattle.segment_split.specs.Stops.{LinesView}
 use Rattle.segment_split.specs.Sweeps.{AreInOrder, is_met, IsBefore, Ticked, Swept, IsNextEnd, CrossesOnce, IsDone, Crosses, CrossesSome}
 use Rattle.segment_split.proofs.Passes.Steps.{contains_head, contains_tail}
@@ -17,7 +17,7 @@ use Rattle.plane_base.proofs.Facts.Crossings.Squares.{or_true}
 abbrev pub Comes : Point → LinesView → List (Entry Count) → ℕ → LinesView → List (Entry Count) → ℕ → Bool → Type 0
 Comes p lines laid ticks new_lines new_laid new_ticks crossed =
     (es before gone ahead come : List (Entry Count)) (t : Option Point) (ps : List Point) (marked : Bool)
-    → AreInOrder es → AllLevelOrUpright (edges_of es) → IsNextEnd es t p → Swept es t ps before gone ahead come lines laid marked
+    → AreInOrder es → AllRectilinear (edges_of es) → IsNextEnd es t p → Swept es t ps before gone ahead come lines laid marked
     → (more : List Point) × Swept es t more before gone ahead come new_lines new_laid (marked || crossed) × ((first : ℕ) → Ticked es ps first ticks → Ticked es more first new_ticks)
 
 pub comes_at_first : (p : Point) (lines : LinesView) (laid : List (Entry Count)) (ticks : ℕ) → Comes p lines laid ticks lines laid ticks false

@@ -8,7 +8,7 @@ use Rattle.plane_base.specs.Plane.{Point, point_order}
 use Rattle.plane_base.specs.Counts.{Count, Entry}
 use Rattle.plane_base.proofs.Facts.Lists.Cycles.{All-front}
 use Rattle.segment_split.specs.Passes.{edges_of}
-use Rattle.segment_split.specs.LineLaws.{AllLevelOrUpright, IsEndOfSome}
+use Rattle.segment_split.specs.LineLaws.{AllRectilinear, IsEndOfSome}
 use Rattle.segment_split.specs.Stops.{LinesView, all_changed, visited, line_at, steps_from}
 use Rattle.segment_split.specs.Sweeps.{AreInOrder, reached, Ticked, Swept, IsNextEnd, AreBySeconds, Crosses, CrossesSome, IsSwept, IsGreatestEnd}
 use Rattle.segment_split.proofs.Stops.Crossings.{mapped_from}
@@ -77,7 +77,7 @@ module _ (es before ahead : List (Entry Count)) (lines : LinesView) (laid : List
   or_regrouped true b c = refl
   or_regrouped false b c = refl
 
-  pub onward : (crossed_lines : LinesView) (crossed_laid : List (Entry Count)) (new_ticks : ℕ) (crossed : Bool) → Crosses p lines laid ticks crossed_lines crossed_laid new_ticks crossed → AreInOrder es → AllLevelOrUpright (edges_of es) → length es < 2 ^ 64
+  pub onward : (crossed_lines : LinesView) (crossed_laid : List (Entry Count)) (new_ticks : ℕ) (crossed : Bool) → Crosses p lines laid ticks crossed_lines crossed_laid new_ticks crossed → AreInOrder es → AllRectilinear (edges_of es) → length es < 2 ^ 64
       → (left mid left_ends mid_ends : List (Entry Count)) → before ≡ left ++ mid → All (λ e. e.edge.a ≡ p) mid → ((front : List (Entry Count)) (e : Entry Count) → left ≡ front ++ e ∷ [] → e.edge.a ≢ p)
       → ahead ≡ left_ends ++ mid_ends → All (λ e. e.edge.b ≡ p) mid_ends → ((front : List (Entry Count)) (e : Entry Count) → left_ends ≡ front ++ e ∷ [] → e.edge.b ≢ p)
       → (lines_gone lines_come : LinesView) (new_laid : List (Entry Count)) (passed : Bool) → lines_gone ≡ all_changed false mid (visited p crossed_lines) → lines_come ≡ all_changed true mid_ends lines_gone
@@ -113,11 +113,11 @@ module _ (es before ahead : List (Entry Count)) (lines : LinesView) (laid : List
       through = ap (λ l. nat_lt 0 l.column.running || nat_lt 0 (line_at p.y l.rows).running) (sym e1)
 
   -- what was counted where it stopped
-  pub some_onward : (new_ticks : ℕ) → CrossesSome p lines laid ticks new_ticks → AreInOrder es → AllLevelOrUpright (edges_of es) → (ps : List Point) × Ticked es ps origin new_ticks
+  pub some_onward : (new_ticks : ℕ) → CrossesSome p lines laid ticks new_ticks → AreInOrder es → AllRectilinear (edges_of es) → (ps : List Point) × Ticked es ps origin new_ticks
   some_onward new_ticks some h all = some es before is.gone ahead is.come is.last is.stops marked h all next_end_is is.swept origin is.ticked
 
   pub met_onward : (crossed_lines : LinesView) (crossed_laid : List (Entry Count)) (new_ticks : ℕ) (crossed : Bool) → Crosses p lines laid ticks crossed_lines crossed_laid new_ticks crossed
-      → AreInOrder es → AllLevelOrUpright (edges_of es) → (ps : List Point) × Ticked es ps origin new_ticks
+      → AreInOrder es → AllRectilinear (edges_of es) → (ps : List Point) × Ticked es ps origin new_ticks
   met_onward crossed_lines crossed_laid new_ticks crossed crosses h all =
       let now = crosses es before is.gone ahead is.come is.last is.stops marked h all next_end_is is.swept in
       (now.0, now.3 origin is.ticked)

@@ -18,7 +18,7 @@ use Rattle.segment_split.specs.Paths.{along, path}
 use Rattle.segment_split.specs.Sweeps.{AreInOrder}
 use Rattle.segment_split.specs.Passes.{edges_of, marks_in, marks_on, cut}
 use Rattle.segment_split.specs.WholeLaws.{AllMeetWhole, MeetsAllWhole}
-use Rattle.segment_split.specs.LineLaws.{AllLevelOrUpright, IsCutPoint, is_part, JoinsNeighbours}
+use Rattle.segment_split.specs.LineLaws.{AllRectilinear, IsCutPoint, is_part, JoinsNeighbours}
 use Rattle.segment_split.specs.Refusals.{steps_in, counts_on, all_joined, IsOverfull}
 use Rattle.segment_split.specs.declared.solver.Precision.{Precision}
 use Rattle.segment_split.proofs.Spread.Lists.{IsDirectedEdge, flat_map_same, edges_contain}
@@ -27,7 +27,7 @@ use Rattle.segment_split.proofs.Passes.Steps.{IsRisingPath, IsStep, path_rises, 
 use Rattle.segment_split.proofs.Whole.Marks.{whole_marks_on}
 use Rattle.segment_split.proofs.Whole.Pieces.{directed_edges}
 use Rattle.segment_split.proofs.Whole.CutPoints.{marked_inside, step_is_piece, step_joins, joins_step}
-use Rattle.segment_split.proofs.Whole.Coordinates.{less_by_x, less_by_y, upright_inside, level_inside, level_line, upright_line, cut_by_coordinates}
+use Rattle.segment_split.proofs.Whole.Coordinates.{less_by_x, less_by_y, vertical_inside, horizontal_inside, horizontal_line, vertical_line, cut_by_coordinates}
 use Rattle.segment_split.proofs.Whole.Neighbours.{contained, contains_no, not_itself, behind_at, further, first_step, later_step, step_cases}
 use Rattle.segment_split.proofs.Stops.Permuted.{flat_map_permuted, flat_map_parted}
 
@@ -171,7 +171,7 @@ module _ (es : List (Entry Count)) (h : AreInOrder es) (whole : AllMeetWhole (ed
 
 -- ---- what runs past a pair of neighbours on their line runs along the whole of it
 
-module _ (es : List (Entry Count)) (h : AreInOrder es) (all : AllLevelOrUpright (edges_of es)) (u : Edge) (joins : JoinsNeighbours (edges_of es) u)
+module _ (es : List (Entry Count)) (h : AreInOrder es) (all : AllRectilinear (edges_of es)) (u : Edge) (joins : JoinsNeighbours (edges_of es) u)
     (s : Edge) (at : Contains (edges_of es) s) (forward : is_before s.a s.b ≡ true) (begins : point_order s.a u.b ≡ Less) (ends : point_order u.a s.b ≡ Less) where
   next : point_order u.a u.b ≡ Less
   next = before_is_less u.a u.b joins.forward
@@ -186,9 +186,9 @@ module _ (es : List (Entry Count)) (h : AreInOrder es) (all : AllLevelOrUpright 
       by true e = absurd (none (omega (arith, ints, e)))
       by false e = omega (arith, ints, e)
 
-  pub past_level : u.a.y ≡ u.b.y → s.a.y ≡ u.a.y → s.b.y ≡ u.a.y → is_part u s ≡ true
-  past_level v first second =
-      ((cut_by_coordinates boolean).level_part u s joins.forward forward v).1 (record {
+  pub past_horizontal : u.a.y ≡ u.b.y → s.a.y ≡ u.a.y → s.b.y ≡ u.a.y → is_part u s ≡ true
+  past_horizontal v first second =
+      ((cut_by_coordinates boolean).horizontal_part u s joins.forward forward v).1 (record {
         first = first;
         second = second;
         from = not_over s.a.x u.a.x (λ l. no_end s.a (cut_at s.a first (inl refl)) (inside s.a first l (less_by_x s.a u.b (first ∙ v) begins)));
@@ -196,14 +196,14 @@ module _ (es : List (Entry Count)) (h : AreInOrder es) (all : AllLevelOrUpright 
       })
     where
       cut_at : (p : Point) → p.y ≡ u.a.y → ((p ≡ s.a) ⊎ (p ≡ s.b)) → IsCutPoint (edges_of es) u p
-      cut_at p e end = (level_line es u p h.directed all joins.forward v).1 (e, (s, at, inl end))
+      cut_at p e end = (horizontal_line es u p h.directed all joins.forward v).1 (e, (s, at, inl end))
 
       inside : (p : Point) → p.y ≡ u.a.y → u.a.x <ℤ p.x → p.x <ℤ u.b.x → strictly_inside p u ≡ true
-      inside p e l m = level_inside u p joins.forward (record { first = sym e; second = sym v ∙ sym e; left = l; right = m })
+      inside p e l m = horizontal_inside u p joins.forward (record { first = sym e; second = sym v ∙ sym e; left = l; right = m })
 
-  pub past_upright : u.a.x ≡ u.b.x → s.a.x ≡ s.b.x → is_part u s ≡ true
-  past_upright v w =
-      ((cut_by_coordinates boolean).upright_part u s joins.forward forward v).1 (record {
+  pub past_vertical : u.a.x ≡ u.b.x → s.a.x ≡ s.b.x → is_part u s ≡ true
+  past_vertical v w =
+      ((cut_by_coordinates boolean).vertical_part u s joins.forward forward v).1 (record {
         first = first;
         second = second;
         from = not_over s.a.y u.a.y (λ l. no_end s.a (cut_at s.a first (inl refl)) (inside s.a first l (less_by_y s.a u.b (first ∙ v) begins)));
@@ -220,7 +220,7 @@ module _ (es : List (Entry Count)) (h : AreInOrder es) (all : AllLevelOrUpright 
       second = sym w ∙ first
 
       cut_at : (p : Point) → p.x ≡ u.a.x → ((p ≡ s.a) ⊎ (p ≡ s.b)) → IsCutPoint (edges_of es) u p
-      cut_at p e end = (upright_line es u p h.directed all joins.forward v).1 (e, (s, at, inl end))
+      cut_at p e end = (vertical_line es u p h.directed all joins.forward v).1 (e, (s, at, inl end))
 
       inside : (p : Point) → p.x ≡ u.a.x → u.a.y <ℤ p.y → p.y <ℤ u.b.y → strictly_inside p u ≡ true
-      inside p e l m = upright_inside u p joins.forward (record { first = sym e; second = sym v ∙ sym e; below = l; above = m })
+      inside p e l m = vertical_inside u p joins.forward (record { first = sym e; second = sym v ∙ sym e; below = l; above = m })

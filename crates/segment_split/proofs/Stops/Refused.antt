@@ -17,13 +17,13 @@ use Rattle.plane_base.proofs.Facts.Points.Orders.{point_total, point_itself, bef
 use Rattle.segment_split.specs.Kinds.{count_fits}
 use Rattle.segment_split.specs.Passes.{edges_of}
 use Rattle.segment_split.specs.WholeLaws.{AllMeetWhole}
-use Rattle.segment_split.specs.LineLaws.{AllLevelOrUpright, is_part, JoinsNeighbours}
+use Rattle.segment_split.specs.LineLaws.{AllRectilinear, is_part, JoinsNeighbours}
 use Rattle.segment_split.specs.Refusals.{steps_in, IsOverfull}
 use Rattle.segment_split.specs.Stops.{LinesView, all_changed, visited, bare, line_at}
 use Rattle.segment_split.specs.Sweeps.{AreInOrder, in_column, in_row, one_if, Runs, AllRun, reached, Cut, Swept, IsNextEnd, IsClear, AreBySeconds, Crosses, IsSwept, IsGreatestEnd, line_on, LeavesRange}
 use Rattle.segment_split.specs.declared.solver.Precision.{Precision}
-use Rattle.segment_split.proofs.Whole.LevelEdges.{IsLevel, level_meet_whole}
-use Rattle.segment_split.proofs.Whole.Coordinates.{level_flat, upright_flat}
+use Rattle.segment_split.proofs.Whole.RectilinearEdges.{IsHorizontal, horizontal_meet_whole}
+use Rattle.segment_split.proofs.Whole.Coordinates.{horizontal_flat, vertical_flat}
 use Rattle.segment_split.proofs.Stops.Rows.{IsApart, same_height, same_point, other_point, heights_kept}
 use Rattle.segment_split.proofs.Stops.Changes.{come_all, go_all}
 use Rattle.segment_split.proofs.Stops.Reached.{kept, gone_of, come_of, gone_total, come_total}
@@ -32,7 +32,7 @@ use Rattle.segment_split.proofs.Stops.Crossings.{mapped_from, le_not}
 use Rattle.segment_split.proofs.Stops.Visits.{HasRow, row_or_none, runs_at_stop}
 use Rattle.segment_split.proofs.Stops.Events.{listed_edge, p_before, all_heights, half_cut, runs_gone}
 use Rattle.segment_split.proofs.Stops.Onward.{next_end_is}
-use Rattle.segment_split.proofs.Stops.Overfull.{first_pair, last_pair, overfull_along, past_level, past_upright}
+use Rattle.segment_split.proofs.Stops.Overfull.{first_pair, last_pair, overfull_along, past_horizontal, past_vertical}
 
 -- ---- lists
 
@@ -108,10 +108,10 @@ own_line e = by (int_eq e.edge.a.x e.edge.b.x) refl
     by true f = f
     by false f = ap (λ (b : Bool). cond b false (int_eq e.edge.a.y e.edge.a.y)) f ∙ same_height e.edge.a.y e.edge.a.y refl
 
-module _ (es : List (Entry Count)) (h : AreInOrder es) (all : AllLevelOrUpright (edges_of es)) (t : Option Point) (ps : List Point) (before gone ahead come : List (Entry Count))
+module _ (es : List (Entry Count)) (h : AreInOrder es) (all : AllRectilinear (edges_of es)) (t : Option Point) (ps : List Point) (before gone ahead come : List (Entry Count))
     (lines : LinesView) (laid : List (Entry Count)) (marked : Bool) (swept : Swept es t ps before gone ahead come lines laid marked) (p : Point) (next : IsNextEnd es t p) where
   whole : AllMeetWhole (edges_of es)
-  whole = level_meet_whole es h.directed all
+  whole = horizontal_meet_whole es h.directed all
 
   forward : (e : Entry Count) → Contains es e → is_before e.edge.a e.edge.b ≡ true
   forward e at = directed es h all t ps swept.stops e.edge (listed_edge es e at)
@@ -142,22 +142,22 @@ module _ (es : List (Entry Count)) (h : AreInOrder es) (all : AllLevelOrUpright 
     where
       by : (b : Bool) → int_eq e.edge.a.x e.edge.b.x ≡ b → cond b (in_column f) (in_row e.edge.a.y f) ≡ true → is_part u f.edge ≡ true
       by true v g =
-          let upright = (Decides-int_eq e.edge.a.x e.edge.b.x).0 v in
-          let first = (upright_flat e.edge u.a (forward e e_at) upright).0 piece.first_on in
-          let second = (upright_flat e.edge u.b (forward e e_at) upright).0 piece.second_on in
-          past_upright es h all u joins f.edge (listed_edge es f f_at) (forward f f_at) begins ends (first ∙ sym second) ((Decides-int_eq f.edge.a.x f.edge.b.x).0 g)
+          let vertical = (Decides-int_eq e.edge.a.x e.edge.b.x).0 v in
+          let first = (vertical_flat e.edge u.a (forward e e_at) vertical).0 piece.first_on in
+          let second = (vertical_flat e.edge u.b (forward e e_at) vertical).0 piece.second_on in
+          past_vertical es h all u joins f.edge (listed_edge es f f_at) (forward f f_at) begins ends (first ∙ sym second) ((Decides-int_eq f.edge.a.x f.edge.b.x).0 g)
       by false v g = at (int_eq f.edge.a.x f.edge.b.x) refl g
         where
-          level : (d : Entry Count) → Contains es d → int_eq d.edge.a.x d.edge.b.x ≡ false → IsLevel d.edge
+          level : (d : Entry Count) → Contains es d → int_eq d.edge.a.x d.edge.b.x ≡ false → IsHorizontal d.edge
           level d d_at w = ⊎_elim (λ k. k) (λ k. absurd (false≢true (sym w ∙ same_height d.edge.a.x d.edge.b.x k))) (way es h all t ps swept.stops d.edge (listed_edge es d d_at))
 
           at : (b : Bool) → int_eq f.edge.a.x f.edge.b.x ≡ b → cond b false (int_eq f.edge.a.y e.edge.a.y) ≡ true → is_part u f.edge ≡ true
           at true w k = absurd (false≢true k)
           at false w k =
-              let first = (level_flat e.edge u.a (forward e e_at) (level e e_at v)).0 piece.first_on in
-              let second = (level_flat e.edge u.b (forward e e_at) (level e e_at v)).0 piece.second_on in
+              let first = (horizontal_flat e.edge u.a (forward e e_at) (level e e_at v)).0 piece.first_on in
+              let second = (horizontal_flat e.edge u.b (forward e e_at) (level e e_at v)).0 piece.second_on in
               let height = (Decides-int_eq f.edge.a.y e.edge.a.y).0 k in
-              past_level es h all u joins f.edge (listed_edge es f f_at) (forward f f_at) begins ends (first ∙ sym second) (height ∙ sym first) (sym (level f f_at w) ∙ (height ∙ sym first))
+              past_horizontal es h all u joins f.edge (listed_edge es f f_at) (forward f f_at) begins ends (first ∙ sym second) (height ∙ sym first) (sym (level f f_at w) ∙ (height ∙ sym first))
 
   -- a key that begins at p came
   begun_came : (f : Entry Count) → Contains es f → is_le (point_order p f.edge.a) ≡ true → reached t f.edge.b ≡ true
@@ -469,7 +469,7 @@ module _ (es : List (Entry Count)) (h : AreInOrder es) (all : AllLevelOrUpright 
 
 module _ (es before ahead : List (Entry Count)) (lines : LinesView) (laid : List (Entry Count)) (marked : Bool) (origin ticks : ℕ) (is : IsSwept es before ahead lines laid marked origin ticks)
     (p : Point) (greatest : IsGreatestEnd before ahead p) (crossed_lines : LinesView) (crossed_laid : List (Entry Count)) (new_ticks : ℕ) (crossed : Bool)
-    (crosses : Crosses p lines laid ticks crossed_lines crossed_laid new_ticks crossed) (h : AreInOrder es) (all : AllLevelOrUpright (edges_of es)) (few : length es < 2 ^ 64) (precision : Precision) where
+    (crosses : Crosses p lines laid ticks crossed_lines crossed_laid new_ticks crossed) (h : AreInOrder es) (all : AllRectilinear (edges_of es)) (few : length es < 2 ^ 64) (precision : Precision) where
   ahead_next : IsNextEnd es is.last p
   ahead_next = next_end_is es before ahead lines laid marked origin ticks is p greatest
 

@@ -249,16 +249,16 @@ same_last xs ys x y e = sym (last_is x xs x) ∙ (ap (last_or x) e ∙ last_is x
 
 -- ---- the line of an edge
 
-pub line_upright : (s : Edge) (f : LineView → LineView) (lines : LinesView) (column : LineView) → int_eq s.a.x s.b.x ≡ true → column ≡ f lines.column
+pub line_vertical : (s : Edge) (f : LineView → LineView) (lines : LinesView) (column : LineView) → int_eq s.a.x s.b.x ≡ true → column ≡ f lines.column
     → record { rows = lines.rows; column = column } ≡ at_line s f lines
-line_upright s f lines column u e =
+line_vertical s f lines column u e =
     let p = sym (ap (λ (b : Bool). cond b lines.rows (at_height s.a.y f lines.rows)) u) in
     let q = e ∙ sym (ap (λ (b : Bool). cond b (f lines.column) lines.column) u) in
     λ i. record { rows = p i; column = q i }
 
-pub line_level : (s : Edge) (f : LineView → LineView) (lines : LinesView) (rows : List RowView) → int_eq s.a.x s.b.x ≡ false → rows ≡ at_height s.a.y f lines.rows
+pub line_horizontal : (s : Edge) (f : LineView → LineView) (lines : LinesView) (rows : List RowView) → int_eq s.a.x s.b.x ≡ false → rows ≡ at_height s.a.y f lines.rows
     → record { rows = rows; column = lines.column } ≡ at_line s f lines
-line_level s f lines rows u e =
+line_horizontal s f lines rows u e =
     let p = e ∙ sym (ap (λ (b : Bool). cond b lines.rows (at_height s.a.y f lines.rows)) u) in
     let q = sym (ap (λ (b : Bool). cond b (f lines.column) lines.column) u) in
     λ i. record { rows = p i; column = q i }

@@ -4,7 +4,7 @@ use Rattle.std.proofs.lemmas.List.{map-set, get_or-map, length-map}
 use Rattle.std.proofs.lemmas.List.Elements.{All-head, All-tail}
 use Rattle.plane_base.specs.Plane.{Point}
 use Rattle.plane_base.specs.Counts.{boolean}
-use Rattle.segment_split.specs.Ranks.{is_member, IsLastBefore}
+use Rattle.segment_split.specs.PlaceSet.{is_member, IsLastBefore}
 use Rattle.segment_split.specs.Stops.{LineView, RowView, at_height, stopped, bare, runs_on, counts_on}
 use Rattle.segment_split.specs.Sweeps.{is_met}
 

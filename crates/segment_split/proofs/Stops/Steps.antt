@@ -14,14 +14,14 @@ use Rattle.plane_base.proofs.Facts.Maps.Laying.{lay_by}
 use Rattle.plane_base.proofs.Facts.Maps.Normal.{AllPairs-head}
 use Rattle.plane_base.proofs.Facts.Points.Orders.{point_total, point_equal, point_less, point_less_x, before_is_less, less_from_greater}
 use Rattle.segment_split.specs.Passes.{edges_of}
-use Rattle.segment_split.specs.LineLaws.{is_level_or_upright, AllLevelOrUpright, is_part, entries_along, sum_along, count_along, SpansLevel, SpansUp, IsEndOfSome, first_by, counted_step, step_to}
+use Rattle.segment_split.specs.LineLaws.{is_rectilinear, AllRectilinear, is_part, entries_along, sum_along, count_along, SpansHorizontal, SpansUp, IsEndOfSome, first_by, counted_step, step_to}
 use Rattle.segment_split.specs.Stops.{LineView, step_with, step_from, above_it}
 use Rattle.segment_split.proofs.Spread.Lists.{IsDirectedEdge, edges_contain}
 use Rattle.segment_split.specs.Sweeps.{AreInOrder, in_column, in_row, subject_if, clip_if, reached, IsBefore, Stops, first_of, same_y}
 use Rattle.segment_split.proofs.Stops.Rows.{other_height, same_height}
 use Rattle.segment_split.proofs.Stops.Reached.{kept, gone_of, come_of}
 use Rattle.segment_split.proofs.Passes.Steps.{contains_head}
-use Rattle.segment_split.proofs.Whole.LevelEdges.{IsLevel, IsUpright, level_or_upright}
+use Rattle.segment_split.proofs.Whole.RectilinearEdges.{IsHorizontal, IsVertical, rectilinear}
 use Rattle.segment_split.proofs.Whole.Coordinates.{less_by_x, less_by_y, cut_by_coordinates}
 use Rattle.segment_split.proofs.Whole.Neighbours.{contained, not_itself, not_there_and_back}
 use Rattle.segment_split.proofs.Whole.StepLists.{IsFirst, first_tells}
@@ -129,12 +129,12 @@ module _ (es : List (Entry Count)) (t : Option Point) (test : Entry Count → Bo
 
 -- ---- the steps from the next stop
 
-module _ (es : List (Entry Count)) (h : AreInOrder es) (all : AllLevelOrUpright (edges_of es)) (t : Option Point) (ps : List Point) (stops : Stops es t ps) where
+module _ (es : List (Entry Count)) (h : AreInOrder es) (all : AllRectilinear (edges_of es)) (t : Option Point) (ps : List Point) (stops : Stops es t ps) where
   pub directed : (s : Edge) → Contains (edges_of es) s → is_before s.a s.b ≡ true
   directed s at = All-contains IsDirectedEdge (edges_of es) s (All-map IsDirectedEdge (λ (e : Entry Count). e.edge) es h.directed) at
 
-  pub way : (s : Edge) → Contains (edges_of es) s → IsLevel s ⊎ IsUpright s
-  way s at = level_or_upright s (All-contains (λ s. is_level_or_upright s ≡ true) (edges_of es) s all at)
+  pub way : (s : Edge) → Contains (edges_of es) s → IsHorizontal s ⊎ IsVertical s
+  way s at = rectilinear s (All-contains (λ s. is_rectilinear s ≡ true) (edges_of es) s all at)
 
   pub reached_end : (p : Point) → IsEndOfSome (edges_of es) p → reached t p ≡ true → Contains ps p
   reached_end p at e = ⊎_elim (λ k. k.1) (λ k. absurd (false≢true (sym k.0 ∙ e))) (stops.ends p at)
@@ -169,8 +169,8 @@ module _ (es : List (Entry Count)) (h : AreInOrder es) (all : AllLevelOrUpright 
         next : point_order p n ≡ Less
         next = behind_is ps p n behind first.listed
 
-        spans : (is_part u s ≡ true) ↔ SpansLevel s u
-        spans = (cut_by_coordinates boolean).level_part u s (ap is_lt next) (directed s at) (sym height)
+        spans : (is_part u s ≡ true) ↔ SpansHorizontal s u
+        spans = (cut_by_coordinates boolean).horizontal_part u s (ap is_lt next) (directed s at) (sym height)
 
         clash : (x y : ℤ) → x ≤ℤ y → y <ℤ x → ⊥
         clash x y l m = omega (arith, ints, l, m)
@@ -188,11 +188,11 @@ module _ (es : List (Entry Count)) (h : AreInOrder es) (all : AllLevelOrUpright 
             three_from (reached t s.a) (reached t s.b) (in_row p.y e) (first_not k (reached t s.a) refl) (second_is k (reached t s.b) refl)
             (ap (λ (b : Bool). cond b false (int_eq s.a.y p.y)) (other_height s.a.x s.b.x (apart s.a.x s.b.x wide)) ∙ same_height s.a.y p.y k.first)
           where
-            first_not : SpansLevel s u → (b : Bool) → reached t s.a ≡ b → b ≡ false
+            first_not : SpansHorizontal s u → (b : Bool) → reached t s.a ≡ b → b ≡ false
             first_not k false f = refl
             first_not k true f = absurd (clash s.a.x p.x k.from (less_by_x p s.a (sym k.first) (behind_is ps p s.a behind (reached_end s.a (s, at, inl refl) f))))
 
-            second_is : SpansLevel s u → (b : Bool) → reached t s.b ≡ b → b ≡ true
+            second_is : SpansHorizontal s u → (b : Bool) → reached t s.b ≡ b → b ≡ true
             second_is k true f = refl
             second_is k false f = absurd (chain s.b.x p.x n.x (le_x s.b p (last s.b (s, at, inr refl) f)) (less_by_x p n (sym height) next) k.to)
 
@@ -208,7 +208,7 @@ module _ (es : List (Entry Count)) (h : AreInOrder es) (all : AllLevelOrUpright 
                 first_y : s.a.y ≡ p.y
                 first_y = (Decides-int_eq s.a.y p.y).0 k
 
-                level : IsLevel s → is_part u s ≡ true
+                level : IsHorizontal s → is_part u s ≡ true
                 level v = spans.1 (record {
                   first = first_y;
                   second = sym v ∙ first_y;
@@ -256,7 +256,7 @@ module _ (es : List (Entry Count)) (h : AreInOrder es) (all : AllLevelOrUpright 
             (contained q rest r (subst (λ l. Contains l r) is there))
 
         spans : (is_part u s ≡ true) ↔ SpansUp s u
-        spans = (cut_by_coordinates boolean).upright_part u s (ap is_lt next) (directed s at) (sym place)
+        spans = (cut_by_coordinates boolean).vertical_part u s (ap is_lt next) (directed s at) (sym place)
 
         clash : (x y : ℤ) → x ≤ℤ y → y <ℤ x → ⊥
         clash x y l m = omega (arith, ints, l, m)
@@ -283,11 +283,11 @@ module _ (es : List (Entry Count)) (h : AreInOrder es) (all : AllLevelOrUpright 
         back : runs_at t in_column e ≡ true → is_part u s ≡ true
         back runs =
             let k = three_tell (reached t s.a) (reached t s.b) (in_column e) runs in
-            let upright = (Decides-int_eq s.a.x s.b.x).0 k.1.1 in
+            let vertical = (Decides-int_eq s.a.x s.b.x).0 k.1.1 in
             let lower = last s.a (s, at, inl refl) k.0 in
             let upper = le_from q s.b (least s.b (reached_end s.b (s, at, inr refl) k.1.0)) in
-            let x = squeezed s.a.x s.b.x p.x q.x upright (le_x s.a p lower) (le_x q s.b upper) place in
-            spans.1 (record { first = x; second = sym upright ∙ x; from = le_y s.a p x lower; to = le_y q s.b (place ∙ (sym x ∙ upright)) upper })
+            let x = squeezed s.a.x s.b.x p.x q.x vertical (le_x s.a p lower) (le_x q s.b upper) place in
+            spans.1 (record { first = x; second = sym vertical ∙ x; from = le_y s.a p x lower; to = le_y q s.b (place ∙ (sym x ∙ vertical)) upper })
 
     none_right : (qs : List Point) → All (λ q. p.x <ℤ q.x) qs → first_by at_x qs ≡ None
     none_right [] far = refl

@@ -12,7 +12,7 @@ use Rattle.plane_base.proofs.Facts.Maps.Normal.{AllPairs-nil}
 use Rattle.plane_base.proofs.Facts.Points.Orders.{less_then, before_is_less, point_less_by_y}
 use Rattle.segment_split.specs.Passes.{edges_of, pass_by}
 use Rattle.segment_split.specs.Redrawing.{MarksInPass}
-use Rattle.segment_split.specs.LineLaws.{AllLevelOrUpright, IsEndOfSome, ArePoints, steps_between, has_inside}
+use Rattle.segment_split.specs.LineLaws.{AllRectilinear, IsEndOfSome, ArePoints, steps_between, has_inside}
 use Rattle.segment_split.specs.Stops.{LinesView, AreRising, bare}
 use Rattle.segment_split.specs.Sweeps.{AreInOrder, in_column, in_row, Runs, reached, IsStop, IsBefore, IsSomeInside, Swept}
 use Rattle.segment_split.specs.declared.solver.Precision.{Precision}
@@ -80,7 +80,7 @@ by_first e f l = ⊎_elim (λ m g. less_not (sym m ∙ g)) (λ m g. equal_not (s
 pub normal_in_order : (es : List (Entry Count)) → IsNormal boolean es → AreInOrder es
 normal_in_order es h = record { directed = h.directed; firsts = λ i j d k l. by_first (get_or es i d) (get_or es j d) (h.rising i j d k l) }
 
-module _ (es : List (Entry Count)) (h : AreInOrder es) (all : AllLevelOrUpright (edges_of es)) (t : Option Point) (ps : List Point) (gone ahead come : List (Entry Count))
+module _ (es : List (Entry Count)) (h : AreInOrder es) (all : AllRectilinear (edges_of es)) (t : Option Point) (ps : List Point) (gone ahead come : List (Entry Count))
     (lines : LinesView) (laid : List (Entry Count)) (marked : Bool) (swept : Swept es t ps [] gone ahead come lines laid marked) where
   first_there : (s : Edge) → Contains (edges_of es) s → Contains ps s.a
   first_there s at =
@@ -112,7 +112,7 @@ module _ (es : List (Entry Count)) (h : AreInOrder es) (all : AllLevelOrUpright 
   is_laid = ap reverse swept.steps ∙ (reverse-reverse (steps_between boolean es ps) ∙ sym (steps_of_pass boolean es ps h.directed all are_points))
 
 -- the same of a map
-module _ (es : List (Entry Count)) (h : IsNormal boolean es) (all : AllLevelOrUpright (edges_of es)) (t : Option Point) (ps : List Point) (gone ahead come : List (Entry Count))
+module _ (es : List (Entry Count)) (h : IsNormal boolean es) (all : AllRectilinear (edges_of es)) (t : Option Point) (ps : List Point) (gone ahead come : List (Entry Count))
     (lines : LinesView) (laid : List (Entry Count)) (marked : Bool) (swept : Swept es t ps [] gone ahead come lines laid marked) where
   map_points : ArePoints boolean es ps
   map_points = are_points es (normal_in_order es h) all t ps gone ahead come lines laid marked swept

@@ -11,7 +11,7 @@ use Rattle.plane_base.specs.Counts.{Count, Entry, boolean}
 use Rattle.plane_base.specs.Totals.{total}
 use Rattle.plane_base.proofs.Facts.Lists.Totals.{total_zero_on}
 use Rattle.segment_split.specs.Passes.{edges_of}
-use Rattle.segment_split.specs.LineLaws.{AllLevelOrUpright, IsEndOfSome, first_by, counted_step, count_along, step_to, steps_between}
+use Rattle.segment_split.specs.LineLaws.{AllRectilinear, IsEndOfSome, first_by, counted_step, count_along, step_to, steps_between}
 use Rattle.segment_split.specs.Stops.{RowView, LinesView, stopped, at_height, visited, bare, line_at, step_from, step_with, steps_from, above_it}
 use Rattle.segment_split.specs.Sweeps.{AreInOrder, in_column, in_row, Runs, AllRun, reached, IsBefore, same_y, Swept}
 use Rattle.segment_split.proofs.Stops.Rows.{IsApart, same_height}
@@ -40,7 +40,7 @@ row_or_none y (r ∷ rs) = by (int_eq r.y y) refl (row_or_none y rs)
 
 -- ---- what is laid at a stop
 
-module _ (es : List (Entry Count)) (h : AreInOrder es) (all : AllLevelOrUpright (edges_of es)) (t : Option Point) (ps : List Point) (before gone ahead come : List (Entry Count))
+module _ (es : List (Entry Count)) (h : AreInOrder es) (all : AllRectilinear (edges_of es)) (t : Option Point) (ps : List Point) (before gone ahead come : List (Entry Count))
     (lines : LinesView) (laid : List (Entry Count)) (marked : Bool) (swept : Swept es t ps before gone ahead come lines laid marked)
     (p : Point) (behind : IsBefore ps p) (last : (r : Point) → IsEndOfSome (edges_of es) r → reached t r ≡ false → is_le (point_order r p) ≡ true) where
   -- a line on which nothing runs

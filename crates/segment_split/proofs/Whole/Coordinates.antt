@@ -1,4 +1,4 @@
--- Cut points of level and upright lines, and what runs along them, by coordinates.
+-- Cut points of horizontal and vertical lines, and what runs along them, by coordinates.
 use Rattle.std.proofs.Common.{◌≡◌, ◌↔◌, true, false, ℤ, pos, ◌-ℤ◌, ◌*ℤ◌, ◌<ℤ◌, ◌≤ℤ◌, List, Contains, ◌⊎◌, inl, inr, ⊎_elim, Ordering, Less, Equal, Greater, refl, sym, ap, ◌∙◌, arith}
 use Rattle.std.specs.Ordering.{is_le}
 use Rattle.std.proofs.lemmas.Int.{ints, by_lt_z}
@@ -13,12 +13,12 @@ use Rattle.plane_base.proofs.Facts.Maps.Laying.{IsDirected}
 use Rattle.plane_base.proofs.Facts.Points.Orders.{point_less, point_equal, point_itself, point_less_by_x, point_less_by_y, point_less_x}
 use Rattle.plane_base.proofs.Facts.Points.Turns.{turn_there_and_back, turn_end_twice}
 use Rattle.segment_split.specs.Passes.{edges_of}
-use Rattle.segment_split.specs.LineLaws.{is_level_or_upright, AllLevelOrUpright, IsCutPoint, is_part, PassesUpThrough, PassesLevelThrough, IsMetAt, SpansLevel, SpansUp, CutByCoordinates}
+use Rattle.segment_split.specs.LineLaws.{is_rectilinear, AllRectilinear, IsCutPoint, is_part, PassesUpThrough, PassesHorizontalThrough, IsMetAt, SpansHorizontal, SpansUp, CutByCoordinates}
 use Rattle.segment_split.proofs.Spread.Lists.{IsDirectedEdge}
 use Rattle.segment_split.proofs.Passes.Steps.{inside_is, inside_from}
 use Rattle.segment_split.proofs.Passes.Common.{AreCollinear, collinear_swapped, one_line_from}
 use Rattle.segment_split.proofs.Whole.CutPoints.{part_tells, part_from, same_line, not_one_line}
-use Rattle.segment_split.proofs.Whole.LevelEdges.{IsLevel, IsUpright, level_or_upright, wide, tall, gap, nothing, level_zero, upright_zero}
+use Rattle.segment_split.proofs.Whole.RectilinearEdges.{IsHorizontal, IsVertical, rectilinear, wide, tall, gap, nothing, horizontal_zero, vertical_zero}
 
 -- ---- points on a line
 
@@ -31,15 +31,15 @@ none_left w v y x e f = rw (e, f, *ℤ-zero w, nothing x) refl
 none_right : (w v y x : ℤ) → w ≡ pos 0 → x ≡ pos 0 → (w *ℤ y) -ℤ (v *ℤ x) ≡ pos 0
 none_right w v y x e f = rw (e, f, *ℤ-zero v, nothing y) refl
 
-pub level_flat : (s : Edge) (p : Point) → is_before s.a s.b ≡ true → IsLevel s → (turn s.a s.b p ≡ pos 0) ↔ (p.y ≡ s.a.y)
-level_flat s p forward h = (
-  (λ e. equal_from p.y s.a.y (level_zero (s.b.x -ℤ s.a.x) (s.b.y -ℤ s.a.y) (p.y -ℤ s.a.y) (p.x -ℤ s.a.x) (gap s.a.y s.b.y h) (wide s forward h) e)),
+pub horizontal_flat : (s : Edge) (p : Point) → is_before s.a s.b ≡ true → IsHorizontal s → (turn s.a s.b p ≡ pos 0) ↔ (p.y ≡ s.a.y)
+horizontal_flat s p forward h = (
+  (λ e. equal_from p.y s.a.y (horizontal_zero (s.b.x -ℤ s.a.x) (s.b.y -ℤ s.a.y) (p.y -ℤ s.a.y) (p.x -ℤ s.a.x) (gap s.a.y s.b.y h) (wide s forward h) e)),
   (λ e. none_left (s.b.x -ℤ s.a.x) (s.b.y -ℤ s.a.y) (p.y -ℤ s.a.y) (p.x -ℤ s.a.x) (gap s.a.y s.b.y h) (gap s.a.y p.y (sym e))),
 )
 
-pub upright_flat : (s : Edge) (p : Point) → is_before s.a s.b ≡ true → IsUpright s → (turn s.a s.b p ≡ pos 0) ↔ (p.x ≡ s.a.x)
-upright_flat s p forward h = (
-  (λ e. equal_from p.x s.a.x (upright_zero (s.b.x -ℤ s.a.x) (s.b.y -ℤ s.a.y) (p.y -ℤ s.a.y) (p.x -ℤ s.a.x) (gap s.a.x s.b.x h) (tall s forward h) e)),
+pub vertical_flat : (s : Edge) (p : Point) → is_before s.a s.b ≡ true → IsVertical s → (turn s.a s.b p ≡ pos 0) ↔ (p.x ≡ s.a.x)
+vertical_flat s p forward h = (
+  (λ e. equal_from p.x s.a.x (vertical_zero (s.b.x -ℤ s.a.x) (s.b.y -ℤ s.a.y) (p.y -ℤ s.a.y) (p.x -ℤ s.a.x) (gap s.a.x s.b.x h) (tall s forward h) e)),
   (λ e. none_right (s.b.x -ℤ s.a.x) (s.b.y -ℤ s.a.y) (p.y -ℤ s.a.y) (p.x -ℤ s.a.x) (gap s.a.x s.b.x h) (gap s.a.x p.x (sym e))),
 )
 
@@ -57,95 +57,95 @@ less_by_y a b e h = ⊎_elim (λ l. absurd (apart a.x b.x e l)) (λ l. l.1) (poi
     apart : (x y : ℤ) → x ≡ y → x <ℤ y → ⊥
     apart x y e h = omega (arith, ints)
 
-pub inside_upright : (s : Edge) (p : Point) → is_before s.a s.b ≡ true → IsUpright s → strictly_inside p s ≡ true → PassesUpThrough s p
-inside_upright s p forward h e =
+pub inside_vertical : (s : Edge) (p : Point) → is_before s.a s.b ≡ true → IsVertical s → strictly_inside p s ≡ true → PassesUpThrough s p
+inside_vertical s p forward h e =
     let k = inside_is p s e in
-    let x = (upright_flat s p forward h).0 k.0 in
+    let x = (vertical_flat s p forward h).0 k.0 in
     record { first = sym x; second = sym h ∙ sym x; below = less_by_y s.a p (sym x) k.1; above = less_by_y p s.b (x ∙ h) k.2 }
 
-pub inside_level : (s : Edge) (p : Point) → is_before s.a s.b ≡ true → IsLevel s → strictly_inside p s ≡ true → PassesLevelThrough s p
-inside_level s p forward h e =
+pub inside_horizontal : (s : Edge) (p : Point) → is_before s.a s.b ≡ true → IsHorizontal s → strictly_inside p s ≡ true → PassesHorizontalThrough s p
+inside_horizontal s p forward h e =
     let k = inside_is p s e in
-    let y = (level_flat s p forward h).0 k.0 in
+    let y = (horizontal_flat s p forward h).0 k.0 in
     record { first = sym y; second = sym h ∙ sym y; left = less_by_x s.a p (sym y) k.1; right = less_by_x p s.b (y ∙ h) k.2 }
 
-pub upright_inside : (s : Edge) (p : Point) → is_before s.a s.b ≡ true → PassesUpThrough s p → strictly_inside p s ≡ true
-upright_inside s p forward h =
-    inside_from p s ((upright_flat s p forward (h.first ∙ sym h.second)).1 (sym h.first)) (point_less_by_y s.a p h.first h.below) (point_less_by_y p s.b (sym h.second) h.above)
+pub vertical_inside : (s : Edge) (p : Point) → is_before s.a s.b ≡ true → PassesUpThrough s p → strictly_inside p s ≡ true
+vertical_inside s p forward h =
+    inside_from p s ((vertical_flat s p forward (h.first ∙ sym h.second)).1 (sym h.first)) (point_less_by_y s.a p h.first h.below) (point_less_by_y p s.b (sym h.second) h.above)
 
-pub level_inside : (s : Edge) (p : Point) → is_before s.a s.b ≡ true → PassesLevelThrough s p → strictly_inside p s ≡ true
-level_inside s p forward h =
-    inside_from p s ((level_flat s p forward (h.first ∙ sym h.second)).1 (sym h.first)) (point_less_by_x s.a p h.left) (point_less_by_x p s.b h.right)
+pub horizontal_inside : (s : Edge) (p : Point) → is_before s.a s.b ≡ true → PassesHorizontalThrough s p → strictly_inside p s ≡ true
+horizontal_inside s p forward h =
+    inside_from p s ((horizontal_flat s p forward (h.first ∙ sym h.second)).1 (sym h.first)) (point_less_by_x s.a p h.left) (point_less_by_x p s.b h.right)
 
 -- ---- cut points
 
 collinear_is : (u s : Edge) → is_before u.a u.b ≡ true → AreCollinear u s → on_one_line u s ≡ true
 collinear_is u s forward h = one_line_from u s h (collinear_swapped u s forward h)
 
-module _ {C : Type 0} (es : List (Entry C)) (u : Edge) (p : Point) (h : IsDirected es) (all : AllLevelOrUpright (edges_of es)) (forward : is_before u.a u.b ≡ true) where
-  way : (s : Edge) → Contains (edges_of es) s → IsLevel s ⊎ IsUpright s
-  way s at = level_or_upright s (All-contains (λ s. is_level_or_upright s ≡ true) (edges_of es) s all at)
+module _ {C : Type 0} (es : List (Entry C)) (u : Edge) (p : Point) (h : IsDirected es) (all : AllRectilinear (edges_of es)) (forward : is_before u.a u.b ≡ true) where
+  way : (s : Edge) → Contains (edges_of es) s → IsHorizontal s ⊎ IsVertical s
+  way s at = rectilinear s (All-contains (λ s. is_rectilinear s ≡ true) (edges_of es) s all at)
 
   directed : (s : Edge) → Contains (edges_of es) s → is_before s.a s.b ≡ true
   directed s at = All-contains IsDirectedEdge (edges_of es) s (All-map IsDirectedEdge (λ (e : Entry C). e.edge) es h) at
 
-  level_cut : IsLevel u → IsCutPoint (edges_of es) u p → (p.y ≡ u.a.y) × IsMetAt PassesUpThrough (edges_of es) p
-  level_cut level cut = (height, (cut.of, cut.listed, ⊎_elim inl (λ k. inr (passes (way cut.of cut.listed) k.0 k.1)) cut.meets))
+  horizontal_cut : IsHorizontal u → IsCutPoint (edges_of es) u p → (p.y ≡ u.a.y) × IsMetAt PassesUpThrough (edges_of es) p
+  horizontal_cut level cut = (height, (cut.of, cut.listed, ⊎_elim inl (λ k. inr (passes (way cut.of cut.listed) k.0 k.1)) cut.meets))
     where
       height : p.y ≡ u.a.y
-      height = (level_flat u p forward level).0 cut.flat
+      height = (horizontal_flat u p forward level).0 cut.flat
 
-      passes : IsLevel cut.of ⊎ IsUpright cut.of → strictly_inside p cut.of ≡ true → on_one_line u cut.of ≡ false → PassesUpThrough cut.of p
-      passes (inr upright) e f = inside_upright cut.of p (directed cut.of cut.listed) upright e
+      passes : IsHorizontal cut.of ⊎ IsVertical cut.of → strictly_inside p cut.of ≡ true → on_one_line u cut.of ≡ false → PassesUpThrough cut.of p
+      passes (inr vertical) e f = inside_vertical cut.of p (directed cut.of cut.listed) vertical e
       passes (inl other) e f =
-          let k = inside_level cut.of p (directed cut.of cut.listed) other e in
-          absurd (false≢true (sym f ∙ collinear_is u cut.of forward ((level_flat u cut.of.a forward level).1 (k.first ∙ height), (level_flat u cut.of.b forward level).1 (k.second ∙ height))))
+          let k = inside_horizontal cut.of p (directed cut.of cut.listed) other e in
+          absurd (false≢true (sym f ∙ collinear_is u cut.of forward ((horizontal_flat u cut.of.a forward level).1 (k.first ∙ height), (horizontal_flat u cut.of.b forward level).1 (k.second ∙ height))))
 
-  cut_level : IsLevel u → p.y ≡ u.a.y → IsMetAt PassesUpThrough (edges_of es) p → IsCutPoint (edges_of es) u p
-  cut_level level height met = record {
-    flat = (level_flat u p forward level).1 height;
+  cut_horizontal : IsHorizontal u → p.y ≡ u.a.y → IsMetAt PassesUpThrough (edges_of es) p → IsCutPoint (edges_of es) u p
+  cut_horizontal level height met = record {
+    flat = (horizontal_flat u p forward level).1 height;
     of = met.0;
     listed = met.1;
-    meets = ⊎_elim inl (λ k. inr (upright_inside met.0 p (directed met.0 met.1) k, not_one_line u met.0 (apart k))) met.2;
+    meets = ⊎_elim inl (λ k. inr (vertical_inside met.0 p (directed met.0 met.1) k, not_one_line u met.0 (apart k))) met.2;
   }
     where
       apart : PassesUpThrough met.0 p → AreCollinear u met.0 → ⊥
-      apart k c = clash _ _ _ ((level_flat u met.0.a forward level).0 c.0) ((level_flat u met.0.b forward level).0 c.1) _ k.below k.above
+      apart k c = clash _ _ _ ((horizontal_flat u met.0.a forward level).0 c.0) ((horizontal_flat u met.0.b forward level).0 c.1) _ k.below k.above
         where
           clash : (x y z : ℤ) → x ≡ z → y ≡ z → (m : ℤ) → x <ℤ m → m <ℤ y → ⊥
           clash x y z e f m h k = omega (arith, ints)
 
-  upright_cut : IsUpright u → IsCutPoint (edges_of es) u p → (p.x ≡ u.a.x) × IsMetAt PassesLevelThrough (edges_of es) p
-  upright_cut upright cut = (place, (cut.of, cut.listed, ⊎_elim inl (λ k. inr (passes (way cut.of cut.listed) k.0 k.1)) cut.meets))
+  vertical_cut : IsVertical u → IsCutPoint (edges_of es) u p → (p.x ≡ u.a.x) × IsMetAt PassesHorizontalThrough (edges_of es) p
+  vertical_cut vertical cut = (place, (cut.of, cut.listed, ⊎_elim inl (λ k. inr (passes (way cut.of cut.listed) k.0 k.1)) cut.meets))
     where
       place : p.x ≡ u.a.x
-      place = (upright_flat u p forward upright).0 cut.flat
+      place = (vertical_flat u p forward vertical).0 cut.flat
 
-      passes : IsLevel cut.of ⊎ IsUpright cut.of → strictly_inside p cut.of ≡ true → on_one_line u cut.of ≡ false → PassesLevelThrough cut.of p
-      passes (inl level) e f = inside_level cut.of p (directed cut.of cut.listed) level e
+      passes : IsHorizontal cut.of ⊎ IsVertical cut.of → strictly_inside p cut.of ≡ true → on_one_line u cut.of ≡ false → PassesHorizontalThrough cut.of p
+      passes (inl level) e f = inside_horizontal cut.of p (directed cut.of cut.listed) level e
       passes (inr other) e f =
-          let k = inside_upright cut.of p (directed cut.of cut.listed) other e in
-          absurd (false≢true (sym f ∙ collinear_is u cut.of forward ((upright_flat u cut.of.a forward upright).1 (k.first ∙ place), (upright_flat u cut.of.b forward upright).1 (k.second ∙ place))))
+          let k = inside_vertical cut.of p (directed cut.of cut.listed) other e in
+          absurd (false≢true (sym f ∙ collinear_is u cut.of forward ((vertical_flat u cut.of.a forward vertical).1 (k.first ∙ place), (vertical_flat u cut.of.b forward vertical).1 (k.second ∙ place))))
 
-  cut_upright : IsUpright u → p.x ≡ u.a.x → IsMetAt PassesLevelThrough (edges_of es) p → IsCutPoint (edges_of es) u p
-  cut_upright upright place met = record {
-    flat = (upright_flat u p forward upright).1 place;
+  cut_vertical : IsVertical u → p.x ≡ u.a.x → IsMetAt PassesHorizontalThrough (edges_of es) p → IsCutPoint (edges_of es) u p
+  cut_vertical vertical place met = record {
+    flat = (vertical_flat u p forward vertical).1 place;
     of = met.0;
     listed = met.1;
-    meets = ⊎_elim inl (λ k. inr (level_inside met.0 p (directed met.0 met.1) k, not_one_line u met.0 (apart k))) met.2;
+    meets = ⊎_elim inl (λ k. inr (horizontal_inside met.0 p (directed met.0 met.1) k, not_one_line u met.0 (apart k))) met.2;
   }
     where
-      apart : PassesLevelThrough met.0 p → AreCollinear u met.0 → ⊥
-      apart k c = clash _ _ _ ((upright_flat u met.0.a forward upright).0 c.0) ((upright_flat u met.0.b forward upright).0 c.1) _ k.left k.right
+      apart : PassesHorizontalThrough met.0 p → AreCollinear u met.0 → ⊥
+      apart k c = clash _ _ _ ((vertical_flat u met.0.a forward vertical).0 c.0) ((vertical_flat u met.0.b forward vertical).0 c.1) _ k.left k.right
         where
           clash : (x y z : ℤ) → x ≡ z → y ≡ z → (m : ℤ) → x <ℤ m → m <ℤ y → ⊥
           clash x y z e f m h k = omega (arith, ints)
 
-  pub level_line : IsLevel u → IsCutPoint (edges_of es) u p ↔ ((p.y ≡ u.a.y) × IsMetAt PassesUpThrough (edges_of es) p)
-  level_line level = (level_cut level, (λ k. cut_level level k.0 k.1))
+  pub horizontal_line : IsHorizontal u → IsCutPoint (edges_of es) u p ↔ ((p.y ≡ u.a.y) × IsMetAt PassesUpThrough (edges_of es) p)
+  horizontal_line level = (horizontal_cut level, (λ k. cut_horizontal level k.0 k.1))
 
-  pub upright_line : IsUpright u → IsCutPoint (edges_of es) u p ↔ ((p.x ≡ u.a.x) × IsMetAt PassesLevelThrough (edges_of es) p)
-  upright_line upright = (upright_cut upright, (λ k. cut_upright upright k.0 k.1))
+  pub vertical_line : IsVertical u → IsCutPoint (edges_of es) u p ↔ ((p.x ≡ u.a.x) × IsMetAt PassesHorizontalThrough (edges_of es) p)
+  vertical_line vertical = (vertical_cut vertical, (λ k. cut_vertical vertical k.0 k.1))
 
 -- ---- parts
 
@@ -195,51 +195,51 @@ module _ (u s : Edge) (forward : is_before u.a u.b ≡ true) (other : is_before 
   ends_along : IsPiece u s → AreCollinear u s
   ends_along piece = ((same_line u s other piece s.a).0 (turn_there_and_back s.a s.b), (same_line u s other piece s.b).0 (turn_end_twice s.a s.b))
 
-  level_spans : IsLevel u → is_part u s ≡ true → SpansLevel s u
-  level_spans level e =
+  horizontal_spans : IsHorizontal u → is_part u s ≡ true → SpansHorizontal s u
+  horizontal_spans level e =
       let piece = part_tells u s forward e in
       let ends = ends_along piece in
       record {
-        first = (level_flat u s.a forward level).0 ends.0;
-        second = (level_flat u s.b forward level).0 ends.1;
+        first = (horizontal_flat u s.a forward level).0 ends.0;
+        second = (horizontal_flat u s.b forward level).0 ends.1;
         from = le_x s.a u.a piece.from;
         to = le_x u.b s.b piece.to;
       }
 
-  spans_level : IsLevel u → SpansLevel s u → is_part u s ≡ true
-  spans_level level h =
+  spans_horizontal : IsHorizontal u → SpansHorizontal s u → is_part u s ≡ true
+  spans_horizontal level h =
       part_from u s
       (record {
-        first_on = (level_flat s u.a other (h.first ∙ sym h.second)).1 (sym h.first);
-        second_on = (level_flat s u.b other (h.first ∙ sym h.second)).1 (sym level ∙ sym h.first);
+        first_on = (horizontal_flat s u.a other (h.first ∙ sym h.second)).1 (sym h.first);
+        second_on = (horizontal_flat s u.b other (h.first ∙ sym h.second)).1 (sym level ∙ sym h.first);
         from = le_by_x s.a u.a h.first h.from;
         forward = forward;
         to = le_by_x u.b s.b (sym level ∙ sym h.second) h.to;
       })
 
-  upright_spans : IsUpright u → is_part u s ≡ true → SpansUp s u
-  upright_spans upright e =
+  vertical_spans : IsVertical u → is_part u s ≡ true → SpansUp s u
+  vertical_spans vertical e =
       let piece = part_tells u s forward e in
       let ends = ends_along piece in
-      let first = (upright_flat u s.a forward upright).0 ends.0 in
-      let second = (upright_flat u s.b forward upright).0 ends.1 in
-      record { first = first; second = second; from = le_y s.a u.a first piece.from; to = le_y u.b s.b (sym upright ∙ sym second) piece.to }
+      let first = (vertical_flat u s.a forward vertical).0 ends.0 in
+      let second = (vertical_flat u s.b forward vertical).0 ends.1 in
+      record { first = first; second = second; from = le_y s.a u.a first piece.from; to = le_y u.b s.b (sym vertical ∙ sym second) piece.to }
 
-  spans_upright : IsUpright u → SpansUp s u → is_part u s ≡ true
-  spans_upright upright h =
+  spans_vertical : IsVertical u → SpansUp s u → is_part u s ≡ true
+  spans_vertical vertical h =
       part_from u s
       (record {
-        first_on = (upright_flat s u.a other (h.first ∙ sym h.second)).1 (sym h.first);
-        second_on = (upright_flat s u.b other (h.first ∙ sym h.second)).1 (sym upright ∙ sym h.first);
+        first_on = (vertical_flat s u.a other (h.first ∙ sym h.second)).1 (sym h.first);
+        second_on = (vertical_flat s u.b other (h.first ∙ sym h.second)).1 (sym vertical ∙ sym h.first);
         from = le_by_y s.a u.a h.first h.from;
         forward = forward;
-        to = le_by_y u.b s.b (sym upright ∙ sym h.second) h.to;
+        to = le_by_y u.b s.b (sym vertical ∙ sym h.second) h.to;
       })
 
 pub cut_by_coordinates : {C : Type 0} (kind : Counting C) → CutByCoordinates kind
 cut_by_coordinates kind = record {
-  level_line = λ es u p h all forward level. level_line es u p h.directed all forward level;
-  upright_line = λ es u p h all forward upright. upright_line es u p h.directed all forward upright;
-  level_part = λ u s forward other level. (level_spans u s forward other level, spans_level u s forward other level);
-  upright_part = λ u s forward other upright. (upright_spans u s forward other upright, spans_upright u s forward other upright);
+  horizontal_line = λ es u p h all forward level. horizontal_line es u p h.directed all forward level;
+  vertical_line = λ es u p h all forward vertical. vertical_line es u p h.directed all forward vertical;
+  horizontal_part = λ u s forward other level. (horizontal_spans u s forward other level, spans_horizontal u s forward other level);
+  vertical_part = λ u s forward other vertical. (vertical_spans u s forward other vertical, spans_vertical u s forward other vertical);
 }

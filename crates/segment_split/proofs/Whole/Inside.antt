@@ -1,4 +1,4 @@
--- Which edges of a level and upright map are marked: those that some point lies strictly inside.
+-- Which edges of a horizontal and vertical map are marked: those that some point lies strictly inside.
 use Rattle.std.proofs.Common.{◌≡◌, ◌↔◌, ℕ, suc, Bool, true, false, cond, List, [], ◌∷◌, map, Option, Some, None, All, AllPairs, Contains, ◌⊎◌, inl, inr, ⊎_elim, subst, ℤ, pos, ◌+ℤ◌, ◌<ℤ◌, ◌≤ℤ◌, Less, Equal, is_eq, refl, sym, ap, ◌∙◌, arith}
 use Rattle.std.specs.List.{list_any}
 use Rattle.std.proofs.lemmas.Int.{ints}
@@ -15,7 +15,7 @@ use Rattle.segment_split.specs.Passes.{edges_of, marks_in, marks_on}
 use Rattle.segment_split.specs.Redrawing.{MarksInPass}
 use Rattle.segment_split.specs.WholeLaws.{AllMeetWhole}
 use Rattle.segment_split.specs.Sweeps.{IsStop}
-use Rattle.segment_split.specs.LineLaws.{is_level_or_upright, AllLevelOrUpright, IsCutPoint, is_part, entries_along, count_along, PassesUpThrough, PassesLevelThrough, IsMetAt, SpansLevel, SpansUp, right_of, above, ArePoints, has_inside}
+use Rattle.segment_split.specs.LineLaws.{is_rectilinear, AllRectilinear, IsCutPoint, is_part, entries_along, count_along, PassesUpThrough, PassesHorizontalThrough, IsMetAt, SpansHorizontal, SpansUp, right_of, above, ArePoints, has_inside}
 use Rattle.segment_split.specs.declared.solver.Precision.{Precision}
 use Rattle.segment_split.proofs.Spread.Lists.{IsDirectedEdge, edges_contain}
 use Rattle.segment_split.proofs.Passes.Unmarked.{meets_unmarked}
@@ -23,10 +23,10 @@ use Rattle.segment_split.proofs.Passes.OldPairs.{marked_unless_parted}
 use Rattle.segment_split.proofs.Passes.Parts.{filter_normal}
 use Rattle.segment_split.proofs.Passes.Last.{joined_tells}
 use Rattle.segment_split.proofs.Redrawing.Ends.{marks_from_the_first}
-use Rattle.segment_split.proofs.Whole.LevelEdges.{IsLevel, IsUpright, level_or_upright, level_and_upright_meet_whole}
-use Rattle.segment_split.proofs.Whole.Coordinates.{cut_by_coordinates, less_by_x, less_by_y, inside_level, inside_upright, level_inside, upright_inside}
+use Rattle.segment_split.proofs.Whole.RectilinearEdges.{IsHorizontal, IsVertical, rectilinear, horizontal_and_vertical_meet_whole}
+use Rattle.segment_split.proofs.Whole.Coordinates.{cut_by_coordinates, less_by_x, less_by_y, inside_horizontal, inside_vertical, horizontal_inside, vertical_inside}
 use Rattle.segment_split.proofs.Whole.Neighbours.{contained, contains_no, redraws_by_lines}
-use Rattle.segment_split.proofs.Whole.StepLists.{some_not_none, directed_entry, an_end, way_of, level_cut_is, upright_cut_is, level_parts, upright_parts, short_level_before, short_upright_before, point_cuts_level, point_cuts_upright, up_to, weak}
+use Rattle.segment_split.proofs.Whole.StepLists.{some_not_none, directed_entry, an_end, way_of, horizontal_cut_is, vertical_cut_is, horizontal_parts, vertical_parts, short_horizontal_before, short_vertical_before, point_cuts_horizontal, point_cuts_vertical, up_to, weak}
 use Rattle.segment_split.proofs.BucketTrees.Met.{contains_filtered}
 
 -- an element that passes a test settles it
@@ -53,35 +53,35 @@ entry_of_edge [] s h = absurd (contains_no s h)
 entry_of_edge {C} (e ∷ es) s h =
     ⊎_elim (λ k. (e, (0, omega arith, refl), k)) (λ k. let m = entry_of_edge es s k in (m.0, (suc m.1.0, omega (arith, m.1.1), m.1.2), m.2)) (contained e.edge (edges_of es) s h)
 
-module _ {C : Type 0} (kind : Counting C) (precision : Precision) (es : List (Entry C)) (h : IsNormal kind es) (all : AllLevelOrUpright (edges_of es)) where
+module _ {C : Type 0} (kind : Counting C) (precision : Precision) (es : List (Entry C)) (h : IsNormal kind es) (all : AllRectilinear (edges_of es)) where
   -- ---- a cut point inside an edge is marked
 
   cut_is_marked : (s : Edge) → Contains (edges_of es) s → (p : Point) → IsCutPoint (edges_of es) s p → strictly_inside p s ≡ true → (k : ℕ) × MarksInPass kind precision es k
   cut_is_marked s at p cut e =
-      let mark = ((redraws_by_lines kind precision).marks es 0 s p h (level_and_upright_meet_whole kind es h all) at).1 (cut, e) in
+      let mark = ((redraws_by_lines kind precision).marks es 0 s p h (horizontal_and_vertical_meet_whole kind es h all) at).1 (cut, e) in
       let by = joined_tells (λ r. (marks_in precision 0 s r).first) (edges_of es) p mark in
       (0, (s, by.0, at, by.1, (λ none. not_empty (marks_in precision 0 s by.0).first p by.2 (ap (λ (m : Marks). m.first) none))))
 
   -- so is an end of an edge, or a crossing, inside an edge
   pub stop_is_marked : (s : Edge) → Contains (edges_of es) s → (p : Point) → IsStop (edges_of es) p → strictly_inside p s ≡ true → (k : ℕ) × MarksInPass kind precision es k
-  stop_is_marked s at p stop e = cut_is_marked s at p (⊎_elim level upright (level_or_upright s (All-contains (λ s. is_level_or_upright s ≡ true) (edges_of es) s all at))) e
+  stop_is_marked s at p stop e = cut_is_marked s at p (⊎_elim level vertical (rectilinear s (All-contains (λ s. is_rectilinear s ≡ true) (edges_of es) s all at))) e
     where
       forward : is_before s.a s.b ≡ true
       forward = All-contains IsDirectedEdge (edges_of es) s (All-map IsDirectedEdge (λ (e : Entry C). e.edge) es h.directed) at
 
-      level : IsLevel s → IsCutPoint (edges_of es) s p
+      level : IsHorizontal s → IsCutPoint (edges_of es) s p
       level k =
-          ((cut_by_coordinates kind).level_line es s p h all forward k).1
-          (sym (inside_level s p forward k e).first, ⊎_elim (λ k. (k.0, k.1, inl k.2)) (λ k. (k.0.0, k.0.1, inr k.0.2)) stop)
+          ((cut_by_coordinates kind).horizontal_line es s p h all forward k).1
+          (sym (inside_horizontal s p forward k e).first, ⊎_elim (λ k. (k.0, k.1, inl k.2)) (λ k. (k.0.0, k.0.1, inr k.0.2)) stop)
 
-      upright : IsUpright s → IsCutPoint (edges_of es) s p
-      upright k =
-          ((cut_by_coordinates kind).upright_line es s p h all forward k).1
-          (sym (inside_upright s p forward k e).first, ⊎_elim (λ k. (k.0, k.1, inl k.2)) (λ k. (k.1.0, k.1.1, inr k.1.2)) stop)
+      vertical : IsVertical s → IsCutPoint (edges_of es) s p
+      vertical k =
+          ((cut_by_coordinates kind).vertical_line es s p h all forward k).1
+          (sym (inside_vertical s p forward k e).first, ⊎_elim (λ k. (k.0, k.1, inl k.2)) (λ k. (k.1.0, k.1.1, inr k.1.2)) stop)
 
-module _ {C : Type 0} (kind : Counting C) (precision : Precision) (es : List (Entry C)) (h : IsNormal kind es) (all : AllLevelOrUpright (edges_of es)) (ps : List Point) (points : ArePoints kind es ps) where
+module _ {C : Type 0} (kind : Counting C) (precision : Precision) (es : List (Entry C)) (h : IsNormal kind es) (all : AllRectilinear (edges_of es)) (ps : List Point) (points : ArePoints kind es ps) where
   whole : AllMeetWhole (edges_of es)
-  whole = level_and_upright_meet_whole kind es h all
+  whole = horizontal_and_vertical_meet_whole kind es h all
 
   forward : (s : Edge) → Contains (edges_of es) s → is_before s.a s.b ≡ true
   forward s at = directed_entry kind es h.directed all ps points s at
@@ -89,13 +89,13 @@ module _ {C : Type 0} (kind : Counting C) (precision : Precision) (es : List (En
   -- ---- a point inside an edge is marked
 
   point_cuts : (s : Edge) → Contains (edges_of es) s → (p : Point) → Contains ps p → strictly_inside p s ≡ true → IsCutPoint (edges_of es) s p
-  point_cuts s at p there e = ⊎_elim level upright (way_of kind es h.directed all ps points s at)
+  point_cuts s at p there e = ⊎_elim level vertical (way_of kind es h.directed all ps points s at)
     where
-      level : IsLevel s → IsCutPoint (edges_of es) s p
-      level k = point_cuts_level kind es h.directed all ps points s (forward s at) k p there (sym (inside_level s p (forward s at) k e).first)
+      level : IsHorizontal s → IsCutPoint (edges_of es) s p
+      level k = point_cuts_horizontal kind es h.directed all ps points s (forward s at) k p there (sym (inside_horizontal s p (forward s at) k e).first)
 
-      upright : IsUpright s → IsCutPoint (edges_of es) s p
-      upright k = point_cuts_upright kind es h.directed all ps points s (forward s at) k p there (sym (inside_upright s p (forward s at) k e).first)
+      vertical : IsVertical s → IsCutPoint (edges_of es) s p
+      vertical k = point_cuts_vertical kind es h.directed all ps points s (forward s at) k p there (sym (inside_vertical s p (forward s at) k e).first)
 
   shown : has_inside (edges_of es) ps ≡ true → (k : ℕ) × MarksInPass kind precision es k
   shown e =
@@ -114,9 +114,9 @@ module _ {C : Type 0} (kind : Counting C) (precision : Precision) (es : List (En
     end_absent s r at there p end e = absent s at p (an_end kind es h.directed all ps points r there p end) e
 
     -- two edges on one level line overlap, so an end of one lies inside the other
-    level_apart : (s r : Edge) → Contains (edges_of es) s → Contains (edges_of es) r → edge_order s r ≡ Less → (y z : ℤ) → s.a.y ≡ y → s.b.y ≡ y → r.a.y ≡ y → r.b.y ≡ y
+    horizontal_apart : (s r : Edge) → Contains (edges_of es) s → Contains (edges_of es) r → edge_order s r ≡ Less → (y z : ℤ) → s.a.y ≡ y → s.b.y ≡ y → r.a.y ≡ y → r.b.y ≡ y
         → s.a.x ≤ℤ z → z <ℤ s.b.x → r.a.x ≤ℤ z → z <ℤ r.b.x → ⊥
-    level_apart s r at there l y z e f g k from to other_from other_to = by (less_then (point_order s.a r.a) (point_order s.b r.b) l)
+    horizontal_apart s r at there l y z e f g k from to other_from other_to = by (less_then (point_order s.a r.a) (point_order s.b r.b) l)
       where
         after : (x y z : ℤ) → x ≤ℤ y → y <ℤ z → x <ℤ z
         after x y z h k = omega (arith, ints)
@@ -124,21 +124,21 @@ module _ {C : Type 0} (kind : Counting C) (precision : Precision) (es : List (En
         by : (point_order s.a r.a ≡ Less) ⊎ ((point_order s.a r.a ≡ Equal) × (point_order s.b r.b ≡ Less)) → ⊥
         by (inl m) =
             end_absent s r at there r.a (inl refl)
-            (level_inside s r.a (forward s at) (record { first = e ∙ sym g; second = f ∙ sym g; left = less_by_x s.a r.a (e ∙ sym g) m; right = after r.a.x z s.b.x other_from to }))
+            (horizontal_inside s r.a (forward s at) (record { first = e ∙ sym g; second = f ∙ sym g; left = less_by_x s.a r.a (e ∙ sym g) m; right = after r.a.x z s.b.x other_from to }))
         by (inr m) =
             let same = point_equal s.a r.a m.0 in
             end_absent r s there at s.b (inr refl)
-            (level_inside r s.b (forward r there)
+            (horizontal_inside r s.b (forward r there)
             (record { first = g ∙ sym f; second = k ∙ sym f; left = after r.a.x z s.b.x other_from to; right = less_by_x s.b r.b (f ∙ sym k) m.1 }))
 
-    level_counts : (s : Edge) → Contains (edges_of es) s → (p : Point) → PassesLevelThrough s p → count_along kind es (record { a = p; b = right_of p }) ≡ None → ⊥
-    level_counts s at p passes e = by (entries_along es (record { a = p; b = right_of p })) refl
+    horizontal_counts : (s : Edge) → Contains (edges_of es) s → (p : Point) → PassesHorizontalThrough s p → count_along kind es (record { a = p; b = right_of p }) ≡ None → ⊥
+    horizontal_counts s at p passes e = by (entries_along es (record { a = p; b = right_of p })) refl
       where
         short_before : is_before p (right_of p) ≡ true
-        short_before = short_level_before kind es h.directed all ps points s (forward s at) (passes.first ∙ sym passes.second) p
+        short_before = short_horizontal_before kind es h.directed all ps points s (forward s at) (passes.first ∙ sym passes.second) p
 
-        spans : (r : Edge) → Contains (edges_of es) r → (is_part (record { a = p; b = right_of p }) r ≡ true) ↔ SpansLevel r (record { a = p; b = right_of p })
-        spans r there = level_parts kind es h.directed all ps points s (forward s at) (passes.first ∙ sym passes.second) (record { a = p; b = right_of p }) r short_before refl there
+        spans : (r : Edge) → Contains (edges_of es) r → (is_part (record { a = p; b = right_of p }) r ≡ true) ↔ SpansHorizontal r (record { a = p; b = right_of p })
+        spans r there = horizontal_parts kind es h.directed all ps points s (forward s at) (passes.first ∙ sym passes.second) (record { a = p; b = right_of p }) r short_before refl there
 
         entry : (f : Entry C) × Contains es f × (f.edge ≡ s)
         entry = entry_of_edge es s at
@@ -172,31 +172,31 @@ module _ {C : Type 0} (kind : Counting C) (precision : Precision) (es : List (En
             let less = All-head (λ f. edge_order k.edge f.edge ≡ Less) m l (AllPairs-head (λ (e f : Entry C). edge_order e.edge f.edge ≡ Less) k (m ∷ l) (subst (AllPairs (λ (e f : Entry C). edge_order e.edge f.edge ≡ Less)) f kept.rising)) in
             let one = (spans k.edge first.0).0 first.1 in
             let other = (spans m.edge second.0).0 second.1 in
-            level_apart k.edge m.edge first.0 second.0 less p.y p.x one.first one.second other.first other.second one.from (beyond p.x k.edge.b.x one.to) other.from (beyond p.x m.edge.b.x other.to)
+            horizontal_apart k.edge m.edge first.0 second.0 less p.y p.x one.first one.second other.first other.second one.from (beyond p.x k.edge.b.x one.to) other.from (beyond p.x m.edge.b.x other.to)
           where
             beyond : (x y : ℤ) → (x +ℤ pos 1) ≤ℤ y → x <ℤ y
             beyond x y h = omega (arith, ints)
 
-    level_none : (s : Edge) → Contains (edges_of es) s → IsLevel s → (p : Point) → IsCutPoint (edges_of es) s p → strictly_inside p s ≡ true → ⊥
-    level_none s at way p cut e = ⊎_elim (λ end. end_absent s k.1.0 at k.1.1 p end e) crossed k.1.2
+    horizontal_none : (s : Edge) → Contains (edges_of es) s → IsHorizontal s → (p : Point) → IsCutPoint (edges_of es) s p → strictly_inside p s ≡ true → ⊥
+    horizontal_none s at way p cut e = ⊎_elim (λ end. end_absent s k.1.0 at k.1.1 p end e) crossed k.1.2
       where
         k : (p.y ≡ s.a.y) × IsMetAt PassesUpThrough (edges_of es) p
-        k = (level_cut_is kind es h.directed all ps points s (forward s at) way p).0 cut
+        k = (horizontal_cut_is kind es h.directed all ps points s (forward s at) way p).0 cut
 
-        passes : PassesLevelThrough s p
-        passes = inside_level s p (forward s at) way e
+        passes : PassesHorizontalThrough s p
+        passes = inside_horizontal s p (forward s at) way e
 
         crossed : PassesUpThrough k.1.0 p → ⊥
         crossed across = by (count_along kind es (record { a = p; b = right_of p })) refl
           where
             by : (o : Option C) → count_along kind es (record { a = p; b = right_of p }) ≡ o → ⊥
             by (Some c) f = absent s at p (points.crossings p ((k.1.0, k.1.1, across), (s, at, passes)) (inl (some_not_none f))) e
-            by None f = level_counts s at p passes f
+            by None f = horizontal_counts s at p passes f
 
-    -- two edges on one upright line overlap, so an end of one lies inside the other
-    upright_apart : (s r : Edge) → Contains (edges_of es) s → Contains (edges_of es) r → edge_order s r ≡ Less → (y z : ℤ) → s.a.x ≡ y → s.b.x ≡ y → r.a.x ≡ y → r.b.x ≡ y
+    -- two edges on one vertical line overlap, so an end of one lies inside the other
+    vertical_apart : (s r : Edge) → Contains (edges_of es) s → Contains (edges_of es) r → edge_order s r ≡ Less → (y z : ℤ) → s.a.x ≡ y → s.b.x ≡ y → r.a.x ≡ y → r.b.x ≡ y
         → s.a.y ≤ℤ z → z <ℤ s.b.y → r.a.y ≤ℤ z → z <ℤ r.b.y → ⊥
-    upright_apart s r at there l y z e f g k from to other_from other_to = by (less_then (point_order s.a r.a) (point_order s.b r.b) l)
+    vertical_apart s r at there l y z e f g k from to other_from other_to = by (less_then (point_order s.a r.a) (point_order s.b r.b) l)
       where
         after : (x y z : ℤ) → x ≤ℤ y → y <ℤ z → x <ℤ z
         after x y z h k = omega (arith, ints)
@@ -204,21 +204,21 @@ module _ {C : Type 0} (kind : Counting C) (precision : Precision) (es : List (En
         by : (point_order s.a r.a ≡ Less) ⊎ ((point_order s.a r.a ≡ Equal) × (point_order s.b r.b ≡ Less)) → ⊥
         by (inl m) =
             end_absent s r at there r.a (inl refl)
-            (upright_inside s r.a (forward s at) (record { first = e ∙ sym g; second = f ∙ sym g; below = less_by_y s.a r.a (e ∙ sym g) m; above = after r.a.y z s.b.y other_from to }))
+            (vertical_inside s r.a (forward s at) (record { first = e ∙ sym g; second = f ∙ sym g; below = less_by_y s.a r.a (e ∙ sym g) m; above = after r.a.y z s.b.y other_from to }))
         by (inr m) =
             let same = point_equal s.a r.a m.0 in
             end_absent r s there at s.b (inr refl)
-            (upright_inside r s.b (forward r there)
+            (vertical_inside r s.b (forward r there)
             (record { first = g ∙ sym f; second = k ∙ sym f; below = after r.a.y z s.b.y other_from to; above = less_by_y s.b r.b (f ∙ sym k) m.1 }))
 
-    upright_counts : (s : Edge) → Contains (edges_of es) s → (p : Point) → PassesUpThrough s p → count_along kind es (record { a = p; b = above p }) ≡ None → ⊥
-    upright_counts s at p passes e = by (entries_along es (record { a = p; b = above p })) refl
+    vertical_counts : (s : Edge) → Contains (edges_of es) s → (p : Point) → PassesUpThrough s p → count_along kind es (record { a = p; b = above p }) ≡ None → ⊥
+    vertical_counts s at p passes e = by (entries_along es (record { a = p; b = above p })) refl
       where
         short_before : is_before p (above p) ≡ true
-        short_before = short_upright_before kind es h.directed all ps points s (forward s at) (passes.first ∙ sym passes.second) p
+        short_before = short_vertical_before kind es h.directed all ps points s (forward s at) (passes.first ∙ sym passes.second) p
 
         spans : (r : Edge) → Contains (edges_of es) r → (is_part (record { a = p; b = above p }) r ≡ true) ↔ SpansUp r (record { a = p; b = above p })
-        spans r there = upright_parts kind es h.directed all ps points s (forward s at) (passes.first ∙ sym passes.second) (record { a = p; b = above p }) r short_before refl there
+        spans r there = vertical_parts kind es h.directed all ps points s (forward s at) (passes.first ∙ sym passes.second) (record { a = p; b = above p }) r short_before refl there
 
         entry : (f : Entry C) × Contains es f × (f.edge ≡ s)
         entry = entry_of_edge es s at
@@ -252,26 +252,26 @@ module _ {C : Type 0} (kind : Counting C) (precision : Precision) (es : List (En
             let less = All-head (λ f. edge_order k.edge f.edge ≡ Less) m l (AllPairs-head (λ (e f : Entry C). edge_order e.edge f.edge ≡ Less) k (m ∷ l) (subst (AllPairs (λ (e f : Entry C). edge_order e.edge f.edge ≡ Less)) f kept.rising)) in
             let one = (spans k.edge first.0).0 first.1 in
             let other = (spans m.edge second.0).0 second.1 in
-            upright_apart k.edge m.edge first.0 second.0 less p.x p.y one.first one.second other.first other.second one.from (beyond p.y k.edge.b.y one.to) other.from (beyond p.y m.edge.b.y other.to)
+            vertical_apart k.edge m.edge first.0 second.0 less p.x p.y one.first one.second other.first other.second one.from (beyond p.y k.edge.b.y one.to) other.from (beyond p.y m.edge.b.y other.to)
           where
             beyond : (x y : ℤ) → (x +ℤ pos 1) ≤ℤ y → x <ℤ y
             beyond x y h = omega (arith, ints)
 
-    upright_none : (s : Edge) → Contains (edges_of es) s → IsUpright s → (p : Point) → IsCutPoint (edges_of es) s p → strictly_inside p s ≡ true → ⊥
-    upright_none s at way p cut e = ⊎_elim (λ end. end_absent s k.1.0 at k.1.1 p end e) crossed k.1.2
+    vertical_none : (s : Edge) → Contains (edges_of es) s → IsVertical s → (p : Point) → IsCutPoint (edges_of es) s p → strictly_inside p s ≡ true → ⊥
+    vertical_none s at way p cut e = ⊎_elim (λ end. end_absent s k.1.0 at k.1.1 p end e) crossed k.1.2
       where
-        k : (p.x ≡ s.a.x) × IsMetAt PassesLevelThrough (edges_of es) p
-        k = (upright_cut_is kind es h.directed all ps points s (forward s at) way p).0 cut
+        k : (p.x ≡ s.a.x) × IsMetAt PassesHorizontalThrough (edges_of es) p
+        k = (vertical_cut_is kind es h.directed all ps points s (forward s at) way p).0 cut
 
         passes : PassesUpThrough s p
-        passes = inside_upright s p (forward s at) way e
+        passes = inside_vertical s p (forward s at) way e
 
-        crossed : PassesLevelThrough k.1.0 p → ⊥
+        crossed : PassesHorizontalThrough k.1.0 p → ⊥
         crossed across = by (count_along kind es (record { a = p; b = above p })) refl
           where
             by : (o : Option C) → count_along kind es (record { a = p; b = above p }) ≡ o → ⊥
             by (Some c) f = absent s at p (points.crossings p ((s, at, passes), (k.1.0, k.1.1, across)) (inr (some_not_none f))) e
-            by None f = upright_counts s at p passes f
+            by None f = vertical_counts s at p passes f
 
     unmarked_there : (k : ℕ) → All (λ s. marks_on (marks_in precision k) (edges_of es) s ≡ []) (edges_of es)
     unmarked_there k = All-weaker (Contains (edges_of es)) (λ s. marks_on (marks_in precision k) (edges_of es) s ≡ []) each (edges_of es) (All-contains_itself (edges_of es))
@@ -284,7 +284,7 @@ module _ {C : Type 0} (kind : Counting C) (precision : Precision) (es : List (En
             by (p ∷ l) e =
                 let mark : Contains (marks_on (marks_in precision k) (edges_of es) s) p = subst (λ ms. Contains ms p) (sym e) (0, omega arith, refl) in
                 let cut = ((redraws_by_lines kind precision).marks es k s p h whole at).0 mark in
-                absurd (⊎_elim (λ way. level_none s at way p cut.0 cut.1) (λ way. upright_none s at way p cut.0 cut.1) (way_of kind es h.directed all ps points s at))
+                absurd (⊎_elim (λ way. horizontal_none s at way p cut.0 cut.1) (λ way. vertical_none s at way p cut.0 cut.1) (way_of kind es h.directed all ps points s at))
 
     hidden : (k : ℕ) → MarksInPass kind precision es k → ⊥
     hidden k some =

@@ -1,4 +1,4 @@
--- The redrawn map of level and upright edges as a list: from each point the steps to the next ones above and to the right.
+-- The redrawn map of horizontal and vertical edges as a list: from each point the steps to the next ones above and to the right.
 use Rattle.std.proofs.Common.{◌≡◌, ◌↔◌, suc, Bool, true, false, cond, List, [], ◌∷◌, ◌++◌, map, Option, Some, None, All, Contains, ◌⊎◌, inl, inr, ⊎_elim, subst, ℤ, pos, ◌<ℤ◌, ◌≤ℤ◌, int_eq, Ordering, Less, Equal, Greater, is_lt, is_eq, refl, sym, ap, ap₂, ◌∙◌, ◌≢◌, ◌+ℤ◌, arith}
 use Rattle.std.proofs.lemmas.Int.{ints, by_lt_z}
 use Rattle.std.proofs.lemmas.Bool.{false≢true}
@@ -15,13 +15,13 @@ use Rattle.plane_base.proofs.Facts.Maps.Laying.{IsDirected}
 use Rattle.plane_base.proofs.Facts.Points.Orders.{point_total, point_equal, point_itself, less_from_greater, point_less_by_x, point_less_by_y, before_is_less, edge_itself, edge_equal, is_equal}
 use Rattle.segment_split.specs.Passes.{edges_of, pass_by}
 use Rattle.segment_split.specs.Redrawing.{redrawn}
-use Rattle.segment_split.specs.LineLaws.{is_level_or_upright, AllLevelOrUpright, IsCutPoint, is_part, JoinsNeighbours, entries_along, count_along, IsMapOfNeighbours, PassesUpThrough, PassesLevelThrough, IsMetAt, SpansLevel, SpansUp, IsEndOfSome, IsCrossing, ArePoints, first_by, right_of, above, counted_step, step_to, steps_between}
+use Rattle.segment_split.specs.LineLaws.{is_rectilinear, AllRectilinear, IsCutPoint, is_part, JoinsNeighbours, entries_along, count_along, IsMapOfNeighbours, PassesUpThrough, PassesHorizontalThrough, IsMetAt, SpansHorizontal, SpansUp, IsEndOfSome, IsCrossing, ArePoints, first_by, right_of, above, counted_step, step_to, steps_between}
 use Rattle.segment_split.specs.declared.solver.Precision.{Precision}
 use Rattle.segment_split.proofs.Spread.Lists.{IsDirectedEdge, edges_contain}
 use Rattle.segment_split.proofs.Passes.Steps.{contains_head, IsRisingPath, inside_is, inside_from}
 use Rattle.segment_split.proofs.Whole.CutPoints.{part_tells}
-use Rattle.segment_split.proofs.Whole.LevelEdges.{IsLevel, IsUpright, level_or_upright, level_meet_whole, level_and_upright_meet_whole}
-use Rattle.segment_split.proofs.Whole.Coordinates.{level_flat, upright_flat, less_by_x, less_by_y, level_line, upright_line, cut_by_coordinates}
+use Rattle.segment_split.proofs.Whole.RectilinearEdges.{IsHorizontal, IsVertical, rectilinear, horizontal_meet_whole, horizontal_and_vertical_meet_whole}
+use Rattle.segment_split.proofs.Whole.Coordinates.{horizontal_flat, vertical_flat, less_by_x, less_by_y, horizontal_line, vertical_line, cut_by_coordinates}
 use Rattle.segment_split.proofs.Whole.Neighbours.{contained, contains_no, not_itself, not_there_and_back, redrawn_by_a_pass, pass_is_map, one_map}
 use Rattle.plane_base.proofs.Facts.Points.AlongOrder.{up_through}
 
@@ -348,11 +348,11 @@ point_at x y = record { x = x; y = y }
 abbrev point_over : ℤ → ℤ → Point
 point_over y x = record { x = x; y = y }
 
-level_before : (a b : Point) → a.y ≡ b.y → a.x <ℤ b.x → point_order a b ≡ Less
-level_before a b e h = point_less_by_x a b h
+horizontal_before : (a b : Point) → a.y ≡ b.y → a.x <ℤ b.x → point_order a b ≡ Less
+horizontal_before a b e h = point_less_by_x a b h
 
-upright_before : (a b : Point) → a.x ≡ b.x → a.y <ℤ b.y → point_order a b ≡ Less
-upright_before a b e h = point_less_by_y a b e h
+vertical_before : (a b : Point) → a.x ≡ b.x → a.y <ℤ b.y → point_order a b ≡ Less
+vertical_before a b e h = point_less_by_y a b e h
 
 pub some_not_none : {X : Type 0} {o : Option X} {x : X} → o ≡ Some x → o ≢ None
 some_not_none e f = let g = sym e ∙ f in absurd (cc)
@@ -415,7 +415,7 @@ module _ {C : Type 0} (kind : Counting C) (es : List (Entry C)) (u v : Edge) whe
 
 -- ---- the points and steps of a map
 
-module _ {C : Type 0} (kind : Counting C) (es : List (Entry C)) (h : IsDirected es) (all : AllLevelOrUpright (edges_of es)) (ps : List Point) (points : ArePoints kind es ps) where
+module _ {C : Type 0} (kind : Counting C) (es : List (Entry C)) (h : IsDirected es) (all : AllRectilinear (edges_of es)) (ps : List Point) (points : ArePoints kind es ps) where
   pub directed_entry : (s : Edge) → Contains (edges_of es) s → is_before s.a s.b ≡ true
   directed_entry s at = All-contains IsDirectedEdge (edges_of es) s (All-map IsDirectedEdge (λ (e : Entry C). e.edge) es h) at
 
@@ -425,8 +425,8 @@ module _ {C : Type 0} (kind : Counting C) (es : List (Entry C)) (h : IsDirected 
   met_up : (p : Point) → Contains ps p → IsMetAt PassesUpThrough (edges_of es) p
   met_up p at = ⊎_elim (λ k. (k.0, k.1, inl k.2)) (λ k. (k.0.0, k.0.1, inr k.0.2)) (points.only p at)
 
-  met_level : (p : Point) → Contains ps p → IsMetAt PassesLevelThrough (edges_of es) p
-  met_level p at = ⊎_elim (λ k. (k.0, k.1, inl k.2)) (λ k. (k.1.0, k.1.1, inr k.1.2)) (points.only p at)
+  met_horizontal : (p : Point) → Contains ps p → IsMetAt PassesHorizontalThrough (edges_of es) p
+  met_horizontal p at = ⊎_elim (λ k. (k.0, k.1, inl k.2)) (λ k. (k.1.0, k.1.1, inr k.1.2)) (points.only p at)
 
   -- what counts along an edge is there
   some_along : (u : Edge) (c : C) → count_along kind es u ≡ Some c → (s : Edge) × Contains (edges_of es) s × (is_part u s ≡ true)
@@ -439,47 +439,47 @@ module _ {C : Type 0} (kind : Counting C) (es : List (Entry C)) (h : IsDirected 
       by [] e f = absurd (cc)
       by (e ∷ l) f g = let first = All-head (λ e. Contains (edges_of es) e.edge × (is_part u e.edge ≡ true)) e l (subst (All (λ e. Contains (edges_of es) e.edge × (is_part u e.edge ≡ true))) f each) in (e.edge, first.0, first.1)
 
-  -- ---- level edges
+  -- ---- horizontal edges
 
-  module _ (u : Edge) (forward : is_before u.a u.b ≡ true) (level : IsLevel u) where
-    pub level_cut_is : (p : Point) → IsCutPoint (edges_of es) u p ↔ ((p.y ≡ u.a.y) × IsMetAt PassesUpThrough (edges_of es) p)
-    level_cut_is p = level_line es u p h all forward level
+  module _ (u : Edge) (forward : is_before u.a u.b ≡ true) (level : IsHorizontal u) where
+    pub horizontal_cut_is : (p : Point) → IsCutPoint (edges_of es) u p ↔ ((p.y ≡ u.a.y) × IsMetAt PassesUpThrough (edges_of es) p)
+    horizontal_cut_is p = horizontal_line es u p h all forward level
 
-    pub level_parts : (v s : Edge) → is_before v.a v.b ≡ true → IsLevel v → Contains (edges_of es) s → (is_part v s ≡ true) ↔ SpansLevel s v
-    level_parts v s next other at = (cut_by_coordinates kind).level_part v s next (directed_entry s at) other
+    pub horizontal_parts : (v s : Edge) → is_before v.a v.b ≡ true → IsHorizontal v → Contains (edges_of es) s → (is_part v s ≡ true) ↔ SpansHorizontal s v
+    horizontal_parts v s next other at = (cut_by_coordinates kind).horizontal_part v s next (directed_entry s at) other
 
-    pub point_cuts_level : (p : Point) → Contains ps p → p.y ≡ u.a.y → IsCutPoint (edges_of es) u p
-    point_cuts_level p at e = (level_cut_is p).1 (e, met_up p at)
+    pub point_cuts_horizontal : (p : Point) → Contains ps p → p.y ≡ u.a.y → IsCutPoint (edges_of es) u p
+    point_cuts_horizontal p at e = (horizontal_cut_is p).1 (e, met_up p at)
 
-    level_long : u.a.x <ℤ u.b.x
-    level_long = less_by_x u.a u.b level (before_is_less u.a u.b forward)
+    horizontal_long : u.a.x <ℤ u.b.x
+    horizontal_long = less_by_x u.a u.b level (before_is_less u.a u.b forward)
 
     -- no edge of the list ends on u between its ends
-    abbrev LevelIsFree : Type 0
-    LevelIsFree =
+    abbrev HorizontalIsFree : Type 0
+    HorizontalIsFree =
         (s : Edge) → Contains (edges_of es) s → (q : Point) → (q ≡ s.a) ⊎ (q ≡ s.b) → q.y ≡ u.a.y → u.a.x <ℤ q.x → q.x <ℤ u.b.x → ⊥
 
     -- one to the next place on the line
-    abbrev level_short : Point → Edge
-    level_short p = record { a = p; b = right_of p }
+    abbrev horizontal_short : Point → Edge
+    horizontal_short p = record { a = p; b = right_of p }
 
-    pub short_level_before : (p : Point) → is_before p (right_of p) ≡ true
-    short_level_before p = ap is_lt (point_less_by_x p (right_of p) (one_more p.x))
+    pub short_horizontal_before : (p : Point) → is_before p (right_of p) ≡ true
+    short_horizontal_before p = ap is_lt (point_less_by_x p (right_of p) (one_more p.x))
 
     -- what counts along u counts at each of its places
-    level_counts_inside : LevelIsFree → (p : Point) → p.y ≡ u.a.y → u.a.x ≤ℤ p.x → p.x <ℤ u.b.x → count_along kind es (level_short p) ≡ count_along kind es u
-    level_counts_inside free p e from to = same_along kind es (level_short p) u (λ s at. (shorter s at, longer s at))
+    horizontal_counts_inside : HorizontalIsFree → (p : Point) → p.y ≡ u.a.y → u.a.x ≤ℤ p.x → p.x <ℤ u.b.x → count_along kind es (horizontal_short p) ≡ count_along kind es u
+    horizontal_counts_inside free p e from to = same_along kind es (horizontal_short p) u (λ s at. (shorter s at, longer s at))
       where
-        longer : (s : Edge) → Contains (edges_of es) s → is_part u s ≡ true → is_part (level_short p) s ≡ true
+        longer : (s : Edge) → Contains (edges_of es) s → is_part u s ≡ true → is_part (horizontal_short p) s ≡ true
         longer s at part =
-            let k = (level_parts u s forward level at).0 part in
-            (level_parts (level_short p) s (short_level_before p) refl at).1
+            let k = (horizontal_parts u s forward level at).0 part in
+            (horizontal_parts (horizontal_short p) s (short_horizontal_before p) refl at).1
             (record { first = k.first ∙ sym e; second = k.second ∙ sym e; from = up_through s.a.x u.a.x p.x k.from from; to = next_up p.x u.b.x s.b.x to k.to })
 
-        shorter : (s : Edge) → Contains (edges_of es) s → is_part (level_short p) s ≡ true → is_part u s ≡ true
+        shorter : (s : Edge) → Contains (edges_of es) s → is_part (horizontal_short p) s ≡ true → is_part u s ≡ true
         shorter s at part =
-            let k : SpansLevel s (level_short p) = (level_parts (level_short p) s (short_level_before p) refl at).0 part in
-            (level_parts u s forward level at).1
+            let k : SpansHorizontal s (horizontal_short p) = (horizontal_parts (horizontal_short p) s (short_horizontal_before p) refl at).0 part in
+            (horizontal_parts u s forward level at).1
             (record {
               first = k.first ∙ e;
               second = k.second ∙ e;
@@ -488,27 +488,27 @@ module _ {C : Type 0} (kind : Counting C) (es : List (Entry C)) (h : IsDirected 
             })
 
     -- and where it ends, unless an edge ends there
-    level_counts_at_end : LevelIsFree → (IsEndOfSome (edges_of es) u.b → ⊥) → count_along kind es (level_short u.b) ≡ count_along kind es u
-    level_counts_at_end free none = same_along kind es (level_short u.b) u (λ s at. (shorter s at, longer s at))
+    horizontal_counts_at_end : HorizontalIsFree → (IsEndOfSome (edges_of es) u.b → ⊥) → count_along kind es (horizontal_short u.b) ≡ count_along kind es u
+    horizontal_counts_at_end free none = same_along kind es (horizontal_short u.b) u (λ s at. (shorter s at, longer s at))
       where
         at_end : (s : Edge) (q : Point) → q.y ≡ u.a.y → q.x ≡ u.b.x → u.b ≡ q
         at_end s q e f = λ i. point_at (sym f i) ((sym level ∙ sym e) i)
 
-        longer : (s : Edge) → Contains (edges_of es) s → is_part u s ≡ true → is_part (level_short u.b) s ≡ true
+        longer : (s : Edge) → Contains (edges_of es) s → is_part u s ≡ true → is_part (horizontal_short u.b) s ≡ true
         longer s at part =
-            let k = (level_parts u s forward level at).0 part in
-            (level_parts (level_short u.b) s (short_level_before u.b) refl at).1
+            let k = (horizontal_parts u s forward level at).0 part in
+            (horizontal_parts (horizontal_short u.b) s (short_horizontal_before u.b) refl at).1
             (record {
               first = k.first ∙ level;
               second = k.second ∙ level;
-              from = weaken s.a.x u.a.x u.b.x k.from level_long;
+              from = weaken s.a.x u.a.x u.b.x k.from horizontal_long;
               to = by_lt_z u.b.x s.b.x (λ l. up_to u.b.x s.b.x l) (λ l. absurd (none (s, at, inr (at_end s s.b k.second (same_place s.b.x u.b.x l k.to)))));
             })
 
-        shorter : (s : Edge) → Contains (edges_of es) s → is_part (level_short u.b) s ≡ true → is_part u s ≡ true
+        shorter : (s : Edge) → Contains (edges_of es) s → is_part (horizontal_short u.b) s ≡ true → is_part u s ≡ true
         shorter s at part =
-            let k : SpansLevel s (level_short u.b) = (level_parts (level_short u.b) s (short_level_before u.b) refl at).0 part in
-            (level_parts u s forward level at).1
+            let k : SpansHorizontal s (horizontal_short u.b) = (horizontal_parts (horizontal_short u.b) s (short_horizontal_before u.b) refl at).0 part in
+            (horizontal_parts u s forward level at).1
             (record {
               first = k.first ∙ sym level;
               second = k.second ∙ sym level;
@@ -521,12 +521,12 @@ module _ {C : Type 0} (kind : Counting C) (es : List (Entry C)) (h : IsDirected 
             })
 
     -- A cut point on an edge that runs along u is a point, if it is one where it is a crossing.
-    cut_level_there : (s : Edge) → Contains (edges_of es) s → (p : Point) → IsCutPoint (edges_of es) u p → s.a.y ≡ u.a.y → s.b.y ≡ u.a.y → s.a.x ≤ℤ p.x → p.x ≤ℤ s.b.x
+    cut_horizontal_there : (s : Edge) → Contains (edges_of es) s → (p : Point) → IsCutPoint (edges_of es) u p → s.a.y ≡ u.a.y → s.b.y ≡ u.a.y → s.a.x ≤ℤ p.x → p.x ≤ℤ s.b.x
         → (IsCrossing (edges_of es) p → Contains ps p) → Contains ps p
-    cut_level_there s at p cut e f from to counts = ⊎_elim (an_end k.1.0 k.1.1 p) crossing k.1.2
+    cut_horizontal_there s at p cut e f from to counts = ⊎_elim (an_end k.1.0 k.1.1 p) crossing k.1.2
       where
         k : (p.y ≡ u.a.y) × IsMetAt PassesUpThrough (edges_of es) p
-        k = (level_cut_is p).0 cut
+        k = (horizontal_cut_is p).0 cut
 
         crossing : PassesUpThrough k.1.0 p → Contains ps p
         crossing across =
@@ -536,100 +536,100 @@ module _ {C : Type 0} (kind : Counting C) (es : List (Entry C)) (h : IsDirected 
             (λ m. an_end s at p (inr (λ i. point_at (same_place p.x s.b.x to m i) ((k.0 ∙ sym f) i)))))
             (λ l. an_end s at p (inl (λ i. point_at (same_place p.x s.a.x l from i) ((k.0 ∙ sym e) i))))
 
-    level_step_joins : (c : C) → count_along kind es u ≡ Some c → IsStepAlong (λ p. p.y) ps u → (s : Edge) → Contains (edges_of es) s → is_part u s ≡ true → JoinsNeighbours (edges_of es) u
-    level_step_joins c counts step s at part = record {
+    horizontal_step_joins : (c : C) → count_along kind es u ≡ Some c → IsStepAlong (λ p. p.y) ps u → (s : Edge) → Contains (edges_of es) s → is_part u s ≡ true → JoinsNeighbours (edges_of es) u
+    horizontal_step_joins c counts step s at part = record {
       forward = forward;
       along = (s, at, part);
-      first = point_cuts_level u.a step.first refl;
-      second = point_cuts_level u.b step.second (sym level);
+      first = point_cuts_horizontal u.a step.first refl;
+      second = point_cuts_horizontal u.b step.second (sym level);
       free = λ p cut. by p cut (strictly_inside p u) refl;
     }
       where
-        spans : SpansLevel s u
-        spans = (level_parts u s forward level at).0 part
+        spans : SpansHorizontal s u
+        spans = (horizontal_parts u s forward level at).0 part
 
-        free : LevelIsFree
-        free r there q end e l m = step.free q (an_end r there q end) e (level_before u.a q (sym e) l) (level_before q u.b (e ∙ level) m)
+        free : HorizontalIsFree
+        free r there q end e l m = step.free q (an_end r there q end) e (horizontal_before u.a q (sym e) l) (horizontal_before q u.b (e ∙ level) m)
 
         by : (p : Point) → IsCutPoint (edges_of es) u p → (b : Bool) → strictly_inside p u ≡ b → b ≡ false
         by p cut false e = refl
         by p cut true e =
             let k = inside_is p u e in
-            let height = ((level_cut_is p).0 cut).0 in
+            let height = ((horizontal_cut_is p).0 cut).0 in
             let after = less_by_x u.a p (sym height) k.1 in
             let before = less_by_x p u.b (height ∙ level) k.2 in
             let there =
-            cut_level_there s at p cut spans.first spans.second (weaken s.a.x u.a.x p.x spans.from after) (weaker p.x u.b.x s.b.x before spans.to)
-            (λ crossing. points.crossings p crossing (inl (some_not_none (level_counts_inside free p height (weak u.a.x p.x after) before ∙ counts)))) in
+            cut_horizontal_there s at p cut spans.first spans.second (weaken s.a.x u.a.x p.x spans.from after) (weaker p.x u.b.x s.b.x before spans.to)
+            (λ crossing. points.crossings p crossing (inl (some_not_none (horizontal_counts_inside free p height (weak u.a.x p.x after) before ∙ counts)))) in
             absurd (step.free p there height k.1 k.2)
 
-    joins_level_step : (c : C) → count_along kind es u ≡ Some c → JoinsNeighbours (edges_of es) u → IsStepAlong (λ p. p.y) ps u
-    joins_level_step c counts joins = record {
+    joins_horizontal_step : (c : C) → count_along kind es u ≡ Some c → JoinsNeighbours (edges_of es) u → IsStepAlong (λ p. p.y) ps u
+    joins_horizontal_step c counts joins = record {
       first =
-          there u.a joins.first spans.from (weaker u.a.x u.b.x joins.along.0.b.x level_long spans.to)
-          (λ crossing. points.crossings u.a crossing (inl (some_not_none (level_counts_inside free u.a refl (level_le u.a.x) level_long ∙ counts))));
+          there u.a joins.first spans.from (weaker u.a.x u.b.x joins.along.0.b.x horizontal_long spans.to)
+          (λ crossing. points.crossings u.a crossing (inl (some_not_none (horizontal_counts_inside free u.a refl (level_le u.a.x) horizontal_long ∙ counts))));
       second =
-          there u.b joins.second (weaken joins.along.0.a.x u.a.x u.b.x spans.from level_long) spans.to
-          (λ crossing. ⊎_elim (points.ends u.b) (λ none. points.crossings u.b crossing (inl (some_not_none (level_counts_at_end free none ∙ counts)))) (ends_decided (edges_of es) u.b));
+          there u.b joins.second (weaken joins.along.0.a.x u.a.x u.b.x spans.from horizontal_long) spans.to
+          (λ crossing. ⊎_elim (points.ends u.b) (λ none. points.crossings u.b crossing (inl (some_not_none (horizontal_counts_at_end free none ∙ counts)))) (ends_decided (edges_of es) u.b));
       forward = before_is_less u.a u.b forward;
       same = level;
       free = λ p at same l m.
-          false≢true (sym (joins.free p (point_cuts_level p at same)) ∙ inside_from p u ((level_flat u p forward level).1 same) l m);
+          false≢true (sym (joins.free p (point_cuts_horizontal p at same)) ∙ inside_from p u ((horizontal_flat u p forward level).1 same) l m);
     }
       where
-        spans : SpansLevel joins.along.0 u
-        spans = (level_parts u joins.along.0 forward level joins.along.1).0 joins.along.2
+        spans : SpansHorizontal joins.along.0 u
+        spans = (horizontal_parts u joins.along.0 forward level joins.along.1).0 joins.along.2
 
-        free : LevelIsFree
+        free : HorizontalIsFree
         free r at q end e l m =
             false≢true
-            (sym (joins.free q (point_cuts_level q (an_end r at q end) e))
-            ∙ inside_from q u ((level_flat u q forward level).1 e) (level_before u.a q (sym e) l) (level_before q u.b (e ∙ level) m))
+            (sym (joins.free q (point_cuts_horizontal q (an_end r at q end) e))
+            ∙ inside_from q u ((horizontal_flat u q forward level).1 e) (horizontal_before u.a q (sym e) l) (horizontal_before q u.b (e ∙ level) m))
 
         there : (p : Point) → IsCutPoint (edges_of es) u p → joins.along.0.a.x ≤ℤ p.x → p.x ≤ℤ joins.along.0.b.x → (IsCrossing (edges_of es) p → Contains ps p) → Contains ps p
-        there p cut from to = cut_level_there joins.along.0 joins.along.1 p cut spans.first spans.second from to
+        there p cut from to = cut_horizontal_there joins.along.0 joins.along.1 p cut spans.first spans.second from to
 
-  -- ---- upright edges
+  -- ---- vertical edges
 
-  module _ (u : Edge) (forward : is_before u.a u.b ≡ true) (upright : IsUpright u) where
-    pub upright_cut_is : (p : Point) → IsCutPoint (edges_of es) u p ↔ ((p.x ≡ u.a.x) × IsMetAt PassesLevelThrough (edges_of es) p)
-    upright_cut_is p = upright_line es u p h all forward upright
+  module _ (u : Edge) (forward : is_before u.a u.b ≡ true) (vertical : IsVertical u) where
+    pub vertical_cut_is : (p : Point) → IsCutPoint (edges_of es) u p ↔ ((p.x ≡ u.a.x) × IsMetAt PassesHorizontalThrough (edges_of es) p)
+    vertical_cut_is p = vertical_line es u p h all forward vertical
 
-    pub upright_parts : (v s : Edge) → is_before v.a v.b ≡ true → IsUpright v → Contains (edges_of es) s → (is_part v s ≡ true) ↔ SpansUp s v
-    upright_parts v s next other at = (cut_by_coordinates kind).upright_part v s next (directed_entry s at) other
+    pub vertical_parts : (v s : Edge) → is_before v.a v.b ≡ true → IsVertical v → Contains (edges_of es) s → (is_part v s ≡ true) ↔ SpansUp s v
+    vertical_parts v s next other at = (cut_by_coordinates kind).vertical_part v s next (directed_entry s at) other
 
-    pub point_cuts_upright : (p : Point) → Contains ps p → p.x ≡ u.a.x → IsCutPoint (edges_of es) u p
-    point_cuts_upright p at e = (upright_cut_is p).1 (e, met_level p at)
+    pub point_cuts_vertical : (p : Point) → Contains ps p → p.x ≡ u.a.x → IsCutPoint (edges_of es) u p
+    point_cuts_vertical p at e = (vertical_cut_is p).1 (e, met_horizontal p at)
 
-    upright_long : u.a.y <ℤ u.b.y
-    upright_long = less_by_y u.a u.b upright (before_is_less u.a u.b forward)
+    vertical_long : u.a.y <ℤ u.b.y
+    vertical_long = less_by_y u.a u.b vertical (before_is_less u.a u.b forward)
 
     -- no edge of the list ends on u between its ends
-    abbrev UprightIsFree : Type 0
-    UprightIsFree =
+    abbrev VerticalIsFree : Type 0
+    VerticalIsFree =
         (s : Edge) → Contains (edges_of es) s → (q : Point) → (q ≡ s.a) ⊎ (q ≡ s.b) → q.x ≡ u.a.x → u.a.y <ℤ q.y → q.y <ℤ u.b.y → ⊥
 
     -- one to the next place on the line
-    abbrev upright_short : Point → Edge
-    upright_short p = record { a = p; b = above p }
+    abbrev vertical_short : Point → Edge
+    vertical_short p = record { a = p; b = above p }
 
-    pub short_upright_before : (p : Point) → is_before p (above p) ≡ true
-    short_upright_before p = ap is_lt (point_less_by_y p (above p) refl (one_more p.y))
+    pub short_vertical_before : (p : Point) → is_before p (above p) ≡ true
+    short_vertical_before p = ap is_lt (point_less_by_y p (above p) refl (one_more p.y))
 
     -- what counts along u counts at each of its places
-    upright_counts_inside : UprightIsFree → (p : Point) → p.x ≡ u.a.x → u.a.y ≤ℤ p.y → p.y <ℤ u.b.y → count_along kind es (upright_short p) ≡ count_along kind es u
-    upright_counts_inside free p e from to = same_along kind es (upright_short p) u (λ s at. (shorter s at, longer s at))
+    vertical_counts_inside : VerticalIsFree → (p : Point) → p.x ≡ u.a.x → u.a.y ≤ℤ p.y → p.y <ℤ u.b.y → count_along kind es (vertical_short p) ≡ count_along kind es u
+    vertical_counts_inside free p e from to = same_along kind es (vertical_short p) u (λ s at. (shorter s at, longer s at))
       where
-        longer : (s : Edge) → Contains (edges_of es) s → is_part u s ≡ true → is_part (upright_short p) s ≡ true
+        longer : (s : Edge) → Contains (edges_of es) s → is_part u s ≡ true → is_part (vertical_short p) s ≡ true
         longer s at part =
-            let k = (upright_parts u s forward upright at).0 part in
-            (upright_parts (upright_short p) s (short_upright_before p) refl at).1
+            let k = (vertical_parts u s forward vertical at).0 part in
+            (vertical_parts (vertical_short p) s (short_vertical_before p) refl at).1
             (record { first = k.first ∙ sym e; second = k.second ∙ sym e; from = up_through s.a.y u.a.y p.y k.from from; to = next_up p.y u.b.y s.b.y to k.to })
 
-        shorter : (s : Edge) → Contains (edges_of es) s → is_part (upright_short p) s ≡ true → is_part u s ≡ true
+        shorter : (s : Edge) → Contains (edges_of es) s → is_part (vertical_short p) s ≡ true → is_part u s ≡ true
         shorter s at part =
-            let k : SpansUp s (upright_short p) = (upright_parts (upright_short p) s (short_upright_before p) refl at).0 part in
-            (upright_parts u s forward upright at).1
+            let k : SpansUp s (vertical_short p) = (vertical_parts (vertical_short p) s (short_vertical_before p) refl at).0 part in
+            (vertical_parts u s forward vertical at).1
             (record {
               first = k.first ∙ e;
               second = k.second ∙ e;
@@ -638,47 +638,47 @@ module _ {C : Type 0} (kind : Counting C) (es : List (Entry C)) (h : IsDirected 
             })
 
     -- and where it ends, unless an edge ends there
-    upright_counts_at_end : UprightIsFree → (IsEndOfSome (edges_of es) u.b → ⊥) → count_along kind es (upright_short u.b) ≡ count_along kind es u
-    upright_counts_at_end free none = same_along kind es (upright_short u.b) u (λ s at. (shorter s at, longer s at))
+    vertical_counts_at_end : VerticalIsFree → (IsEndOfSome (edges_of es) u.b → ⊥) → count_along kind es (vertical_short u.b) ≡ count_along kind es u
+    vertical_counts_at_end free none = same_along kind es (vertical_short u.b) u (λ s at. (shorter s at, longer s at))
       where
         at_end : (s : Edge) (q : Point) → q.x ≡ u.a.x → q.y ≡ u.b.y → u.b ≡ q
-        at_end s q e f = λ i. point_over (sym f i) ((sym upright ∙ sym e) i)
+        at_end s q e f = λ i. point_over (sym f i) ((sym vertical ∙ sym e) i)
 
-        longer : (s : Edge) → Contains (edges_of es) s → is_part u s ≡ true → is_part (upright_short u.b) s ≡ true
+        longer : (s : Edge) → Contains (edges_of es) s → is_part u s ≡ true → is_part (vertical_short u.b) s ≡ true
         longer s at part =
-            let k = (upright_parts u s forward upright at).0 part in
-            (upright_parts (upright_short u.b) s (short_upright_before u.b) refl at).1
+            let k = (vertical_parts u s forward vertical at).0 part in
+            (vertical_parts (vertical_short u.b) s (short_vertical_before u.b) refl at).1
             (record {
-              first = k.first ∙ upright;
-              second = k.second ∙ upright;
-              from = weaken s.a.y u.a.y u.b.y k.from upright_long;
+              first = k.first ∙ vertical;
+              second = k.second ∙ vertical;
+              from = weaken s.a.y u.a.y u.b.y k.from vertical_long;
               to = by_lt_z u.b.y s.b.y (λ l. up_to u.b.y s.b.y l) (λ l. absurd (none (s, at, inr (at_end s s.b k.second (same_place s.b.y u.b.y l k.to)))));
             })
 
-        shorter : (s : Edge) → Contains (edges_of es) s → is_part (upright_short u.b) s ≡ true → is_part u s ≡ true
+        shorter : (s : Edge) → Contains (edges_of es) s → is_part (vertical_short u.b) s ≡ true → is_part u s ≡ true
         shorter s at part =
-            let k : SpansUp s (upright_short u.b) = (upright_parts (upright_short u.b) s (short_upright_before u.b) refl at).0 part in
-            (upright_parts u s forward upright at).1
+            let k : SpansUp s (vertical_short u.b) = (vertical_parts (vertical_short u.b) s (short_vertical_before u.b) refl at).0 part in
+            (vertical_parts u s forward vertical at).1
             (record {
-              first = k.first ∙ sym upright;
-              second = k.second ∙ sym upright;
+              first = k.first ∙ sym vertical;
+              second = k.second ∙ sym vertical;
               from =
                   by_lt_z u.a.y s.a.y
-                  (λ l. by_lt_z s.a.y u.b.y (λ m. absurd (free s at s.a (inl refl) (k.first ∙ sym upright) l m))
-                  (λ m. absurd (none (s, at, inl (at_end s s.a (k.first ∙ sym upright) (same_place s.a.y u.b.y k.from m))))))
+                  (λ l. by_lt_z s.a.y u.b.y (λ m. absurd (free s at s.a (inl refl) (k.first ∙ sym vertical) l m))
+                  (λ m. absurd (none (s, at, inl (at_end s s.a (k.first ∙ sym vertical) (same_place s.a.y u.b.y k.from m))))))
                   (λ l. l);
               to = down_to u.b.y s.b.y k.to;
             })
 
     -- A cut point on an edge that runs along u is a point, if it is one where it is a crossing.
-    cut_upright_there : (s : Edge) → Contains (edges_of es) s → (p : Point) → IsCutPoint (edges_of es) u p → s.a.x ≡ u.a.x → s.b.x ≡ u.a.x → s.a.y ≤ℤ p.y → p.y ≤ℤ s.b.y
+    cut_vertical_there : (s : Edge) → Contains (edges_of es) s → (p : Point) → IsCutPoint (edges_of es) u p → s.a.x ≡ u.a.x → s.b.x ≡ u.a.x → s.a.y ≤ℤ p.y → p.y ≤ℤ s.b.y
         → (IsCrossing (edges_of es) p → Contains ps p) → Contains ps p
-    cut_upright_there s at p cut e f from to counts = ⊎_elim (an_end k.1.0 k.1.1 p) crossing k.1.2
+    cut_vertical_there s at p cut e f from to counts = ⊎_elim (an_end k.1.0 k.1.1 p) crossing k.1.2
       where
-        k : (p.x ≡ u.a.x) × IsMetAt PassesLevelThrough (edges_of es) p
-        k = (upright_cut_is p).0 cut
+        k : (p.x ≡ u.a.x) × IsMetAt PassesHorizontalThrough (edges_of es) p
+        k = (vertical_cut_is p).0 cut
 
-        crossing : PassesLevelThrough k.1.0 p → Contains ps p
+        crossing : PassesHorizontalThrough k.1.0 p → Contains ps p
         crossing across =
             by_lt_z s.a.y p.y
             (λ l. by_lt_z p.y s.b.y
@@ -686,74 +686,74 @@ module _ {C : Type 0} (kind : Counting C) (es : List (Entry C)) (h : IsDirected 
             (λ m. an_end s at p (inr (λ i. point_over (same_place p.y s.b.y to m i) ((k.0 ∙ sym f) i)))))
             (λ l. an_end s at p (inl (λ i. point_over (same_place p.y s.a.y l from i) ((k.0 ∙ sym e) i))))
 
-    upright_step_joins : (c : C) → count_along kind es u ≡ Some c → IsStepAlong (λ p. p.x) ps u → (s : Edge) → Contains (edges_of es) s → is_part u s ≡ true → JoinsNeighbours (edges_of es) u
-    upright_step_joins c counts step s at part = record {
+    vertical_step_joins : (c : C) → count_along kind es u ≡ Some c → IsStepAlong (λ p. p.x) ps u → (s : Edge) → Contains (edges_of es) s → is_part u s ≡ true → JoinsNeighbours (edges_of es) u
+    vertical_step_joins c counts step s at part = record {
       forward = forward;
       along = (s, at, part);
-      first = point_cuts_upright u.a step.first refl;
-      second = point_cuts_upright u.b step.second (sym upright);
+      first = point_cuts_vertical u.a step.first refl;
+      second = point_cuts_vertical u.b step.second (sym vertical);
       free = λ p cut. by p cut (strictly_inside p u) refl;
     }
       where
         spans : SpansUp s u
-        spans = (upright_parts u s forward upright at).0 part
+        spans = (vertical_parts u s forward vertical at).0 part
 
-        free : UprightIsFree
-        free r there q end e l m = step.free q (an_end r there q end) e (upright_before u.a q (sym e) l) (upright_before q u.b (e ∙ upright) m)
+        free : VerticalIsFree
+        free r there q end e l m = step.free q (an_end r there q end) e (vertical_before u.a q (sym e) l) (vertical_before q u.b (e ∙ vertical) m)
 
         by : (p : Point) → IsCutPoint (edges_of es) u p → (b : Bool) → strictly_inside p u ≡ b → b ≡ false
         by p cut false e = refl
         by p cut true e =
             let k = inside_is p u e in
-            let height = ((upright_cut_is p).0 cut).0 in
+            let height = ((vertical_cut_is p).0 cut).0 in
             let after = less_by_y u.a p (sym height) k.1 in
-            let before = less_by_y p u.b (height ∙ upright) k.2 in
+            let before = less_by_y p u.b (height ∙ vertical) k.2 in
             let there =
-            cut_upright_there s at p cut spans.first spans.second (weaken s.a.y u.a.y p.y spans.from after) (weaker p.y u.b.y s.b.y before spans.to)
-            (λ crossing. points.crossings p crossing (inr (some_not_none (upright_counts_inside free p height (weak u.a.y p.y after) before ∙ counts)))) in
+            cut_vertical_there s at p cut spans.first spans.second (weaken s.a.y u.a.y p.y spans.from after) (weaker p.y u.b.y s.b.y before spans.to)
+            (λ crossing. points.crossings p crossing (inr (some_not_none (vertical_counts_inside free p height (weak u.a.y p.y after) before ∙ counts)))) in
             absurd (step.free p there height k.1 k.2)
 
-    joins_upright_step : (c : C) → count_along kind es u ≡ Some c → JoinsNeighbours (edges_of es) u → IsStepAlong (λ p. p.x) ps u
-    joins_upright_step c counts joins = record {
+    joins_vertical_step : (c : C) → count_along kind es u ≡ Some c → JoinsNeighbours (edges_of es) u → IsStepAlong (λ p. p.x) ps u
+    joins_vertical_step c counts joins = record {
       first =
-          there u.a joins.first spans.from (weaker u.a.y u.b.y joins.along.0.b.y upright_long spans.to)
-          (λ crossing. points.crossings u.a crossing (inr (some_not_none (upright_counts_inside free u.a refl (level_le u.a.y) upright_long ∙ counts))));
+          there u.a joins.first spans.from (weaker u.a.y u.b.y joins.along.0.b.y vertical_long spans.to)
+          (λ crossing. points.crossings u.a crossing (inr (some_not_none (vertical_counts_inside free u.a refl (level_le u.a.y) vertical_long ∙ counts))));
       second =
-          there u.b joins.second (weaken joins.along.0.a.y u.a.y u.b.y spans.from upright_long) spans.to
-          (λ crossing. ⊎_elim (points.ends u.b) (λ none. points.crossings u.b crossing (inr (some_not_none (upright_counts_at_end free none ∙ counts)))) (ends_decided (edges_of es) u.b));
+          there u.b joins.second (weaken joins.along.0.a.y u.a.y u.b.y spans.from vertical_long) spans.to
+          (λ crossing. ⊎_elim (points.ends u.b) (λ none. points.crossings u.b crossing (inr (some_not_none (vertical_counts_at_end free none ∙ counts)))) (ends_decided (edges_of es) u.b));
       forward = before_is_less u.a u.b forward;
-      same = upright;
+      same = vertical;
       free = λ p at same l m.
-          false≢true (sym (joins.free p (point_cuts_upright p at same)) ∙ inside_from p u ((upright_flat u p forward upright).1 same) l m);
+          false≢true (sym (joins.free p (point_cuts_vertical p at same)) ∙ inside_from p u ((vertical_flat u p forward vertical).1 same) l m);
     }
       where
         spans : SpansUp joins.along.0 u
-        spans = (upright_parts u joins.along.0 forward upright joins.along.1).0 joins.along.2
+        spans = (vertical_parts u joins.along.0 forward vertical joins.along.1).0 joins.along.2
 
-        free : UprightIsFree
+        free : VerticalIsFree
         free r at q end e l m =
             false≢true
-            (sym (joins.free q (point_cuts_upright q (an_end r at q end) e))
-            ∙ inside_from q u ((upright_flat u q forward upright).1 e) (upright_before u.a q (sym e) l) (upright_before q u.b (e ∙ upright) m))
+            (sym (joins.free q (point_cuts_vertical q (an_end r at q end) e))
+            ∙ inside_from q u ((vertical_flat u q forward vertical).1 e) (vertical_before u.a q (sym e) l) (vertical_before q u.b (e ∙ vertical) m))
 
         there : (p : Point) → IsCutPoint (edges_of es) u p → joins.along.0.a.y ≤ℤ p.y → p.y ≤ℤ joins.along.0.b.y → (IsCrossing (edges_of es) p → Contains ps p) → Contains ps p
-        there p cut from to = cut_upright_there joins.along.0 joins.along.1 p cut spans.first spans.second from to
+        there p cut from to = cut_vertical_there joins.along.0 joins.along.1 p cut spans.first spans.second from to
 
   -- ---- the list is the map
 
   abbrev steps : List (Entry C)
   steps = steps_between kind es ps
 
-  pub way_of : (s : Edge) → Contains (edges_of es) s → IsLevel s ⊎ IsUpright s
-  way_of s at = level_or_upright s (All-contains (λ s. is_level_or_upright s ≡ true) (edges_of es) s all at)
+  pub way_of : (s : Edge) → Contains (edges_of es) s → IsHorizontal s ⊎ IsVertical s
+  way_of s at = rectilinear s (All-contains (λ s. is_rectilinear s ≡ true) (edges_of es) s all at)
 
   step_joins_neighbours : (u : Edge) (c : C) → IsStepIn kind es ps u → count_along kind es u ≡ Some c → JoinsNeighbours (edges_of es) u
   step_joins_neighbours u c step counts =
       let found = some_along u c counts in
-      ⊎_elim (λ k. upright_step_joins u (ap is_lt k.forward) k.same c counts k found.0 found.1 found.2) (λ k. level_step_joins u (ap is_lt k.forward) k.same c counts k found.0 found.1 found.2) step
+      ⊎_elim (λ k. vertical_step_joins u (ap is_lt k.forward) k.same c counts k found.0 found.1 found.2) (λ k. horizontal_step_joins u (ap is_lt k.forward) k.same c counts k found.0 found.1 found.2) step
 
   joins_are_steps : (u : Edge) (c : C) → count_along kind es u ≡ Some c → JoinsNeighbours (edges_of es) u → IsStepIn kind es ps u
-  joins_are_steps u c counts joins = ⊎_elim (λ k. inr (joins_level_step u joins.forward (level k) c counts joins)) (λ k. inl (joins_upright_step u joins.forward (upright k) c counts joins)) (way_of joins.along.0 joins.along.1)
+  joins_are_steps u c counts joins = ⊎_elim (λ k. inr (joins_horizontal_step u joins.forward (level k) c counts joins)) (λ k. inl (joins_vertical_step u joins.forward (vertical k) c counts joins)) (way_of joins.along.0 joins.along.1)
     where
       piece : IsPiece u joins.along.0
       piece = part_tells u joins.along.0 joins.forward joins.along.2
@@ -761,11 +761,11 @@ module _ {C : Type 0} (kind : Counting C) (es : List (Entry C)) (h : IsDirected 
       forward : is_before joins.along.0.a joins.along.0.b ≡ true
       forward = directed_entry joins.along.0 joins.along.1
 
-      level : IsLevel joins.along.0 → IsLevel u
-      level k = (level_flat joins.along.0 u.a forward k).0 piece.first_on ∙ sym ((level_flat joins.along.0 u.b forward k).0 piece.second_on)
+      level : IsHorizontal joins.along.0 → IsHorizontal u
+      level k = (horizontal_flat joins.along.0 u.a forward k).0 piece.first_on ∙ sym ((horizontal_flat joins.along.0 u.b forward k).0 piece.second_on)
 
-      upright : IsUpright joins.along.0 → IsUpright u
-      upright k = (upright_flat joins.along.0 u.a forward k).0 piece.first_on ∙ sym ((upright_flat joins.along.0 u.b forward k).0 piece.second_on)
+      vertical : IsVertical joins.along.0 → IsVertical u
+      vertical k = (vertical_flat joins.along.0 u.a forward k).0 piece.first_on ∙ sym ((vertical_flat joins.along.0 u.b forward k).0 piece.second_on)
 
   steps_entries : All (IsStepEntry kind es ps) steps
   steps_entries = steps_are kind es ps points.rising
@@ -801,10 +801,10 @@ module _ {C : Type 0} (kind : Counting C) (es : List (Entry C)) (h : IsDirected 
   steps_are_map = record { is_normal = steps_normal; joins = steps_joined; counts = steps_counted }
 
 -- one late pass over a directed list lays the steps between its points
-pub steps_of_pass : {C : Type 0} (kind : Counting C) (es : List (Entry C)) (ps : List Point) → IsDirected es → AllLevelOrUpright (edges_of es) → ArePoints kind es ps → pass_by kind late_marks es ≡ steps_between kind es ps
+pub steps_of_pass : {C : Type 0} (kind : Counting C) (es : List (Entry C)) (ps : List Point) → IsDirected es → AllRectilinear (edges_of es) → ArePoints kind es ps → pass_by kind late_marks es ≡ steps_between kind es ps
 steps_of_pass kind es ps h all points =
-    one_map kind es (pass_by kind late_marks es) (steps_between kind es ps) (pass_is_map kind es h (level_meet_whole es h all)) (steps_are_map kind es h all ps points)
+    one_map kind es (pass_by kind late_marks es) (steps_between kind es ps) (pass_is_map kind es h (horizontal_meet_whole es h all)) (steps_are_map kind es h all ps points)
 
-pub steps_of_points : {C : Type 0} (kind : Counting C) (precision : Precision) (es : List (Entry C)) (ps : List Point) → IsNormal kind es → AllLevelOrUpright (edges_of es) → ArePoints kind es ps → redrawn kind precision es ≡ steps_between kind es ps
+pub steps_of_points : {C : Type 0} (kind : Counting C) (precision : Precision) (es : List (Entry C)) (ps : List Point) → IsNormal kind es → AllRectilinear (edges_of es) → ArePoints kind es ps → redrawn kind precision es ≡ steps_between kind es ps
 steps_of_points kind precision es ps h all points =
-    redrawn_by_a_pass kind precision es h (level_and_upright_meet_whole kind es h all) ∙ steps_of_pass kind es ps h.directed all points
+    redrawn_by_a_pass kind precision es h (horizontal_and_vertical_meet_whole kind es h all) ∙ steps_of_pass kind es ps h.directed all points

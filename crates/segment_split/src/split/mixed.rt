@@ -1,8 +1,8 @@
-//! The first pass over maps in which a few slanted segments stand among level and upright ones. Only pairs with a slanted one are looked
-//! at; level and upright segments are cut where slanted ones mark them, and their pieces laid by one sweep over their lines.
+//! The first pass over maps in which a few slanted segments stand among horizontal and vertical ones. Only pairs with a slanted one are looked
+//! at; horizontal and vertical segments are cut where slanted ones mark them, and their pieces laid by one sweep over their lines.
 //!
-//! That is what the pass makes of them where each level or upright segment meets all others whole: all its marks lie on it, early or late.
-//! Where a slanted one crosses one off the grid, level and upright ones are looked at in pairs too, each pair once, as in any pass.
+//! That is what the pass makes of them where each horizontal or vertical segment meets all others whole: all its marks lie on it, early or late.
+//! Where a slanted one crosses one off the grid, horizontal and vertical ones are looked at in pairs too, each pair once, as in any pass.
 //!
 //! Pieces are laid from a list in which equal ones stand apart: joined beforehand, two could cancel, and would cut no other.
 //!
@@ -14,7 +14,7 @@ ghost use Rattle.i_tree.specs.Steps.{Counts};
 ghost use Rattle.plane_base.specs.Plane.{is_before};
 ghost use Rattle.plane_base.specs.Counts.{IsNormal};
 ghost use Rattle.plane_base.specs.SegmentViews.{edge_of};
-ghost use Rattle.segment_split.specs.LineLaws.{is_level_or_upright};
+ghost use Rattle.segment_split.specs.LineLaws.{is_rectilinear};
 ghost use Rattle.segment_split.specs.MarkLists.{laid_marks, AreInPlace};
 ghost use Rattle.segment_split.specs.Mixed.{TellsOld, IsSearched, IsCutApart, lines_among, laid_through};
 ghost use Rattle.segment_split.specs.Passes.{edges_of};
@@ -30,9 +30,9 @@ use super::{NumberedPass, Passed, Room, TOO_MANY, cut_at_marks, release};
 use crate::count::{ShapeCountBoolean, WindingCount};
 use crate::cutting::{lay_run, run_length};
 use crate::data::OverlayEdgeData;
-use crate::level::bare::{first_datum, key_of, may_take_lines, put_all};
-use crate::level::is_level_or_upright;
-use crate::level::marked::lay_marked;
+use crate::lines::bare::{first_datum, key_of, may_take_lines, put_all};
+use crate::lines::is_rectilinear;
+use crate::lines::marked::lay_marked;
 use crate::mark::Mark;
 use crate::merge::sort_and_merge;
 use crate::old::fill;
@@ -119,12 +119,12 @@ fn is_worth_it<C: WindingCount, I: OverlayInt, D>(
     may_cross_often(alloc, segments)
 }
 
-// Whether some segments are neither level nor upright, but no more than a quarter.
+// Whether some segments are neither horizontal nor vertical, but no more than a quarter.
 fn has_few_slanted<C: WindingCount, I: OverlayInt, D>(segments: &[Segment<C, I, D>]) -> bool {
     let most = segments.len() / 4;
     let mut many = 0usize;
     for segment in segments {
-        if !is_level_or_upright(segment.x_segment) {
+        if !is_rectilinear(segment.x_segment) {
             many = many.saturating_add(1);
             if many > most {
                 return false;
@@ -134,20 +134,20 @@ fn has_few_slanted<C: WindingCount, I: OverlayInt, D>(segments: &[Segment<C, I, 
     0 < many
 }
 
-// Tells that level and upright segments are old, and slanted ones new, or the other way round: for each segment the next new one from
+// Tells that horizontal and vertical segments are old, and slanted ones new, or the other way round: for each segment the next new one from
 // it on.
 fn tell_old<C: WindingCount, I: OverlayInt, D>(
     next_new: &mut Vec<usize>,
     segments: &[Segment<C, I, D>],
     are_lines_old: bool,
 ) -> Result<(), Fault>
-    ensures told { OnOk result (TellsOld (λ s. cond are_lines_old (is_level_or_upright s) (not (is_level_or_upright s)))
+    ensures told { OnOk result (TellsOld (λ s. cond are_lines_old (is_rectilinear s) (not (is_rectilinear s)))
         (edges_of (entries_of I.value segments.now)) next_new.new.items) }
     ensures memory { IsOkUnless result Fault.Memory }
 {
     next_new.clear();
     for i in 0..segments.len() {
-        if is_level_or_upright(segments[i].x_segment) != are_lines_old {
+        if is_rectilinear(segments[i].x_segment) != are_lines_old {
             fill(next_new, i)?;
             next_new.push(i)?;
         }
@@ -155,7 +155,7 @@ fn tell_old<C: WindingCount, I: OverlayInt, D>(
     fill(next_new, segments.len())
 }
 
-// The pass where level and upright segments meet all others whole, from the marks that pairs with a slanted segment lay.
+// The pass where horizontal and vertical segments meet all others whole, from the marks that pairs with a slanted segment lay.
 fn cut_in_turn<C: WindingCount, I: OverlayInt, D: OverlayEdgeData<C>, L: Ledger>(
     segments: &mut Vec<Segment<C, I, D>>,
     pieces: &mut Vec<Segment<C, I, D>>,
@@ -209,7 +209,7 @@ fn cut_in_turn<C: WindingCount, I: OverlayInt, D: OverlayEdgeData<C>, L: Ledger>
     })
 }
 
-// Cuts segments at the marks, level and upright ones apart from slanted ones, and puts the pieces of the first in order. Answers whether
+// Cuts segments at the marks, horizontal and vertical ones apart from slanted ones, and puts the pieces of the first in order. Answers whether
 // there are any marks.
 fn cut_apart<C: WindingCount, I: OverlayInt, D: OverlayEdgeData<C>>(
     lines: &mut Vec<Segment<ShapeCountBoolean, I, ()>>,
@@ -250,7 +250,7 @@ fn cut_apart<C: WindingCount, I: OverlayInt, D: OverlayEdgeData<C>>(
     Ok(is_marked)
 }
 
-// Cuts segments at their marks: level and upright ones into one list, without their data, slanted ones into another. One that has no
+// Cuts segments at their marks: horizontal and vertical ones into one list, without their data, slanted ones into another. One that has no
 // marks is its own piece.
 fn cut_by_slope<C: WindingCount, I: OverlayInt, D: OverlayEdgeData<C>>(
     lines: &mut Vec<Segment<ShapeCountBoolean, I, ()>>,
@@ -292,14 +292,14 @@ fn cut_one_by_slope<C: WindingCount, I: OverlayInt, D: OverlayEdgeData<C>>(
 ) -> Result<(), Fault>
     requires adds { C.ADDS ≡ true }
     ensures lines { OnOk result (with_counts (of_count C.of) (entries_of I.value lines.new.items) ≡
-        with_counts (of_count C.of) (entries_of I.value lines.old.items) ++ cond (is_level_or_upright (edge_of I.value segment.x_segment))
+        with_counts (of_count C.of) (entries_of I.value lines.old.items) ++ cond (is_rectilinear (edge_of I.value segment.x_segment))
         (laid_through C.counting (entry_of I.value segment) (laid_marks I.value I.Wide.number run.now)) []) }
     ensures others { OnOk result (entries_of I.value others.new.items ≡
-        entries_of I.value others.old.items ++ cond (is_level_or_upright (edge_of I.value segment.x_segment))
+        entries_of I.value others.old.items ++ cond (is_rectilinear (edge_of I.value segment.x_segment))
         [] (laid_through C.counting (entry_of I.value segment) (laid_marks I.value I.Wide.number run.now))) }
     ensures memory { IsOkUnless result Fault.Memory }
 {
-    if is_level_or_upright(segment.x_segment) {
+    if is_rectilinear(segment.x_segment) {
         lay_run(lines, key_of(segment), run, &mut ())
     } else {
         lay_run(others, segment, run, store)

@@ -95,7 +95,7 @@ fn begins_without_passes(rt: HostRuntime) {
     assert_eq!(rt; splitter.passes(), 0);
 }
 
-// The crossing at (1, 1/10) goes to (0, 0), and the upright segment is turned there.
+// The crossing at (1, 1/10) goes to (0, 0), and the vertical segment is turned there.
 #[test]
 fn turns_a_step(rt: HostRuntime) -> Result<(), Fail> {
     let alloc = rt.alloc();

@@ -8,7 +8,7 @@ use Rattle.polygon_overlay.specs.Plane.{Point, RationalPoint, IsRational}
 use Rattle.polygon_overlay.specs.Regions.{NonZero, is_filled}
 use Rattle.polygon_overlay.specs.Sizing.{IsSized, IsFilledBy, WindWhere}
 use Rattle.polygon_overlay.specs.SizingCalls.{AreSized}
-use Rattle.polygon_overlay.specs.Tiles.{AreLevelOrUpright}
+use Rattle.polygon_overlay.specs.Tiles.{AreRectilinear}
 use Rattle.polygon_overlay.specs.Windings.{contour_winding}
 use Rattle.uses.specs.Rules.{IsEnclosureError, AreRest, AreEnclosureErrors}
 
@@ -32,7 +32,7 @@ wind_alike In Inside contours alike wind p some = by (wind p some)
     by (inl (h, e)) = inl ((alike p some).0 h, e)
     by (inr (off, e)) = inr (λ h. off ((alike p some).1 h), e)
 
-pub are_enclosure_errors : GrownIsNear → (least greatest distance : ℤ) → pos 0 ≤ℤ distance → (inner outer : List (List Point)) → AreLevelOrUpright inner
+pub are_enclosure_errors : GrownIsNear → (least greatest distance : ℤ) → pos 0 ≤ℤ distance → (inner outer : List (List Point)) → AreRectilinear inner
     → (grown shapes : List (List (List Point))) → AreSized least greatest (evenly distance) default_options NonZero default_precision inner grown
     → AreRest (all_contours grown) outer shapes → AreEnclosureErrors distance inner outer shapes
 are_enclosure_errors near least greatest distance some_distance inner outer straight grown shapes sized =

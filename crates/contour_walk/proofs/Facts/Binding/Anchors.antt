@@ -1,4 +1,4 @@
--- The anchor of a contour: the lowest edge at its least point, which is never upright.
+-- The anchor of a contour: the lowest edge at its least point, which is never vertical.
 use Rattle.std.proofs.Common.{◌≡◌, ◌≢◌, ◌<◌, Bool, true, false, cond, List, [], ◌∷◌, length, All, Contains, ◌⊎◌, inl, inr, ℤ, pos, ◌≤ℤ◌, ◌<ℤ◌, refl, sym, ap, ◌∙◌, subst, arith}
 use Rattle.std.specs.Prelude.{Option, Some, None}
 use Rattle.std.specs.Ordering.{is_eq, int_cmp}
@@ -11,7 +11,7 @@ use Rattle.plane_base.specs.Totals.{total}
 use Rattle.plane_base.proofs.Facts.Lists.Totals.{total_monotone_on}
 use Rattle.plane_base.proofs.Facts.Points.Orders.{point_equal, is_equal, edge_itself, point_less, point_less_x, before_is_less}
 use Rattle.plane_base.proofs.Facts.Columns.Levels.{unless_same}
-use Rattle.segment_arrangement.proofs.Facts.Fans.{turn_upright}
+use Rattle.segment_arrangement.proofs.Facts.Fans.{turn_vertical}
 use Rattle.segment_arrangement.proofs.Facts.Angles.{angle_is_lawful}
 use Rattle.contour_walk.specs.Walks.{contour_edges}
 use Rattle.contour_walk.specs.Binding.{least_point, lowest_from, anchor}
@@ -35,9 +35,9 @@ pub record IsAnchor (points : List Point) (e : Edge) : Type 0 where
   pub lowest : (s : Edge) → Contains (contour_edges points) s → s.a ≡ e.a → pos 0 ≤ℤ turn e.a e.b s.b
 
 module _ (points : List Point) (clean : IsClean (contour_edges points)) (v : Point) (least : IsLeastPoint points v) where
-  -- were the lowest edge upright, it would be the only one
+  -- were the lowest edge vertical, it would be the only one
   alone : (e : Edge) → IsLowest v (contour_edges points) e → e.a.x ≡ e.b.x → e.a.y <ℤ e.b.y → (s : Edge) → Contains (contour_edges points) s → s.a ≡ v → s ≡ e
-  alone e h upright up s here start = unless_same s e (λ same. same) differs
+  alone e h vertical up s here start = unless_same s e (λ same. same) differs
     where
       together : e.a ≡ s.a
       together = h.starts ∙ sym start
@@ -49,7 +49,7 @@ module _ (points : List Point) (clean : IsClean (contour_edges points)) (v : Poi
       right = subst (λ p. p.x ≤ℤ s.b.x) (sym together) (point_less_x s.a s.b (before_is_less s.a s.b (All-contains (λ s. is_before s.a s.b ≡ true) (contour_edges points) s clean.directed here)))
 
       flat : turn e.a e.b s.b ≡ pos 0
-      flat = level (turn e.a e.b s.b) (turn_upright e s.b upright up right) (subst (λ z. pos 0 ≤ℤ turn z e.b s.b) (sym h.starts) (h.least s here start))
+      flat = level (turn e.a e.b s.b) (turn_vertical e s.b vertical up right) (subst (λ z. pos 0 ≤ℤ turn z e.b s.b) (sym h.starts) (h.least s here start))
 
       differs : s ≢ e → s ≡ e
       differs other =
@@ -63,7 +63,7 @@ module _ (points : List Point) (clean : IsClean (contour_edges points)) (v : Poi
       clash t n l m k = omega (arith, ints)
 
       at_most : e.a.x ≡ e.b.x → e.a.y <ℤ e.b.y → (s : Edge) → Contains (contour_edges points) s → mark v s.a ≤ℤ cond (is_eq (edge_order s e)) (pos 1) (pos 0)
-      at_most upright up s here = held (is_eq (point_order s.a v)) refl
+      at_most vertical up s here = held (is_eq (point_order s.a v)) refl
         where
           counted : s ≡ e → pos 1 ≤ℤ cond (is_eq (edge_order s e)) (pos 1) (pos 0)
           counted same = subst (λ o. pos 1 ≤ℤ cond (is_eq o) (pos 1) (pos 0)) (sym (ap (λ z. edge_order z e) same ∙ edge_itself e)) (omega (arith, ints))
@@ -73,7 +73,7 @@ module _ (points : List Point) (clean : IsClean (contour_edges points)) (v : Poi
           not_negative false = omega (arith, ints)
 
           held : (b : Bool) → is_eq (point_order s.a v) ≡ b → cond b (pos 1) (pos 0) ≤ℤ cond (is_eq (edge_order s e)) (pos 1) (pos 0)
-          held true f = counted (alone e h upright up s here (point_equal s.a v (is_equal (point_order s.a v) f)))
+          held true f = counted (alone e h vertical up s here (point_equal s.a v (is_equal (point_order s.a v) f)))
           held false f = not_negative (is_eq (edge_order s e))
 
       by : (e.a.x <ℤ e.b.x) ⊎ ((e.a.x ≡ e.b.x) × (e.a.y <ℤ e.b.y)) → e.a.x <ℤ e.b.x
@@ -98,7 +98,7 @@ module _ (points : List Point) (clean : IsClean (contour_edges points)) (v : Poi
 abbrev at_least : List Edge → Option Point → Option Edge
 at_least ss o = elim o [ None ↦ None | Some v ↦ lowest_from v ss ]
 
--- each contour of clean edges has an anchor, which is not upright
+-- each contour of clean edges has an anchor, which is not vertical
 pub has_anchor : (points : List Point) → 0 < length points → IsClean (contour_edges points) → (e : Edge) × (anchor points ≡ Some e) × (e.a.x <ℤ e.b.x)
 has_anchor [] l clean = absurd (omega (arith, l))
 has_anchor (p ∷ ps) l clean = by (has_least p ps)

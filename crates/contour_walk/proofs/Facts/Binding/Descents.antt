@@ -22,17 +22,17 @@ use Rattle.contour_walk.proofs.Facts.Binding.Edges.{ends_of_contour}
 use Rattle.contour_walk.proofs.Facts.Binding.Orders.{before_by_point, before_by_angle, clash}
 use Rattle.contour_walk.proofs.Facts.Binding.Anchors.{IsAnchor}
 
--- what is not to the left of one that isn't upright isn't upright either
+-- what is not to the left of one that isn't vertical isn't vertical either
 wide_below : (v a b : Point) → is_before v a ≡ true → v.x <ℤ b.x → pos 0 ≤ℤ turn v a b → pos 0 <ℤ (a.x -ℤ v.x)
 wide_below v a b da wide left = by (point_less v a (before_is_less v a da))
   where
     by : (v.x <ℤ a.x) ⊎ ((v.x ≡ a.x) × (v.y <ℤ a.y)) → pos 0 <ℤ (a.x -ℤ v.x)
     by (inl h) = omega (arith, ints)
     by (inr h) =
-        absurd (none ((a.x -ℤ v.x) *ℤ (b.y -ℤ v.y)) ((a.y -ℤ v.y) *ℤ (b.x -ℤ v.x)) left (ap (λ z. z *ℤ (b.y -ℤ v.y)) (upright h.0) ∙ zero-*ℤ (b.y -ℤ v.y)) (product_positive (a.y -ℤ v.y) (b.x -ℤ v.x) (omega (arith, ints)) (omega (arith, ints, wide))))
+        absurd (none ((a.x -ℤ v.x) *ℤ (b.y -ℤ v.y)) ((a.y -ℤ v.y) *ℤ (b.x -ℤ v.x)) left (ap (λ z. z *ℤ (b.y -ℤ v.y)) (vertical h.0) ∙ zero-*ℤ (b.y -ℤ v.y)) (product_positive (a.y -ℤ v.y) (b.x -ℤ v.x) (omega (arith, ints)) (omega (arith, ints, wide))))
       where
-        upright : v.x ≡ a.x → a.x -ℤ v.x ≡ pos 0
-        upright e = omega (arith, ints)
+        vertical : v.x ≡ a.x → a.x -ℤ v.x ≡ pos 0
+        vertical e = omega (arith, ints)
 
         none : (m n : ℤ) → pos 0 ≤ℤ (m -ℤ n) → m ≡ pos 0 → pos 0 <ℤ n → ⊥
         none m n l e k = omega (arith, ints)

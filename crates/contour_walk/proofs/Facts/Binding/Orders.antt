@@ -97,8 +97,8 @@ weak_through v a b c da db dc first second = by (point_less v b (before_is_less 
     sum : (x y z : ℤ) → x ≡ y +ℤ z → pos 0 ≤ℤ y → pos 0 ≤ℤ z → pos 0 ≤ℤ x
     sum x y z e l m = omega (arith, ints)
 
-    upright : (v.x ≡ b.x) × (v.y <ℤ b.y) → pos 0 ≤ℤ turn v a c
-    upright h =
+    vertical : (v.x ≡ b.x) × (v.y <ℤ b.y) → pos 0 ≤ℤ turn v a c
+    vertical h =
         let flat : (c.x -ℤ v.x) ≤ℤ pos 0 = factor_not_positive (b.y -ℤ v.y) (c.x -ℤ v.x) (omega (arith, ints, h.1)) (right_of ((b.x -ℤ v.x) *ℤ (c.y -ℤ v.y)) ((b.y -ℤ v.y) *ℤ (c.x -ℤ v.x)) (first_none (b.x -ℤ v.x) (c.y -ℤ v.y) (none v.x b.x h.0)) second) in
         let also : c.x -ℤ v.x ≡ pos 0 = level (c.x -ℤ v.x) flat (rightward v c dc) in
         left_of ((a.x -ℤ v.x) *ℤ (c.y -ℤ v.y)) ((a.y -ℤ v.y) *ℤ (c.x -ℤ v.x)) (product_not_negative (a.x -ℤ v.x) (c.y -ℤ v.y) (rightward v a da) (upward also (point_less v c (before_is_less v c dc))))
@@ -127,7 +127,7 @@ weak_through v a b c da db dc first second = by (point_less v b (before_is_less 
     by (inl wide) =
         factor_not_negative (b.x -ℤ v.x) (turn v a c) (omega (arith, ints))
         (sum _ _ _ (fan_of_three v a b c) (product_not_negative (a.x -ℤ v.x) (turn v b c) (rightward v a da) second) (product_not_negative (c.x -ℤ v.x) (turn v a b) (rightward v c dc) first))
-    by (inr h) = upright h
+    by (inr h) = vertical h
 
 -- e starts at v, and none of the list that does runs to its right
 pub record IsLowest (v : Point) (ss : List Edge) (e : Edge) : Type 0 where

@@ -62,7 +62,7 @@ module _ {A B : Type 0} (f : A → B) where
 abbrev crossed : ℤ → ℤ → ℤ → ℤ → ℤ
 crossed ax ay bx by = (ax *ℤ by) -ℤ (ay *ℤ bx)
 
--- to the right of the upright line, or straight up
+-- to the right of the vertical line, or straight up
 abbrev Rightward : ℤ → ℤ → Type 0
 Rightward x y = (pos 0 <ℤ x) ⊎ ((x ≡ pos 0) × (pos 0 <ℤ y))
 

@@ -19,9 +19,9 @@ use Rattle.plane_base.proofs.Facts.Columns.Order.{before_of_order, inside_from}
 
 -- ---- turns against a vertical segment
 
--- of an upright line to a point, by how far it stands left of it
-upright_turn : (v : Edge) (p : Point) → v.a.x ≡ v.b.x → turn v.a v.b p ≡ (v.b.y -ℤ v.a.y) *ℤ (v.a.x -ℤ p.x)
-upright_turn v p e =
+-- of a vertical line to a point, by how far it stands left of it
+vertical_turn : (v : Edge) (p : Point) → v.a.x ≡ v.b.x → turn v.a v.b p ≡ (v.b.y -ℤ v.a.y) *ℤ (v.a.x -ℤ p.x)
+vertical_turn v p e =
     by_ring_given (coordinates (v.a ∷ v.b ∷ p ∷ []) [])
     (a_turn (place 0) (place 1) (place 2))
     (times (minus (var 3) (var 1)) (minus (var 0) (var 4)))
@@ -57,8 +57,8 @@ pub record IsInside (p : RationalPoint) (v : Edge) : Type 0 where
   pub above : (pos p.q *ℤ v.a.y) <ℤ p.y
   pub under : p.y <ℤ (pos p.q *ℤ v.b.y)
 
-between_upright : (p : RationalPoint) (v : Edge) → v.a.x ≡ v.b.x → IsBetween p v → IsInside p v
-between_upright p v e h = by (point_less (scaled p.q v.a) (numerators p) h.after) (point_less (numerators p) (scaled p.q v.b) h.before)
+between_vertical : (p : RationalPoint) (v : Edge) → v.a.x ≡ v.b.x → IsBetween p v → IsInside p v
+between_vertical p v e h = by (point_less (scaled p.q v.a) (numerators p) h.after) (point_less (numerators p) (scaled p.q v.b) h.before)
   where
     same : pos p.q *ℤ v.a.x ≡ pos p.q *ℤ v.b.x
     same = ap (λ z. pos p.q *ℤ z) e
@@ -79,7 +79,7 @@ between_upright p v e h = by (point_less (scaled p.q v.a) (numerators p) h.after
     by (inr l) (inr m) = record { over = sym l.0; above = l.1; under = m.1 }
 
 inner_inside : (p : RationalPoint) (v : Edge) → v.a.x ≡ v.b.x → IsInnerOf p v → IsInside p v
-inner_inside p v e h = ⊎_elim (λ k. absurd (h.1 k)) (λ k. between_upright p v e k) (where_on p v h.0)
+inner_inside p v e h = ⊎_elim (λ k. absurd (h.1 k)) (λ k. between_vertical p v e k) (where_on p v h.0)
 
 gap : (x y : ℤ) → x <ℤ y → pos 0 <ℤ (y -ℤ x)
 gap x y h = omega (arith, ints)
@@ -90,16 +90,16 @@ fall x y h = omega (arith, ints)
 refused : {b : Bool} {A : Type 0} → b ≡ false → b ≡ true → A
 refused f g = absurd (false≢true (sym f ∙ g))
 
-module _ (s v : Edge) (parts : AreParted s v) (upright : IsVertical v) (live : IsLive v.a.x s) where
+module _ (s v : Edge) (parts : AreParted s v) (vertical : IsVertical v) (live : IsLive v.a.x s) where
   wide : pos 0 <ℤ width s
   wide = omega (arith, ints, live.0, live.1)
 
   tall : pos 0 <ℤ (v.b.y -ℤ v.a.y)
-  tall = gap v.a.y v.b.y upright.1
+  tall = gap v.a.y v.b.y vertical.1
 
   at_column : (e : Point) → (e ≡ v.a) ⊎ (e ≡ v.b) → e.x ≡ v.a.x
   at_column e (inl h) = ap (λ z. z.x) h
-  at_column e (inr h) = ap (λ z. z.x) h ∙ sym upright.0
+  at_column e (inr h) = ap (λ z. z.x) h ∙ sym vertical.0
 
   not_inside : (e : Point) → (e ≡ v.a) ⊎ (e ≡ v.b) → strictly_inside e s ≡ false
   not_inside e (inl h) = ap (λ z. strictly_inside z s) h ∙ parts.first_end
@@ -118,7 +118,7 @@ module _ (s v : Edge) (parts : AreParted s v) (upright : IsVertical v) (live : I
       start g = let y = level e.y s.a.y (factor_zero (width s) (e.y -ℤ s.a.y) wide (sym (start_turn s e g) ∙ f)) in λ i. record { x = g i; y = y i }
 
   rises : turn s.a s.b v.a <ℤ turn s.a s.b v.b
-  rises = more _ _ _ (rise_of_turns s v upright.0) (product_positive (width s) (v.b.y -ℤ v.a.y) wide tall)
+  rises = more _ _ _ (rise_of_turns s v vertical.0) (product_positive (width s) (v.b.y -ℤ v.a.y) wide tall)
     where
       more : (x y z : ℤ) → y -ℤ x ≡ z → pos 0 <ℤ z → x <ℤ y
       more x y z e h = omega (arith, ints)
@@ -138,8 +138,8 @@ module _ (s v : Edge) (parts : AreParted s v) (upright : IsVertical v) (live : I
 
       properly : s.a.x <ℤ v.a.x → ⊥
       properly l =
-          let left : pos 0 <ℤ turn v.a v.b s.a = rw (upright_turn v s.a upright.0) (product_positive (v.b.y -ℤ v.a.y) (v.a.x -ℤ s.a.x) tall (gap s.a.x v.a.x l)) in
-          let right : turn v.a v.b s.b <ℤ pos 0 = rw (upright_turn v s.b upright.0) (product_negative (v.b.y -ℤ v.a.y) (v.a.x -ℤ s.b.x) tall (fall v.a.x s.b.x live.1)) in
+          let left : pos 0 <ℤ turn v.a v.b s.a = rw (vertical_turn v s.a vertical.0) (product_positive (v.b.y -ℤ v.a.y) (v.a.x -ℤ s.a.x) tall (gap s.a.x v.a.x l)) in
+          let right : turn v.a v.b s.b <ℤ pos 0 = rw (vertical_turn v s.b vertical.0) (product_negative (v.b.y -ℤ v.a.y) (v.a.x -ℤ s.b.x) tall (fall v.a.x s.b.x live.1)) in
           let first = opposite_is (turn s.a s.b v.a) (turn s.a s.b v.b) (inr (h, k)) in
           let second = opposite_is (turn v.a v.b s.a) (turn v.a v.b s.b) (inl (left, right)) in
           let proper : cross_properly s v ≡ true = rw (first, second) refl in
@@ -148,9 +148,9 @@ module _ (s v : Edge) (parts : AreParted s v) (upright : IsVertical v) (live : I
       in_column : s.a.x ≡ v.a.x → ⊥
       in_column e =
           let low : v.a.y <ℤ s.a.y = below s.a.y v.a.y (factor_negative (width s) (v.a.y -ℤ s.a.y) wide (rw (start_turn s v.a (sym e)) at h)) in
-          let high : s.a.y <ℤ v.b.y = above s.a.y v.b.y (factor_positive (width s) (v.b.y -ℤ s.a.y) wide (rw (start_turn s v.b (sym upright.0 ∙ sym e)) at k)) in
-          let flat : turn v.a v.b s.a ≡ pos 0 = upright_turn v s.a upright.0 ∙ (ap (λ z. (v.b.y -ℤ v.a.y) *ℤ (v.a.x -ℤ z)) e ∙ (ap (λ z. (v.b.y -ℤ v.a.y) *ℤ z) (level v.a.x) ∙ *ℤ-zero (v.b.y -ℤ v.a.y))) in
-          refused parts.own_first (inside_from s.a v flat (before_of_order v.a s.a (point_less_by_y v.a s.a (sym e) low)) (before_of_order s.a v.b (point_less_by_y s.a v.b (e ∙ upright.0) high)))
+          let high : s.a.y <ℤ v.b.y = above s.a.y v.b.y (factor_positive (width s) (v.b.y -ℤ s.a.y) wide (rw (start_turn s v.b (sym vertical.0 ∙ sym e)) at k)) in
+          let flat : turn v.a v.b s.a ≡ pos 0 = vertical_turn v s.a vertical.0 ∙ (ap (λ z. (v.b.y -ℤ v.a.y) *ℤ (v.a.x -ℤ z)) e ∙ (ap (λ z. (v.b.y -ℤ v.a.y) *ℤ z) (level v.a.x) ∙ *ℤ-zero (v.b.y -ℤ v.a.y))) in
+          refused parts.own_first (inside_from s.a v flat (before_of_order v.a s.a (point_less_by_y v.a s.a (sym e) low)) (before_of_order s.a v.b (point_less_by_y s.a v.b (e ∙ vertical.0) high)))
 
   not_across : opposite (turn s.a s.b v.a) (turn s.a s.b v.b) ≡ false
   not_across = by (opposite (turn s.a s.b v.a) (turn s.a s.b v.b)) refl
@@ -164,7 +164,7 @@ module _ (s v : Edge) (parts : AreParted s v) (upright : IsVertical v) (live : I
 
   above_all : pos 0 ≤ℤ turn s.a s.b v.a → (p : RationalPoint) → 0 < p.q → IsInnerOf p v → pos 0 <ℤ side s.a s.b p
   above_all h p some inner =
-      let k = inner_inside p v upright.0 inner in
+      let k = inner_inside p v vertical.0 inner in
       rw (side_from_point s v.a p k.over) (both _ _ (product_positive (width s) (p.y -ℤ (pos p.q *ℤ v.a.y)) wide (gap _ _ k.above)) (product_not_negative (pos p.q) (turn s.a s.b v.a) (omega (arith, ints)) h))
     where
       both : (x y : ℤ) → pos 0 <ℤ x → pos 0 ≤ℤ y → pos 0 <ℤ (x +ℤ y)
@@ -172,8 +172,8 @@ module _ (s v : Edge) (parts : AreParted s v) (upright : IsVertical v) (live : I
 
   below_all : turn s.a s.b v.b ≤ℤ pos 0 → (p : RationalPoint) → 0 < p.q → IsInnerOf p v → side s.a s.b p <ℤ pos 0
   below_all h p some inner =
-      let k = inner_inside p v upright.0 inner in
-      rw (side_from_point s v.b p (k.over ∙ ap (λ z. pos p.q *ℤ z) upright.0)) (both _ _ (product_negative (width s) (p.y -ℤ (pos p.q *ℤ v.b.y)) wide (fall _ _ k.under)) (product_not_positive (pos p.q) (turn s.a s.b v.b) (omega (arith, ints)) h))
+      let k = inner_inside p v vertical.0 inner in
+      rw (side_from_point s v.b p (k.over ∙ ap (λ z. pos p.q *ℤ z) vertical.0)) (both _ _ (product_negative (width s) (p.y -ℤ (pos p.q *ℤ v.b.y)) wide (fall _ _ k.under)) (product_not_positive (pos p.q) (turn s.a s.b v.b) (omega (arith, ints)) h))
     where
       both : (x y : ℤ) → x <ℤ pos 0 → y ≤ℤ pos 0 → (x +ℤ y) <ℤ pos 0
       both x y h k = omega (arith, ints)

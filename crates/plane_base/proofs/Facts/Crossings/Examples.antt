@@ -82,8 +82,8 @@ marked_near_ends = refl
 abbrev south : Edge
 south = from_to (at (pos 0) (pos 0)) (at (pos 10) (pos 0))
 
-upright_touches : cross_marks south (from_to (at (pos 4) (pos 0)) (at (pos 4) (pos 5))) 1 ≡ record { first = at (pos 4) (pos 0) ∷ []; second = [] }
-upright_touches = refl
+vertical_touches : cross_marks south (from_to (at (pos 4) (pos 0)) (at (pos 4) (pos 5))) 1 ≡ record { first = at (pos 4) (pos 0) ∷ []; second = [] }
+vertical_touches = refl
 
 overlaid_south : late_marks south (from_to (at (pos 4) (pos 0)) (at (pos 12) (pos 0))) ≡ record { first = at (pos 4) (pos 0) ∷ []; second = at (pos 10) (pos 0) ∷ [] }
 overlaid_south = refl

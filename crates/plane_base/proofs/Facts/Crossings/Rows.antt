@@ -45,13 +45,13 @@ truncated_late = refl
 abbrev slanted : Edge
 slanted = from (pos 0) (pos 0) (pos 10) (pos 1)
 
-abbrev upright : Edge
-upright = from (pos 1) (negsuc 7) (pos 1) (pos 8)
+abbrev vertical : Edge
+vertical = from (pos 1) (negsuc 7) (pos 1) (pos 8)
 
-snapped : cross_marks slanted upright 1 ≡ record { first = []; second = at (pos 0) (pos 0) ∷ [] }
+snapped : cross_marks slanted vertical 1 ≡ record { first = []; second = at (pos 0) (pos 0) ∷ [] }
 snapped = refl
 
-snapped_exchanged : cross_marks upright slanted 1 ≡ record { first = at (pos 0) (pos 0) ∷ []; second = [] }
+snapped_exchanged : cross_marks vertical slanted 1 ≡ record { first = at (pos 0) (pos 0) ∷ []; second = [] }
 snapped_exchanged = refl
 
 -- ---- on one line, ends inside, shared ends

@@ -40,13 +40,13 @@ abs_below (negsuc n) h = refl
 
 -- ---- turns
 
-level_turn : (ax bx y cx cy : ℤ) → ((bx -ℤ ax) *ℤ (cy -ℤ y)) -ℤ ((y -ℤ y) *ℤ (cx -ℤ ax)) ≡ (bx -ℤ ax) *ℤ (cy -ℤ y)
-level_turn ax bx y cx cy =
+horizontal_turn : (ax bx y cx cy : ℤ) → ((bx -ℤ ax) *ℤ (cy -ℤ y)) -ℤ ((y -ℤ y) *ℤ (cx -ℤ ax)) ≡ (bx -ℤ ax) *ℤ (cy -ℤ y)
+horizontal_turn ax bx y cx cy =
     by_ring (ax ∷ bx ∷ y ∷ cx ∷ cy ∷ []) (minus (times (minus (var 1) (var 0)) (minus (var 4) (var 2))) (times (minus (var 2) (var 2)) (minus (var 3) (var 0))))
     (times (minus (var 1) (var 0)) (minus (var 4) (var 2))) refl
 
-upright_turn : (x ay by cx cy : ℤ) → ((x -ℤ x) *ℤ (cy -ℤ ay)) -ℤ ((by -ℤ ay) *ℤ (cx -ℤ x)) ≡ (by -ℤ ay) *ℤ (x -ℤ cx)
-upright_turn x ay by cx cy =
+vertical_turn : (x ay by cx cy : ℤ) → ((x -ℤ x) *ℤ (cy -ℤ ay)) -ℤ ((by -ℤ ay) *ℤ (cx -ℤ x)) ≡ (by -ℤ ay) *ℤ (x -ℤ cx)
+vertical_turn x ay by cx cy =
     by_ring (x ∷ ay ∷ by ∷ cx ∷ cy ∷ []) (minus (times (minus (var 0) (var 0)) (minus (var 4) (var 1))) (times (minus (var 2) (var 1)) (minus (var 3) (var 0))))
     (times (minus (var 2) (var 1)) (minus (var 0) (var 3))) refl
 
@@ -77,11 +77,11 @@ module _ (s t : Edge) (c : CrossesSquarely s t) where
   abbrev pub meeting_point : Point
   meeting_point = record { x = t.a.x; y = s.a.y }
 
-  of_level : (p : Point) → turn s.a s.b p ≡ (s.b.x -ℤ s.a.x) *ℤ (p.y -ℤ s.a.y)
-  of_level p = ap (λ y. ((s.b.x -ℤ s.a.x) *ℤ (p.y -ℤ s.a.y)) -ℤ ((y -ℤ s.a.y) *ℤ (p.x -ℤ s.a.x))) c.level ∙ level_turn s.a.x s.b.x s.a.y p.x p.y
+  of_horizontal : (p : Point) → turn s.a s.b p ≡ (s.b.x -ℤ s.a.x) *ℤ (p.y -ℤ s.a.y)
+  of_horizontal p = ap (λ y. ((s.b.x -ℤ s.a.x) *ℤ (p.y -ℤ s.a.y)) -ℤ ((y -ℤ s.a.y) *ℤ (p.x -ℤ s.a.x))) c.horizontal ∙ horizontal_turn s.a.x s.b.x s.a.y p.x p.y
 
-  of_upright : (p : Point) → turn t.a t.b p ≡ (t.b.y -ℤ t.a.y) *ℤ (t.a.x -ℤ p.x)
-  of_upright p = ap (λ x. ((x -ℤ t.a.x) *ℤ (p.y -ℤ t.a.y)) -ℤ ((t.b.y -ℤ t.a.y) *ℤ (p.x -ℤ t.a.x))) c.upright ∙ upright_turn t.a.x t.a.y t.b.y p.x p.y
+  of_vertical : (p : Point) → turn t.a t.b p ≡ (t.b.y -ℤ t.a.y) *ℤ (t.a.x -ℤ p.x)
+  of_vertical p = ap (λ x. ((x -ℤ t.a.x) *ℤ (p.y -ℤ t.a.y)) -ℤ ((t.b.y -ℤ t.a.y) *ℤ (p.x -ℤ t.a.x))) c.vertical ∙ vertical_turn t.a.x t.a.y t.b.y p.x p.y
 
   through : (a b d : ℤ) → a <ℤ b → b <ℤ d → a <ℤ d
   through a b d h k = omega (arith, ints, h, k)
@@ -93,27 +93,27 @@ module _ (s t : Edge) (c : CrossesSquarely s t) where
   height = difference_above t.a.y t.b.y (through t.a.y s.a.y t.b.y c.bottom c.top)
 
   first_above : pos 0 <ℤ turn t.a t.b s.a
-  first_above = subst (λ z. pos 0 <ℤ z) (sym (of_upright s.a)) (product_positive (t.b.y -ℤ t.a.y) (t.a.x -ℤ s.a.x) height (difference_above s.a.x t.a.x c.left))
+  first_above = subst (λ z. pos 0 <ℤ z) (sym (of_vertical s.a)) (product_positive (t.b.y -ℤ t.a.y) (t.a.x -ℤ s.a.x) height (difference_above s.a.x t.a.x c.left))
 
   second_below : turn t.a t.b s.b <ℤ pos 0
-  second_below = subst (λ z. z <ℤ pos 0) (sym (of_upright s.b)) (product_negative (t.b.y -ℤ t.a.y) (t.a.x -ℤ s.b.x) height (difference_below s.b.x t.a.x c.right))
+  second_below = subst (λ z. z <ℤ pos 0) (sym (of_vertical s.b)) (product_negative (t.b.y -ℤ t.a.y) (t.a.x -ℤ s.b.x) height (difference_below s.b.x t.a.x c.right))
 
   proper : cross_properly s t ≡ true
   proper =
       ap₂ (λ a b. a && b)
       (opposite_up (turn s.a s.b t.a) (turn s.a s.b t.b)
-      (subst (λ z. z <ℤ pos 0) (sym (of_level t.a)) (product_negative (s.b.x -ℤ s.a.x) (t.a.y -ℤ s.a.y) breadth (difference_below s.a.y t.a.y c.bottom)))
-      (subst (λ z. pos 0 <ℤ z) (sym (of_level t.b)) (product_positive (s.b.x -ℤ s.a.x) (t.b.y -ℤ s.a.y) breadth (difference_above s.a.y t.b.y c.top))))
+      (subst (λ z. z <ℤ pos 0) (sym (of_horizontal t.a)) (product_negative (s.b.x -ℤ s.a.x) (t.a.y -ℤ s.a.y) breadth (difference_below s.a.y t.a.y c.bottom)))
+      (subst (λ z. pos 0 <ℤ z) (sym (of_horizontal t.b)) (product_positive (s.b.x -ℤ s.a.x) (t.b.y -ℤ s.a.y) breadth (difference_above s.a.y t.b.y c.top))))
       (opposite_down (turn t.a t.b s.a) (turn t.a t.b s.b) first_above second_below)
 
   here : scaled (crossing s t).q meeting_point ≡ numerators (crossing s t)
   here =
       let u = unsigned_abs (turn t.a t.b s.a) in
       let v = unsigned_abs (turn t.a t.b s.b) in
-      let e : pos u ≡ (t.b.y -ℤ t.a.y) *ℤ (t.a.x -ℤ s.a.x) = size_above (turn t.a t.b s.a) first_above ∙ of_upright s.a in
-      let f : pos v ≡ neg_ℤ ((t.b.y -ℤ t.a.y) *ℤ (t.a.x -ℤ s.b.x)) = abs_below (turn t.a t.b s.b) second_below ∙ ap neg_ℤ (of_upright s.b) in
+      let e : pos u ≡ (t.b.y -ℤ t.a.y) *ℤ (t.a.x -ℤ s.a.x) = size_above (turn t.a t.b s.a) first_above ∙ of_vertical s.a in
+      let f : pos v ≡ neg_ℤ ((t.b.y -ℤ t.a.y) *ℤ (t.a.x -ℤ s.b.x)) = abs_below (turn t.a t.b s.b) second_below ∙ ap neg_ℤ (of_vertical s.b) in
       let x = meets_x (t.b.y -ℤ t.a.y) t.a.x s.a.x s.b.x (pos u) (pos v) (pos (u + v)) e f (both_sizes u v) in
-      let y : pos (u + v) *ℤ s.a.y ≡ (pos v *ℤ s.a.y) +ℤ (pos u *ℤ s.b.y) = meets_y s.a.y (pos u) (pos v) (pos (u + v)) (both_sizes u v) ∙ ap (λ z. (pos v *ℤ s.a.y) +ℤ (pos u *ℤ z)) (sym c.level) in
+      let y : pos (u + v) *ℤ s.a.y ≡ (pos v *ℤ s.a.y) +ℤ (pos u *ℤ s.b.y) = meets_y s.a.y (pos u) (pos v) (pos (u + v)) (both_sizes u v) ∙ ap (λ z. (pos v *ℤ s.a.y) +ℤ (pos u *ℤ z)) (sym c.horizontal) in
       λ i. record { x = x i; y = y i }
 
   is_rounded : rounded (crossing s t) ≡ meeting_point
@@ -127,7 +127,7 @@ module _ (s t : Edge) (c : CrossesSquarely s t) where
 
   upward : is_before t.a t.b ≡ true
   upward =
-      ap (λ x. is_lt (ordering_then (int_cmp t.a.x x) (int_cmp t.a.y t.b.y))) c.upright
+      ap (λ x. is_lt (ordering_then (int_cmp t.a.x x) (int_cmp t.a.y t.b.y))) c.vertical
       ∙ ap₂ (λ o p. is_lt (ordering_then o p)) (tied_itself int_cmp_total t.a.x) (int_cmp_less t.a.y t.b.y (through t.a.y s.a.y t.b.y c.bottom c.top))
 
   early_marks : (radius : ℕ) → marks_by (Near radius) s t ≡ both_at meeting_point

@@ -114,8 +114,8 @@ module _ (s : Edge) (p r : RationalPoint) (some : 0 < p.q) (more : 0 < r.q) (fla
       fall x y h = omega (arith, ints)
 
 -- by y, where both stand at one x and the segment doesn't fall
-pub climb_level : (s : Edge) (p r : RationalPoint) → 0 < p.q → 0 < r.q → s.a.y ≤ℤ s.b.y → p.x *ℤ pos r.q ≡ r.x *ℤ pos p.q → (p.y *ℤ pos r.q) ≤ℤ (r.y *ℤ pos p.q) → IsAlong s (rounded p) (rounded r)
-climb_level s p r some more rises e h = record {
+pub climb_horizontal : (s : Edge) (p r : RationalPoint) → 0 < p.q → 0 < r.q → s.a.y ≤ℤ s.b.y → p.x *ℤ pos r.q ≡ r.x *ℤ pos p.q → (p.y *ℤ pos r.q) ≤ℤ (r.y *ℤ pos p.q) → IsAlong s (rounded p) (rounded r)
+climb_horizontal s p r some more rises e h = record {
   right = nearest_monotone p.x r.x p.q r.q some more (level _ _ e);
   up = λ k. nearest_monotone p.y r.y p.q r.q some more h;
   down = λ k. clash _ _ rises k;
@@ -129,15 +129,15 @@ climb_level s p r some more rises e h = record {
 
 -- ---- a segment with a point on it is wide, or vertical and rises
 
-pub record IsUpright (s : Edge) (p : RationalPoint) : Type 0 where
+pub record IsVertical (s : Edge) (p : RationalPoint) : Type 0 where
   pub level : s.a.x ≡ s.b.x
   pub rises : s.a.y ≤ℤ s.b.y
   pub over : p.x ≡ pos p.q *ℤ s.a.x
   pub from : (pos p.q *ℤ s.a.y) ≤ℤ p.y
   pub to : p.y ≤ℤ (pos p.q *ℤ s.b.y)
 
-wide_or_upright : (s : Edge) (p : RationalPoint) → 0 < p.q → IsOn p s → (pos 0 <ℤ width s) ⊎ IsUpright s p
-wide_or_upright s p some on = by on.from on.to
+wide_or_vertical : (s : Edge) (p : RationalPoint) → 0 < p.q → IsOn p s → (pos 0 <ℤ width s) ⊎ IsVertical s p
+wide_or_vertical s p some on = by on.from on.to
   where
     positive : pos 0 <ℤ pos p.q
     positive = omega (arith, ints)
@@ -155,7 +155,7 @@ wide_or_upright s p some on = by on.from on.to
     second_less : (x y z : ℤ) → x ≡ y → y <ℤ z → x <ℤ z
     second_less x y z e k = omega (arith, ints)
 
-    by : IsUpTo (scaled p.q s.a) (numerators p) → IsUpTo (numerators p) (scaled p.q s.b) → (pos 0 <ℤ width s) ⊎ IsUpright s p
+    by : IsUpTo (scaled p.q s.a) (numerators p) → IsUpTo (numerators p) (scaled p.q s.b) → (pos 0 <ℤ width s) ⊎ IsVertical s p
     by (inl h) (inl k) = inl (wider (below_of_products (pos p.q) s.a.x s.b.x (omega (arith, ints)) (first_less _ _ _ h (inl k))))
     by (inl h) (inr k) = inl (wider (below_of_products (pos p.q) s.a.x s.b.x (omega (arith, ints)) (first_less _ _ _ h (inr k.0))))
     by (inr h) (inl k) = inl (wider (below_of_products (pos p.q) s.a.x s.b.x (omega (arith, ints)) (second_less _ _ _ h.0 k)))
@@ -167,31 +167,31 @@ wide_or_upright s p some on = by on.from on.to
       to = k.1;
     })
 
-upright_not_wide : (s : Edge) (p : RationalPoint) {A : Type 0} → IsUpright s p → pos 0 <ℤ width s → A
-upright_not_wide s p h k = let e = h.level in absurd (omega (arith, ints))
+vertical_not_wide : (s : Edge) (p : RationalPoint) {A : Type 0} → IsVertical s p → pos 0 <ℤ width s → A
+vertical_not_wide s p h k = let e = h.level in absurd (omega (arith, ints))
 
 -- ---- the staircase
 
 -- both columns, each times the other's denominator
-same_column : (s : Edge) (p r : RationalPoint) → IsUpright s p → IsUpright s r → p.x *ℤ pos r.q ≡ r.x *ℤ pos p.q
+same_column : (s : Edge) (p r : RationalPoint) → IsVertical s p → IsVertical s r → p.x *ℤ pos r.q ≡ r.x *ℤ pos p.q
 same_column s p r h k = rw (h.over, k.over) (by_ring (s.a.x ∷ pos p.q ∷ pos r.q ∷ []) (times (times (var 1) (var 0)) (var 2)) (times (times (var 2) (var 0)) (var 1)) refl)
 
 either_way : (s : Edge) (p r : RationalPoint) → 0 < p.q → 0 < r.q → IsOn p s → IsOn r s → IsAlong s (rounded p) (rounded r) ⊎ IsAlong s (rounded r) (rounded p)
-either_way s p r some more on_p on_r = by (wide_or_upright s p some on_p) (wide_or_upright s r more on_r)
+either_way s p r some more on_p on_r = by (wide_or_vertical s p some on_p) (wide_or_vertical s r more on_r)
   where
     weak : (x y : ℤ) → x <ℤ y → x ≤ℤ y
     weak x y h = omega (arith, ints)
 
-    by : (pos 0 <ℤ width s) ⊎ IsUpright s p → (pos 0 <ℤ width s) ⊎ IsUpright s r → IsAlong s (rounded p) (rounded r) ⊎ IsAlong s (rounded r) (rounded p)
+    by : (pos 0 <ℤ width s) ⊎ IsVertical s p → (pos 0 <ℤ width s) ⊎ IsVertical s r → IsAlong s (rounded p) (rounded r) ⊎ IsAlong s (rounded r) (rounded p)
     by (inl w) k =
         by_lt_z (p.x *ℤ pos r.q) (r.x *ℤ pos p.q)
         (λ h. inl (climb_wide s p r some more on_p.flat on_r.flat w (weak _ _ h)))
         (λ h. inr (climb_wide s r p more some on_r.flat on_p.flat w h))
-    by (inr u) (inl w) = upright_not_wide s p u w
+    by (inr u) (inl w) = vertical_not_wide s p u w
     by (inr u) (inr v) =
         by_lt_z (p.y *ℤ pos r.q) (r.y *ℤ pos p.q)
-        (λ h. inl (climb_level s p r some more u.rises (same_column s p r u v) (weak _ _ h)))
-        (λ h. inr (climb_level s r p more some u.rises (same_column s r p v u) h))
+        (λ h. inl (climb_horizontal s p r some more u.rises (same_column s p r u v) (weak _ _ h)))
+        (λ h. inr (climb_horizontal s r p more some u.rises (same_column s r p v u) h))
 
 -- a whole point is rounded to itself
 pub whole_itself : (m : Point) → rounded (whole m) ≡ m
@@ -215,18 +215,18 @@ not_right a b (inl h) = omega (arith, ints)
 not_right a b (inr h) = let e = h.0 in omega (arith, ints)
 
 from_first : (s : Edge) (p : RationalPoint) → 0 < p.q → IsOn p s → IsAlong s (rounded (whole s.a)) (rounded p)
-from_first s p some on = by (wide_or_upright s p some on)
+from_first s p some on = by (wide_or_vertical s p some on)
   where
-    by : (pos 0 <ℤ width s) ⊎ IsUpright s p → IsAlong s (rounded (whole s.a)) (rounded p)
+    by : (pos 0 <ℤ width s) ⊎ IsVertical s p → IsAlong s (rounded (whole s.a)) (rounded p)
     by (inl w) = climb_wide s (whole s.a) p (omega arith) some (side_of_whole s.a s.b s.a ∙ turn_there_and_back s.a s.b) on.flat w (after_whole s.a.x p.x p.q (not_right _ _ on.from))
-    by (inr u) = climb_level s (whole s.a) p (omega arith) some u.rises (at_whole s.a.x p.x p.q u.over) (after_whole s.a.y p.y p.q u.from)
+    by (inr u) = climb_horizontal s (whole s.a) p (omega arith) some u.rises (at_whole s.a.x p.x p.q u.over) (after_whole s.a.y p.y p.q u.from)
 
 to_second : (s : Edge) (p : RationalPoint) → 0 < p.q → IsOn p s → IsAlong s (rounded p) (rounded (whole s.b))
-to_second s p some on = by (wide_or_upright s p some on)
+to_second s p some on = by (wide_or_vertical s p some on)
   where
-    by : (pos 0 <ℤ width s) ⊎ IsUpright s p → IsAlong s (rounded p) (rounded (whole s.b))
+    by : (pos 0 <ℤ width s) ⊎ IsVertical s p → IsAlong s (rounded p) (rounded (whole s.b))
     by (inl w) = climb_wide s p (whole s.b) some (omega arith) on.flat (side_of_whole s.a s.b s.b ∙ turn_end_twice s.a s.b) w (before_whole s.b.x p.x p.q (not_right _ _ on.to))
-    by (inr u) = climb_level s p (whole s.b) some (omega arith) u.rises (sym (at_whole s.b.x p.x p.q (u.over ∙ ap (λ z. pos p.q *ℤ z) u.level))) (before_whole s.b.y p.y p.q u.to)
+    by (inr u) = climb_horizontal s p (whole s.b) some (omega arith) u.rises (sym (at_whole s.b.x p.x p.q (u.over ∙ ap (λ z. pos p.q *ℤ z) u.level))) (before_whole s.b.y p.y p.q u.to)
 
 pub rounded_climb : RoundedClimb
 rounded_climb = record {

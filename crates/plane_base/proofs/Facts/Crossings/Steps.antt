@@ -157,12 +157,12 @@ along_is : (s : Edge) (m : RationalPoint) (b c : Bool) → b ≡ int_eq s.a.y s.
 along_is s m b c e f = ap₂ (along s m) e f
 
 -- along a horizontal one
-pub along_level : (s : Edge) (m : RationalPoint) (x y : ℤ) (b : Bool) → b ≡ int_eq s.a.y s.b.y → b ≡ true → x ≡ floor m.x m.q → y ≡ s.a.y → record { x = x; y = y } ≡ rounded_along s m
-along_level s m x y b e f h k = ap₂ (λ v w. record { x = v; y = w }) h k ∙ along_is s m true (int_eq s.a.x s.b.x) (sym f ∙ e) refl
+pub along_horizontal : (s : Edge) (m : RationalPoint) (x y : ℤ) (b : Bool) → b ≡ int_eq s.a.y s.b.y → b ≡ true → x ≡ floor m.x m.q → y ≡ s.a.y → record { x = x; y = y } ≡ rounded_along s m
+along_horizontal s m x y b e f h k = ap₂ (λ v w. record { x = v; y = w }) h k ∙ along_is s m true (int_eq s.a.x s.b.x) (sym f ∙ e) refl
 
 -- along a vertical one
-pub along_upright : (s : Edge) (m : RationalPoint) (x y : ℤ) (b c : Bool) → b ≡ int_eq s.a.y s.b.y → b ≡ false → c ≡ int_eq s.a.x s.b.x → c ≡ true → x ≡ s.a.x → y ≡ floor m.y m.q → record { x = x; y = y } ≡ rounded_along s m
-along_upright s m x y b c e f d i h k = ap₂ (λ v w. record { x = v; y = w }) h k ∙ along_is s m false true (sym f ∙ e) (sym i ∙ d)
+pub along_vertical : (s : Edge) (m : RationalPoint) (x y : ℤ) (b c : Bool) → b ≡ int_eq s.a.y s.b.y → b ≡ false → c ≡ int_eq s.a.x s.b.x → c ≡ true → x ≡ s.a.x → y ≡ floor m.y m.q → record { x = x; y = y } ≡ rounded_along s m
+along_vertical s m x y b c e f d i h k = ap₂ (λ v w. record { x = v; y = w }) h k ∙ along_is s m false true (sym f ∙ e) (sym i ∙ d)
 
 -- along any other
 pub along_other : (s : Edge) (m : RationalPoint) (p : Point) (b c : Bool) → b ≡ int_eq s.a.y s.b.y → b ≡ false → c ≡ int_eq s.a.x s.b.x → c ≡ false → p ≡ rounded m → p ≡ rounded_along s m

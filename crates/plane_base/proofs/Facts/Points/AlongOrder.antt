@@ -1,6 +1,6 @@
 -- How points stand along a segment is an order.
 --
--- Above, cite `along_is_order`; `along_first` and `along_level` find which of two points comes first.
+-- Above, cite `along_is_order`; `along_first` and `along_horizontal` find which of two points comes first.
 use Rattle.std.proofs.Common.{◌≡◌, ◌≢◌, ◌+◌, true, ℤ, pos, ◌-ℤ◌, ◌*ℤ◌, ◌≤ℤ◌, ◌<ℤ◌, [], ◌∷◌, ◌⊎◌, inl, inr, ⊎_elim, refl, sym, ◌∙◌, arith}
 use Rattle.std.specs.Prelude.{unsigned_abs}
 use Rattle.std.proofs.lemmas.Int.{ints, by_lt_z}
@@ -83,8 +83,8 @@ along_forward s u v h e f along differ =
 
     at_one_x : u.x ≡ v.x → (s.a.x <ℤ s.b.x) ⊎ ((s.a.x ≡ s.b.x) × (s.a.y <ℤ s.b.y)) → is_before u v ≡ true
     at_one_x g (inl wide) = let y = one_height s u v wide e f g in absurd (differ (λ i. record { x = g i; y = y i }))
-    at_one_x g (inr upright) =
-        before_of_order u v (point_less_by_y u v g (less u.y v.y (along.up (weak s.a.y s.b.y upright.1)) (λ y. differ (λ i. record { x = g i; y = y i }))))
+    at_one_x g (inr vertical) =
+        before_of_order u v (point_less_by_y u v g (less u.y v.y (along.up (weak s.a.y s.b.y vertical.1)) (λ y. differ (λ i. record { x = g i; y = y i }))))
 
 pub along_is_order : AlongIsOrder
 along_is_order = record {

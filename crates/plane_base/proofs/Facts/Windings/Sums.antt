@@ -21,7 +21,7 @@ use Rattle.plane_base.proofs.Facts.Maps.LinearSums.{passing_sum_normal, subject_
 abbrev pub sum_below : {C : Type 0} → (C → ℤ) → List (Entry C) → RationalPoint → ℤ
 sum_below n es p = total (λ e. cond (is_below e.edge.a e.edge.b p) (n e.count) (pos 0)) es
 
--- no step to the left, and none upright, spans a column
+-- no step to the left, and none vertical, spans a column
 pub spans_back : (u v : Point) (p : RationalPoint) → v.x ≤ℤ u.x → spans u v p ≡ false
 spans_back u v p h = by (int_le (pos p.q *ℤ u.x) p.x) (int_lt p.x (pos p.q *ℤ v.x)) refl refl (product_monotone (pos p.q) v.x u.x (omega (arith, ints)) h)
   where

@@ -4,8 +4,8 @@ use Rattle.plane_base.proofs.meet.cross_squarely.Goals as goal
 
 pub returns : goal.returns
 returns g c = λ _. record {
-  level = omega (arith, ints, c.if-end_y-y.false, c.to_i64-end_y.ensures, c.to_i64-y.ensures);
-  upright = omega (arith, ints, c.if-end_x-x.false, c.to_i64-end_x.ensures, c.to_i64-x.ensures);
+  horizontal = omega (arith, ints, c.if-end_y-y.false, c.to_i64-end_y.ensures, c.to_i64-y.ensures);
+  vertical = omega (arith, ints, c.if-end_x-x.false, c.to_i64-end_x.ensures, c.to_i64-x.ensures);
   left = omega (arith, ints, c.if-x-left.false, c.to_i64-x.ensures, c.to_i64-left.ensures);
   right = omega (arith, ints, c.if-right-x.false, c.to_i64-right.ensures, c.to_i64-x.ensures);
   bottom = omega (arith, ints, c.if-y-bottom.false, c.to_i64-y.ensures, c.to_i64-bottom.ensures);

@@ -8,8 +8,8 @@ use Rattle.polygon_c.specs.Given.{given, flat_contours}
 use Rattle.polygon_c.proofs.SizingLaws.{is_slanted, fits_not, untold, told}
 use Rattle.polygon_c.proofs.checked.widths.Goals as goal
 
-pub returns-then-not-are_level_or_upright-clause-refused : goal.returns-then-not-are_level_or_upright-clause-refused
-returns-then-not-are_level_or_upright-clause-refused g c =
+pub returns-then-not-are_rectilinear-clause-refused : goal.returns-then-not-are_rectilinear-clause-refused
+returns-then-not-are_rectilinear-clause-refused g c =
     let asked = c.in_ok-asked.asked in
     let is = c.in_ok-asked.ensures in
     let alone = given c.args.subject.now c.args.subject_lengths.now [] [] in
@@ -17,7 +17,7 @@ returns-then-not-are_level_or_upright-clause-refused g c =
     (g.I.OverlayInt.value c.args.width)) (AreWidthsRefused g.I.OverlayInt.least g.I.OverlayInt.greatest (g.I.OverlayInt.value c.args.width)) c.args.query.now
     alone asked.request
     (flat_contours g.I.OverlayInt.value asked.subjects) is.passes is.subjects.are
-    (λ straight. false≢true (sym c.if-not-are_level_or_upright.true ∙ c.are_level_or_upright.ensures.1 straight))
+    (λ straight. false≢true (sym c.if-not-are_rectilinear.true ∙ c.are_rectilinear.ensures.1 straight))
 
 pub returns-then-not-can_be_checked-clause-refused : goal.returns-then-not-can_be_checked-clause-refused
 returns-then-not-can_be_checked-clause-refused g c =
@@ -27,7 +27,7 @@ returns-then-not-can_be_checked-clause-refused g c =
     fits_not g.P.CPointOf.plane g.I.OverlayInt.least g.I.OverlayInt.greatest (CanBeChecked g.I.OverlayInt.least g.I.OverlayInt.greatest
     (g.I.OverlayInt.value c.args.width)) (AreWidthsRefused g.I.OverlayInt.least g.I.OverlayInt.greatest (g.I.OverlayInt.value c.args.width)) c.args.query.now
     alone asked.request
-    (flat_contours g.I.OverlayInt.value asked.subjects) is.passes is.subjects.are (c.are_level_or_upright.ensures.0 c.if-not-are_level_or_upright.false)
+    (flat_contours g.I.OverlayInt.value asked.subjects) is.passes is.subjects.are (c.are_rectilinear.ensures.0 c.if-not-are_rectilinear.false)
     (λ fit. false≢true (sym c.if-not-can_be_checked.true ∙ c.can_be_checked.ensures.1 fit))
 
 pub returns-in_err-shapes-clause-refused : goal.returns-in_err-shapes-clause-refused
@@ -40,7 +40,7 @@ returns-in_err-shapes-clause-refused g c =
     (CanBeChecked g.I.OverlayInt.least g.I.OverlayInt.greatest (g.I.OverlayInt.value c.args.width))
     (AreWidthsRefused g.I.OverlayInt.least g.I.OverlayInt.greatest (g.I.OverlayInt.value c.args.width)) c.args.query.now alone
     asked.request (flat_contours g.I.OverlayInt.value asked.subjects) is.passes is.subjects.are
-    (c.are_level_or_upright.ensures.0 c.if-not-are_level_or_upright.false) (c.can_be_checked.ensures.0 c.if-not-can_be_checked.false)
+    (c.are_rectilinear.ensures.0 c.if-not-are_rectilinear.false) (c.can_be_checked.ensures.0 c.if-not-can_be_checked.false)
     c.in_err-shapes.field-0.0 p.0 c.in_err-shapes.ensures.refused p.2)
 
 pub returns-in_err-lay-clause-refused : goal.returns-in_err-lay-clause-refused
@@ -60,5 +60,5 @@ returns-clause-answered g c =
     alone asked.request
     (flat_contours g.I.OverlayInt.value asked.subjects) is.passes is.subjects.are g.P.CPointOf.at
     (AreWidthsOf g.I.OverlayInt.least g.I.OverlayInt.greatest (g.I.OverlayInt.value c.args.width))
-    (c.are_level_or_upright.ensures.0 c.if-not-are_level_or_upright.false) (c.can_be_checked.ensures.0 c.if-not-can_be_checked.false)
+    (c.are_rectilinear.ensures.0 c.if-not-are_rectilinear.false) (c.can_be_checked.ensures.0 c.if-not-can_be_checked.false)
     (shapes_of g.I.OverlayInt.value c.in_ok-shapes.shapes.shapes.items) c.in_ok-shapes.ensures.answered (lists_of c.in_ok-lay.field-0) c.in_ok-lay.ensures

@@ -10,8 +10,8 @@ use Rattle.polygon_c.specs.Sizings.{IsSizingOf, IsSizingRefused, IsNotResized}
 use Rattle.polygon_c.proofs.SizingLaws.{is_slanted, fits_not, untold, told}
 use Rattle.polygon_c.proofs.sized.sized.Goals as goal
 
-pub returns-then-not-are_level_or_upright-clause-refused : goal.returns-then-not-are_level_or_upright-clause-refused
-returns-then-not-are_level_or_upright-clause-refused g c =
+pub returns-then-not-are_rectilinear-clause-refused : goal.returns-then-not-are_rectilinear-clause-refused
+returns-then-not-are_rectilinear-clause-refused g c =
     let asked = c.in_ok-asked.asked in
     let is = c.in_ok-asked.ensures in
     let alone = given c.args.subject.now c.args.subject_lengths.now [] [] in
@@ -19,7 +19,7 @@ returns-then-not-are_level_or_upright-clause-refused g c =
     (amounts_of g.I.OverlayInt.value c.args.by)) (IsSizingRefused g.I.OverlayInt.least g.I.OverlayInt.greatest (amounts_of g.I.OverlayInt.value c.args.by))
     c.args.query.now alone asked.request
     (flat_contours g.I.OverlayInt.value asked.subjects) is.passes is.subjects.are
-    (λ straight. false≢true (sym c.if-not-are_level_or_upright.true ∙ c.are_level_or_upright.ensures.1 straight))
+    (λ straight. false≢true (sym c.if-not-are_rectilinear.true ∙ c.are_rectilinear.ensures.1 straight))
 
 pub returns-then-not-fits-clause-refused : goal.returns-then-not-fits-clause-refused
 returns-then-not-fits-clause-refused g c =
@@ -29,7 +29,7 @@ returns-then-not-fits-clause-refused g c =
     fits_not g.P.CPointOf.plane g.I.OverlayInt.least g.I.OverlayInt.greatest (Fits g.I.OverlayInt.least g.I.OverlayInt.greatest
     (amounts_of g.I.OverlayInt.value c.args.by)) (IsSizingRefused g.I.OverlayInt.least g.I.OverlayInt.greatest (amounts_of g.I.OverlayInt.value c.args.by))
     c.args.query.now alone asked.request
-    (flat_contours g.I.OverlayInt.value asked.subjects) is.passes is.subjects.are (c.are_level_or_upright.ensures.0 c.if-not-are_level_or_upright.false)
+    (flat_contours g.I.OverlayInt.value asked.subjects) is.passes is.subjects.are (c.are_rectilinear.ensures.0 c.if-not-are_rectilinear.false)
     (λ fit. false≢true (sym c.if-not-fits.true ∙ c.fits.ensures.1 fit))
 
 pub returns-in_err-shapes-clause-refused : goal.returns-in_err-shapes-clause-refused
@@ -42,7 +42,7 @@ returns-in_err-shapes-clause-refused g c =
     (Fits g.I.OverlayInt.least g.I.OverlayInt.greatest (amounts_of g.I.OverlayInt.value c.args.by))
     (IsSizingRefused g.I.OverlayInt.least g.I.OverlayInt.greatest (amounts_of g.I.OverlayInt.value c.args.by)) c.args.query.now alone
     asked.request (flat_contours g.I.OverlayInt.value asked.subjects) is.passes is.subjects.are
-    (c.are_level_or_upright.ensures.0 c.if-not-are_level_or_upright.false) (c.fits.ensures.0 c.if-not-fits.false)
+    (c.are_rectilinear.ensures.0 c.if-not-are_rectilinear.false) (c.fits.ensures.0 c.if-not-fits.false)
     c.in_err-shapes.field-0.0 p.0 c.in_err-shapes.ensures.refused p.2)
 
 pub returns-in_err-lay-clause-refused : goal.returns-in_err-lay-clause-refused
@@ -63,5 +63,5 @@ returns-clause-answered g c =
     c.args.query.now alone asked.request
     (flat_contours g.I.OverlayInt.value asked.subjects) is.passes is.subjects.are g.P.CPointOf.at
     (IsSizingOf g.I.OverlayInt.least g.I.OverlayInt.greatest (amounts_of g.I.OverlayInt.value c.args.by))
-    (c.are_level_or_upright.ensures.0 c.if-not-are_level_or_upright.false) (c.fits.ensures.0 c.if-not-fits.false)
+    (c.are_rectilinear.ensures.0 c.if-not-are_rectilinear.false) (c.fits.ensures.0 c.if-not-fits.false)
     (shapes_of g.I.OverlayInt.value c.in_ok-shapes.shapes.shapes.items) c.in_ok-shapes.ensures.answered (lists_of c.in_ok-lay.field-0) c.in_ok-lay.ensures

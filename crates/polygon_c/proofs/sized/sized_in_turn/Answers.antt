@@ -10,8 +10,8 @@ use Rattle.polygon_c.specs.Sizings.{IsSizingInTurnOf, IsSizingInTurnRefused, IsN
 use Rattle.polygon_c.proofs.SizingLaws.{is_slanted, fits_not, untold, told}
 use Rattle.polygon_c.proofs.sized.sized_in_turn.Goals as goal
 
-pub returns-then-not-are_level_or_upright-clause-refused : goal.returns-then-not-are_level_or_upright-clause-refused
-returns-then-not-are_level_or_upright-clause-refused g c =
+pub returns-then-not-are_rectilinear-clause-refused : goal.returns-then-not-are_rectilinear-clause-refused
+returns-then-not-are_rectilinear-clause-refused g c =
     let asked = c.in_ok-asked.asked in
     let is = c.in_ok-asked.ensures in
     let alone = given c.args.subject.now c.args.subject_lengths.now [] [] in
@@ -20,7 +20,7 @@ returns-then-not-are_level_or_upright-clause-refused g c =
     (IsSizingInTurnRefused g.I.OverlayInt.least g.I.OverlayInt.greatest (amounts_of g.I.OverlayInt.value c.args.first)
     (amounts_of g.I.OverlayInt.value c.args.second)) c.args.query.now alone asked.request
     (flat_contours g.I.OverlayInt.value asked.subjects) is.passes is.subjects.are
-    (λ straight. false≢true (sym c.if-not-are_level_or_upright.true ∙ c.are_level_or_upright.ensures.1 straight))
+    (λ straight. false≢true (sym c.if-not-are_rectilinear.true ∙ c.are_rectilinear.ensures.1 straight))
 
 pub returns-then-not-fits_in_turn-clause-refused : goal.returns-then-not-fits_in_turn-clause-refused
 returns-then-not-fits_in_turn-clause-refused g c =
@@ -31,7 +31,7 @@ returns-then-not-fits_in_turn-clause-refused g c =
     (amounts_of g.I.OverlayInt.value c.args.first) (amounts_of g.I.OverlayInt.value c.args.second))
     (IsSizingInTurnRefused g.I.OverlayInt.least g.I.OverlayInt.greatest (amounts_of g.I.OverlayInt.value c.args.first)
     (amounts_of g.I.OverlayInt.value c.args.second)) c.args.query.now alone asked.request
-    (flat_contours g.I.OverlayInt.value asked.subjects) is.passes is.subjects.are (c.are_level_or_upright.ensures.0 c.if-not-are_level_or_upright.false)
+    (flat_contours g.I.OverlayInt.value asked.subjects) is.passes is.subjects.are (c.are_rectilinear.ensures.0 c.if-not-are_rectilinear.false)
     (λ fit. false≢true (sym c.if-not-fits_in_turn.true ∙ c.fits_in_turn.ensures.1 fit))
 
 pub returns-in_err-shapes-clause-refused : goal.returns-in_err-shapes-clause-refused
@@ -45,7 +45,7 @@ returns-in_err-shapes-clause-refused g c =
     (IsSizingInTurnRefused g.I.OverlayInt.least g.I.OverlayInt.greatest (amounts_of g.I.OverlayInt.value c.args.first)
     (amounts_of g.I.OverlayInt.value c.args.second)) c.args.query.now alone
     asked.request (flat_contours g.I.OverlayInt.value asked.subjects) is.passes is.subjects.are
-    (c.are_level_or_upright.ensures.0 c.if-not-are_level_or_upright.false) (c.fits_in_turn.ensures.0 c.if-not-fits_in_turn.false)
+    (c.are_rectilinear.ensures.0 c.if-not-are_rectilinear.false) (c.fits_in_turn.ensures.0 c.if-not-fits_in_turn.false)
     c.in_err-shapes.field-0.0 p.0 c.in_err-shapes.ensures.refused p.2)
 
 pub returns-in_err-lay-clause-refused : goal.returns-in_err-lay-clause-refused
@@ -68,5 +68,5 @@ returns-clause-answered g c =
     (flat_contours g.I.OverlayInt.value asked.subjects) is.passes is.subjects.are g.P.CPointOf.at
     (IsSizingInTurnOf g.I.OverlayInt.least g.I.OverlayInt.greatest (amounts_of g.I.OverlayInt.value c.args.first)
     (amounts_of g.I.OverlayInt.value c.args.second))
-    (c.are_level_or_upright.ensures.0 c.if-not-are_level_or_upright.false) (c.fits_in_turn.ensures.0 c.if-not-fits_in_turn.false)
+    (c.are_rectilinear.ensures.0 c.if-not-are_rectilinear.false) (c.fits_in_turn.ensures.0 c.if-not-fits_in_turn.false)
     (shapes_of g.I.OverlayInt.value c.in_ok-shapes.shapes.shapes.items) c.in_ok-shapes.ensures.answered (lists_of c.in_ok-lay.field-0) c.in_ok-lay.ensures

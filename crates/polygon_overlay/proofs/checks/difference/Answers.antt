@@ -27,7 +27,7 @@ returns-clause-is g c =
     let other = contours_of value (g.S.IntShapeResource.paths c.args.other.now) in
     if_answered c.overlay.result
     (λ found answered.
-    difference_is c.straight_maps_answer_their_region.ensures c.answers_stay_level_or_upright.ensures g.I.OverlayInt.least g.I.OverlayInt.greatest
+    difference_is c.straight_maps_answer_their_region.ensures c.answers_stay_rectilinear.ensures g.I.OverlayInt.least g.I.OverlayInt.greatest
     c.holding_goes_on.ensures c.sources_are_held.ensures c.args.options c.args.solver.precision one other c.requires.one_in_range c.requires.other_in_range
     c.requires.one_straight c.requires.other_straight (shapes_of value found.shapes.items) made.held.edges new.held
     (answered_by g.I.OverlayInt.least g.I.OverlayInt.greatest c.args.options made.options c.args.solver made.solver new.options new.solver one other

@@ -7,7 +7,7 @@ use Rattle.polygon_overlay.specs.Calls.{contours_of}
 use Rattle.polygon_overlay.specs.Simplified.{IsNotSimplified}
 use Rattle.polygon_overlay.specs.Sizing.{moved, moved_across}
 use Rattle.polygon_overlay.specs.SizingViews.{amounts_of}
-use Rattle.polygon_overlay.proofs.Sized.Kept.{levels_in_range, fits_first, fits_again}
+use Rattle.polygon_overlay.proofs.Sized.Kept.{shifted_in_range, fits_first, fits_again}
 use Rattle.polygon_overlay.proofs.checks.moved_in_turn.Goals as goal
 
 pub moved_region-requires-clause-fits : goal.moved_region-requires-clause-fits
@@ -20,7 +20,7 @@ pub moved_source-requires-clause-in_range : goal.moved_source-requires-clause-in
 moved_source-requires-clause-in_range g c =
     let value = g.I.OverlayInt.value in
     let region = contours_of value (parts c.args.region.now.points.items c.args.region.now.ranges.items) in
-    levels_in_range c.regions_stay_in_the_box.ensures g.I.OverlayInt.least g.I.OverlayInt.greatest (amounts_of value c.args.first) region
+    shifted_in_range c.regions_stay_in_the_box.ensures g.I.OverlayInt.least g.I.OverlayInt.greatest (amounts_of value c.args.first) region
     (fits_first c.regions_stay_in_the_box.ensures g.I.OverlayInt.least g.I.OverlayInt.greatest (amounts_of value c.args.first)
     (amounts_of value c.args.second) region
     c.requires.fits) c.args.solver.precision (contours_of value (paths_of_shape c.in_ok-between.between)) c.in_ok-between.ensures.is
@@ -47,7 +47,7 @@ returns-in_err-between-clause-refused g c =
 pub returns-clause-is : goal.returns-clause-is
 returns-clause-is g c =
     if_answered c.moved_source.result
-    (λ levels again. record {
+    (λ shifted again. record {
       between = contours_of g.I.OverlayInt.value (paths_of_shape c.in_ok-between.between);
       once = c.in_ok-between.ensures.is;
       again =

@@ -9,7 +9,7 @@ use Rattle.polygon_overlay.specs.Simplified.{IsNotSimplified}
 use Rattle.polygon_overlay.specs.SizingLaws.{IsRegionOf}
 use Rattle.polygon_overlay.specs.SizingViews.{amounts_of}
 use Rattle.polygon_overlay.proofs.Sized.Calls.{only_memory}
-use Rattle.polygon_overlay.proofs.Sized.Kept.{region_has_room, sides_in_range, levels_have_room}
+use Rattle.polygon_overlay.proofs.Sized.Kept.{region_has_room, sides_in_range, shifted_have_room}
 use Rattle.polygon_overlay.proofs.sizing.moved_region.Goals as goal
 
 pub moved-requires-clause-room : goal.moved-requires-clause-room
@@ -29,7 +29,7 @@ pub moved-requires-2-clause-room : goal.moved-requires-2-clause-room
 moved-requires-2-clause-room g c =
     let value = g.I.OverlayInt.value in
     let wide = contours_of value (parts c.in_ok-wide.wide.points.items c.in_ok-wide.wide.ranges.items) in
-    levels_have_room c.regions_stay_in_the_box.ensures g.I.OverlayInt.least g.I.OverlayInt.greatest (amounts_of value c.args.by)
+    shifted_have_room c.regions_stay_in_the_box.ensures g.I.OverlayInt.least g.I.OverlayInt.greatest (amounts_of value c.args.by)
     (contours_of value (parts c.args.region.now.points.items c.args.region.now.ranges.items)) c.requires.fits c.args.solver.precision wide
     (subst (λ cs. IsRegionOf g.I.OverlayInt.least g.I.OverlayInt.greatest Positive c.args.solver.precision cs wide) c.in_ok-sides.ensures.is
     c.in_ok-wide.ensures.is)
@@ -52,7 +52,7 @@ returns-clause-is g c =
     let value = g.I.OverlayInt.value in
     let wide = contours_of value (parts c.in_ok-wide.wide.points.items c.in_ok-wide.wide.ranges.items) in
     if_answered c.moved-2.result
-    (λ levels is. record {
+    (λ shifted is. record {
       wide = wide;
       across = subst (λ cs. IsRegionOf g.I.OverlayInt.least g.I.OverlayInt.greatest Positive c.args.solver.precision cs wide) c.in_ok-sides.ensures.is
           c.in_ok-wide.ensures.is;

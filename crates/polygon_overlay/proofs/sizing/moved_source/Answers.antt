@@ -40,11 +40,11 @@ pub returns-clause-is : goal.returns-clause-is
 returns-clause-is g c =
     let value = g.I.OverlayInt.value in
     if_answered c.moved_region.result
-    (λ levels.
+    (λ shifted.
     moved_of g.I.OverlayInt.least g.I.OverlayInt.greatest (amounts_of value c.args.by) (fill_rule_of c.args.fill_rule) c.args.solver.precision
     (contours_of value (g.R.IntShapeResource.paths c.args.source.now)) (contours_of value
     (parts c.in_ok-region.region.points.items c.in_ok-region.region.ranges.items))
-    (contours_of value (paths_of_shape levels)) c.in_ok-region.ensures.is)
+    (contours_of value (paths_of_shape shifted)) c.in_ok-region.ensures.is)
     c.moved_region.ensures.is
 
 pub returns-clause-refused : goal.returns-clause-refused

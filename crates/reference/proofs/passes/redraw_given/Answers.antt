@@ -2,7 +2,7 @@ use Rattle.std.proofs.Common.{◌∙◌, sym, ap, subst}
 use Rattle.plane_base.specs.Counts.{boolean, IsNormal}
 use Rattle.segment_split.specs.Passes.{edges_of}
 use Rattle.segment_split.specs.Redrawing.{redrawn}
-use Rattle.segment_split.specs.LineLaws.{AllLevelOrUpright}
+use Rattle.segment_split.specs.LineLaws.{AllRectilinear}
 use Rattle.segment_split.specs.SegmentViews.{entries_of}
 use Rattle.segment_split.proofs.Redrawing.Loops.{joined_normal}
 use Rattle.reference.proofs.passes.redraw_given.Goals as goal
@@ -13,11 +13,11 @@ redraw-requires-clause-normal g c =
     subst (IsNormal boolean) (sym (ap (entries_of value) c.deref-2.ensures.value ∙ c.in_ok-map.ensures.normal))
     (joined_normal value g.I.Ord.cmp g.met.I.OverlayInt.ordered (λ s. s.x_segment) (λ s. s.count) boolean c.args.given.now (λ s. s.directed))
 
-pub redraw-requires-clause-level : goal.redraw-requires-clause-level
-redraw-requires-clause-level g c =
+pub redraw-requires-clause-rectilinear : goal.redraw-requires-clause-rectilinear
+redraw-requires-clause-rectilinear g c =
     let value = g.I.OverlayInt.value in
-    subst (λ l. AllLevelOrUpright (edges_of (entries_of value l))) (c.deref.ensures.value ∙ sym c.deref-2.ensures.value)
-    (c.are_level_or_upright.ensures c.if-not-are_level_or_upright.false)
+    subst (λ l. AllRectilinear (edges_of (entries_of value l))) (c.deref.ensures.value ∙ sym c.deref-2.ensures.value)
+    (c.are_rectilinear.ensures c.if-not-are_rectilinear.false)
 
 pub returns : goal.returns
 returns g c =

@@ -83,9 +83,9 @@ returns-clause-ok g c =
     let value = g.I.OverlayInt.value in
     let s = c.index-segments-at.result in
     let same = get_or-map (seen_of g.C.FilledCount.sides value) c.args.segments.now c.args.at s (seen_of g.C.FilledCount.sides value s) c.requires.within in
-    let upright = not_less_if value g.I.Ord.cmp g.met.I.OverlayInt.ordered g.I.PartialOrd.partial_cmp g.met.I.Ord.matches_partial_cmp _ _ (sym c.lt.ensures ∙ c.if-lt.false) in
+    let vertical = not_less_if value g.I.Ord.cmp g.met.I.OverlayInt.ordered g.I.PartialOrd.partial_cmp g.met.I.Ord.matches_partial_cmp _ _ (sym c.lt.ensures ∙ c.if-lt.false) in
     passed_over value g.I.Ord.cmp g.met.I.OverlayInt.ordered (λ k. k.b.x) (edge_of value) (λ k. refl) (all_seen g.C.FilledCount.sides value c.args.segments.now) c.args.at (seen_of g.C.FilledCount.sides value s) (rw length-map c.requires.within)
-    _ c.requires.swept _ (c.requires.now s) (ap (λ e. e.edge.a.x) (sym same)) (subst (λ e. e.edge.b.x ≤ℤ value (get_or c.args.segments.now c.args.at s).x_segment.a.x) (sym same) upright)
+    _ c.requires.swept _ (c.requires.now s) (ap (λ e. e.edge.a.x) (sym same)) (subst (λ e. e.edge.b.x ≤ℤ value (get_or c.args.segments.now c.args.at s).x_segment.a.x) (sym same) vertical)
 
 pub returns-in_err-next-clause-cost : goal.returns-in_err-next-clause-cost
 returns-in_err-next-clause-cost g c =

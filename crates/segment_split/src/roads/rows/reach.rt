@@ -1,7 +1,7 @@
 //! Sweep and prune by x: how far segments reach along a sorted list, up to a number from which on none lays anything on them. That
-//! is the first that begins past its end. Those that begin just there lay nothing on it if neither is upright. So where reaches are
-//! told beforehand, a segment that isn't upright reaches only up to the begin of the run before that number, if these all begin at its
-//! end and none is upright. Upright ones come first of those that begin at one point, so a run is lost by one of them only up to it.
+//! is the first that begins past its end. Those that begin just there lay nothing on it if neither is vertical. So where reaches are
+//! told beforehand, a segment that isn't vertical reaches only up to the begin of the run before that number, if these all begin at its
+//! end and none is vertical. Vertical ones come first of those that begin at one point, so a run is lost by one of them only up to it.
 //! Runs take one pass over the list, each reach a few steps from a guess, at worst as many as the list can be halved.
 
 ghost use Rattle.std.specs.Prelude.{◌≡◌, ◌+◌, ◌<◌, ◌≤◌, ◌<ℤ◌, ◌≤ℤ◌, ℕ, length, slice_index_or, IfOk, IsOkUnless, IsTrue, IsFalse};
@@ -121,7 +121,7 @@ pub(super) fn find_reaches<C: WindingCount, I: OverlayInt, D>(
     Ok(reaches)
 }
 
-// For each segment the number from which on all up to it begin at its x, none of them upright.
+// For each segment the number from which on all up to it begin at its x, none of them vertical.
 fn find_runs<C: WindingCount, I: OverlayInt, D>(
     alloc: Global,
     segments: &[Segment<C, I, D>],
@@ -194,7 +194,7 @@ fn without_run<C: WindingCount, I: OverlayInt, D>(
     past
 }
 
-// Whether a segment isn't upright.
+// Whether a segment isn't vertical.
 fn is_wide<I: OverlayInt>(s: XSegment<I>) -> bool
     ensures wide { IsTrue result → I.value s.a.x <ℤ I.value s.b.x }
 {

@@ -1,4 +1,4 @@
-//! Whether level and upright segments are to be expected to cross often: told by how much length of each kind lies in the cells of a grid.
+//! Whether horizontal and vertical segments are to be expected to cross often: told by how much length of each kind lies in the cells of a grid.
 //! No two segments are taken together, and nothing but time hangs on it.
 
 ghost use Rattle.std.specs.Prelude.{◌<◌, IsOkUnless};
@@ -23,8 +23,8 @@ const PARTS: u64 = 16;
 // So many crossings in a hundred segments are worth a sweep.
 const OFTEN: u64 = 70;
 
-// Cells of one width and one height, about a quarter as many as there are segments or somewhat more, and in each the lengths of level
-// and of upright segments.
+// Cells of one width and one height, about a quarter as many as there are segments or somewhat more, and in each the lengths of horizontal
+// and of vertical segments.
 #[derive(Drop)]
 struct Lengths {
     left: i64,
@@ -34,8 +34,8 @@ struct Lengths {
     up: u32,
     // so many cells stand side by side
     side: usize,
-    level: Vec<u64>,
-    upright: Vec<u64>,
+    horizontal: Vec<u64>,
+    vertical: Vec<u64>,
 }
 
 // How far segments spread.
@@ -98,12 +98,12 @@ impl Lengths {
             across: shift_to(offset(spread.left, spread.right) as usize, side),
             up: shift_to(offset(spread.bottom, spread.top) as usize, side),
             side,
-            level: vec![in alloc; 0; cells]?,
-            upright: vec![in alloc; 0; cells]?,
+            horizontal: vec![in alloc; 0; cells]?,
+            vertical: vec![in alloc; 0; cells]?,
         })
     }
 
-    // Adds the length of a segment that is level or upright.
+    // Adds the length of a segment that is horizontal or vertical.
     fn add<I: OverlayInt>(&mut self, s: XSegment<I>) {
         let XSegment { a, b } = s;
         let left = offset(self.left, a.x.to_i64());
@@ -114,17 +114,17 @@ impl Lengths {
         let column = (left >> (self.across % 64)) as usize;
         let first = row.wrapping_mul(self.side).wrapping_add(column);
         if low == high {
-            spend(&mut self.level, first, 1, left, right, self.across);
+            spend(&mut self.horizontal, first, 1, left, right, self.across);
         } else if left == right {
-            spend(&mut self.upright, first, self.side, low, high, self.up);
+            spend(&mut self.vertical, first, self.side, low, high, self.up);
         }
     }
 
     // How many crossings are to be expected, times the square of the parts of a cell.
     fn crossings(&self) -> u64 {
         let mut sum = 0u64;
-        for k in 0..self.level.len().min(self.upright.len()) {
-            sum = sum.saturating_add(self.level[k].saturating_mul(self.upright[k]));
+        for k in 0..self.horizontal.len().min(self.vertical.len()) {
+            sum = sum.saturating_add(self.horizontal[k].saturating_mul(self.vertical[k]));
         }
         sum
     }
@@ -169,7 +169,7 @@ fn step_for(many: usize) -> usize
     if many < MANY { 1 } else { STEP }
 }
 
-// Whether level and upright segments are to be expected to cross often.
+// Whether horizontal and vertical segments are to be expected to cross often.
 pub(super) fn may_cross_often<C: WindingCount, I: OverlayInt, D>(
     alloc: Global,
     segments: &[Segment<C, I, D>],

@@ -70,7 +70,7 @@ contours_below-requires-clause-sought g c =
     let anchors = owned_edges_of value c.deref-3.result.now in
     let anchored : IsPermutation (hole_anchors 0 cs) anchors = subst (λ es. IsPermutation (hole_anchors 0 cs) (owned_edges_of value es)) (sym c.deref-3.ensures.value) c.in_ok-anchors.ensures.is in
     sought c.args.clockwise cs c.requires.bound edges moved anchors anchored
-    (subst (λ es. All (λ (o : Owned). int_lt o.edge.a.x o.edge.b.x ≡ true) (owned_edges_of value es)) (c.deref.ensures.value ∙ sym c.deref-3.ensures.value) (c.if-has_upright.ensures refl))
+    (subst (λ es. All (λ (o : Owned). int_lt o.edge.a.x o.edge.b.x ≡ true) (owned_edges_of value es)) (c.deref.ensures.value ∙ sym c.deref-3.ensures.value) (c.if-has_vertical.ensures refl))
 
 pub contours_below-requires-clause-rising : goal.contours_below-requires-clause-rising
 contours_below-requires-clause-rising g c = subst (λ es. AreRising (owned_edges_of g.I.OverlayInt.value es)) (sym c.deref-3.ensures.value) c.in_ok-anchors.ensures.rising

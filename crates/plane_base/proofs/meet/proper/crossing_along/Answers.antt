@@ -2,7 +2,7 @@ use Rattle.std.proofs.Common.{ap, ◌∙◌}
 use Rattle.plane_base.specs.Views.{point_of}
 use Rattle.plane_base.specs.SegmentViews.{edge_of}
 use Rattle.plane_base.specs.Sides.{mean_by}
-use Rattle.plane_base.proofs.Facts.Crossings.Steps.{along_level, along_upright, along_other}
+use Rattle.plane_base.proofs.Facts.Crossings.Steps.{along_horizontal, along_vertical, along_other}
 use Rattle.plane_base.proofs.meet.proper.crossing_along.Goals as goal
 
 pub floor_coordinate-requires-clause-a_in_range : goal.floor_coordinate-requires-clause-a_in_range
@@ -41,7 +41,7 @@ nearest_crossing-requires-clause-v_fits g c = c.requires.v_fits
 pub returns-then-is_level-clause-is : goal.returns-then-is_level-clause-is
 returns-then-is_level-clause-is g c =
     let value = g.I.OverlayInt.value in
-    along_level (edge_of value c.args.s) (mean_by (edge_of value c.args.s) (g.I.Wide.WideIntNumber.number c.args.u) (g.I.Wide.WideIntNumber.number c.args.v)) _ _ c.is_level.result c.is_level.ensures c.if-is_level.true (ap value c.new.ensures.x ∙ c.floor_coordinate.ensures.is) (ap value c.new.ensures.y)
+    along_horizontal (edge_of value c.args.s) (mean_by (edge_of value c.args.s) (g.I.Wide.WideIntNumber.number c.args.u) (g.I.Wide.WideIntNumber.number c.args.v)) _ _ c.is_level.result c.is_level.ensures c.if-is_level.true (ap value c.new.ensures.x ∙ c.floor_coordinate.ensures.is) (ap value c.new.ensures.y)
 
 pub returns-then-is_level-clause-within : goal.returns-then-is_level-clause-within
 returns-then-is_level-clause-within g c =
@@ -50,7 +50,7 @@ returns-then-is_level-clause-within g c =
 pub returns-then-is_level-2-clause-is : goal.returns-then-is_level-2-clause-is
 returns-then-is_level-2-clause-is g c =
     let value = g.I.OverlayInt.value in
-    along_upright (edge_of value c.args.s) (mean_by (edge_of value c.args.s) (g.I.Wide.WideIntNumber.number c.args.u) (g.I.Wide.WideIntNumber.number c.args.v)) _ _ c.is_level.result c.is_level-2.result c.is_level.ensures c.if-is_level.false c.is_level-2.ensures c.if-is_level-2.true (ap value c.new-then-is_level-2.ensures.x) (ap value c.new-then-is_level-2.ensures.y ∙ c.floor_coordinate-then-is_level-2.ensures.is)
+    along_vertical (edge_of value c.args.s) (mean_by (edge_of value c.args.s) (g.I.Wide.WideIntNumber.number c.args.u) (g.I.Wide.WideIntNumber.number c.args.v)) _ _ c.is_level.result c.is_level-2.result c.is_level.ensures c.if-is_level.false c.is_level-2.ensures c.if-is_level-2.true (ap value c.new-then-is_level-2.ensures.x) (ap value c.new-then-is_level-2.ensures.y ∙ c.floor_coordinate-then-is_level-2.ensures.is)
 
 pub returns-then-is_level-2-clause-within : goal.returns-then-is_level-2-clause-within
 returns-then-is_level-2-clause-within g c =

@@ -27,20 +27,20 @@ returns-then-stands_in_row-clause-tree_cost g c = λ tree.
     let few : calls_of es ≤ 2 * n = omega (arith, calls_of-le es, length-map c.args.segments.now (seen_of g.C.FilledCount.sides value)) in
     with_tree _ _ (calls_of es) n (greatest_power n (n + 1)) few c.sweep-then-stands_in_row.ensures.cost
 
-pub sweep_levels-requires-clause-many : goal.sweep_levels-requires-clause-many
-sweep_levels-requires-clause-many g c =
+pub sweep_by_rows-requires-clause-many : goal.sweep_by_rows-requires-clause-many
+sweep_by_rows-requires-clause-many g c =
     let n = length c.args.segments.now in
     let tree : stands_on_list c.args.solver.now.strategy n ≡ false = sym c.stands_on_list.ensures ∙ c.if-stands_on_list.false in
-    let few : ltb n 64 ≡ false = subst (λ s. stands_on_list s n ≡ false) (c.goes_by_levels.ensures.strategy c.if-goes_by_levels.true) tree in
+    let few : ltb n 64 ≡ false = subst (λ s. stands_on_list s n ≡ false) (c.goes_by_rows.ensures.strategy c.if-goes_by_rows.true) tree in
     ltb-false n 64 few
 
-pub returns-then-goes_by_levels-clause-tree_cost : goal.returns-then-goes_by_levels-clause-tree_cost
-returns-then-goes_by_levels-clause-tree_cost g c = λ tree.
+pub returns-then-goes_by_rows-clause-tree_cost : goal.returns-then-goes_by_rows-clause-tree_cost
+returns-then-goes_by_rows-clause-tree_cost g c = λ tree.
     let value = g.I.OverlayInt.value in
     let es = all_seen g.C.FilledCount.sides value c.args.segments.now in
     let n = length c.args.segments.now in
     let few : calls_of es ≤ 2 * n = omega (arith, calls_of-le es, length-map c.args.segments.now (seen_of g.C.FilledCount.sides value)) in
-    with_tree _ _ (calls_of es) n (greatest_power n (n + 1)) few c.sweep_levels.ensures.cost
+    with_tree _ _ (calls_of es) n (greatest_power n (n + 1)) few c.sweep_by_rows.ensures.cost
 
 pub returns-clause-alone : goal.returns-clause-alone
 returns-clause-alone g c =
@@ -63,9 +63,9 @@ returns-then-stands_on_list-clause-alone g c =
     handled_alone (λ h n s. g.H.FillHandler.handles h n s.x_segment s.count s.datum) g.H.FillHandler.finishes (λ s. edge_of value s.x_segment) (λ lower s. g.C.FilledCount.filled (fill_rule_of c.args.rule) lower s.count)
     (all_seen g.C.FilledCount.sides value c.args.segments.now) c.args.segments.now c.args.handler output c.requires.arrangement told) c.sweep.ensures.ok
 
-pub returns-then-goes_by_levels-clause-alone : goal.returns-then-goes_by_levels-clause-alone
-returns-then-goes_by_levels-clause-alone g c =
+pub returns-then-goes_by_rows-clause-alone : goal.returns-then-goes_by_rows-clause-alone
+returns-then-goes_by_rows-clause-alone g c =
     let value = g.I.OverlayInt.value in
-    IfOk-weaker c.sweep_levels.result _ _ (λ output told.
+    IfOk-weaker c.sweep_by_rows.result _ _ (λ output told.
     handled_alone (λ h n s. g.H.FillHandler.handles h n s.x_segment s.count s.datum) g.H.FillHandler.finishes (λ s. edge_of value s.x_segment) (λ lower s. g.C.FilledCount.filled (fill_rule_of c.args.rule) lower s.count)
-    (all_seen g.C.FilledCount.sides value c.args.segments.now) c.args.segments.now c.args.handler output c.requires.arrangement told) c.sweep_levels.ensures.ok
+    (all_seen g.C.FilledCount.sides value c.args.segments.now) c.args.segments.now c.args.handler output c.requires.arrangement told) c.sweep_by_rows.ensures.ok

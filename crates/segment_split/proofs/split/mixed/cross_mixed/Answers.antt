@@ -3,7 +3,7 @@ use Rattle.std.proofs.Common.{◌≡◌, Bool, false, [], ◌∙◌, ◌≤◌, 
 use Rattle.std.proofs.lemmas.List.{length-map}
 use Rattle.std.proofs.lemmas.Result.{err_from_is_err_and}
 use Rattle.plane_base.proofs.Facts.Crossings.Tests.{not_true}
-use Rattle.segment_split.specs.LineLaws.{is_level_or_upright}
+use Rattle.segment_split.specs.LineLaws.{is_rectilinear}
 use Rattle.segment_split.specs.MarkLists.{laid_marks}
 use Rattle.segment_split.specs.Mixed.{TellsOld, IsSearched, is_one_slanted, slanted_pairs}
 use Rattle.segment_split.specs.Passes.{edges_of, marks_in}
@@ -21,7 +21,7 @@ use Rattle.segment_split.proofs.split.mixed.cross_mixed.Goals as goal
 
 -- ---- pairs with a slanted one
 
-told : (g : Over) (c : After-find_marks_of_new g) → TellsOld is_level_or_upright (edges_of (entries_of g.I.OverlayInt.value c.args.segments.now.items)) c.tell_old.new.next_new.items
+told : (g : Over) (c : After-find_marks_of_new g) → TellsOld is_rectilinear (edges_of (entries_of g.I.OverlayInt.value c.args.segments.now.items)) c.tell_old.new.next_new.items
 told g c = rw c.deref-2.ensures.value at c.in_ok-tell_old.ensures.told
 
 looked : (g : Over) (c : After-find_marks_of_new g) → CountsPairsUpTo c.args.steps.now c.find_marks_of_new.new.steps (slanted_pairs (edges_of (entries_of g.I.OverlayInt.value c.args.segments.now.items)))
@@ -57,7 +57,7 @@ returns-in_err-tell_old-2 g c =
 pub find_marks_among_new-requires : goal.find_marks_among_new-requires
 find_marks_among_new-requires g c = rw c.deref-then-off_grid-2.ensures.value (record { within = c.requires.within; normal = c.requires.normal; few = c.requires.few })
 
-told_lines : (g : Over) (c : After-find_marks_among_new g) → TellsOld (λ s. not (is_level_or_upright s)) (edges_of (entries_of g.I.OverlayInt.value c.args.segments.now.items)) c.tell_old-then-off_grid.new.next_new.items
+told_lines : (g : Over) (c : After-find_marks_among_new g) → TellsOld (λ s. not (is_rectilinear s)) (edges_of (entries_of g.I.OverlayInt.value c.args.segments.now.items)) c.tell_old-then-off_grid.new.next_new.items
 told_lines g c = rw c.deref-then-off_grid.ensures.value at c.in_ok-tell_old-2.ensures.told
 
 few_of_both : (g : Over) (c : After-find_marks_among_new g) → CountsPairsUpTo c.args.steps.now c.find_marks_of_new.new.steps (slanted_pairs (edges_of (entries_of g.I.OverlayInt.value c.args.segments.now.items)))
@@ -68,7 +68,7 @@ few_of_both g c looks =
     let steps = rw (c.deref-then-off_grid-2.ensures.value, c.deref-then-off_grid-3.ensures.value) at c.find_marks_among_new.ensures.steps in
     lines_most es (edges_directed entries c.requires.normal) c.args.solver.strategy (c.may_take_lines.ensures.auto c.if-not-may_take_lines.false)
     c.args.steps.now c.find_marks_of_new.new.steps c.find_marks_among_new.new.steps looks
-    (steps (λ s t. (is_level_or_upright s && is_level_or_upright t) && share_point (x_range s) (x_range t)) (takes_lines es c.tell_old-then-off_grid.new.next_new.items (told_lines g c)))
+    (steps (λ s t. (is_rectilinear s && is_rectilinear t) && share_point (x_range s) (x_range t)) (takes_lines es c.tell_old-then-off_grid.new.next_new.items (told_lines g c)))
 
 pub returns-in_err-find_marks_among_new : goal.returns-in_err-find_marks_among_new
 returns-in_err-find_marks_among_new g c =

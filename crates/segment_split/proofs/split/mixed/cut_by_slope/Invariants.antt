@@ -10,7 +10,7 @@ use Rattle.segment_split.proofs.Mixed.Cuts.{base_of, AreDirected}
 use Rattle.segment_split.proofs.Redrawing.Runs.{IsLeft}
 use Rattle.segment_split.proofs.split.mixed.cut_by_slope.Given as goal
 
--- The segments before this one are cut, level and upright ones apart from slanted ones, and their marks are done with.
+-- The segments before this one are cut, horizontal and vertical ones apart from slanted ones, and their marks are done with.
 abbrev pub invariant-loop-i : goal.invariant-loop-i
 invariant-loop-i g l =
     let value = g.I.OverlayInt.value in

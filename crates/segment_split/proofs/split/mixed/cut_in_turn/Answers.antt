@@ -55,10 +55,10 @@ returns-in_err-is_marked g c = λ solver first s.
     (length lines) (sym (length-map lines (entry_of value)))
     c.in_err-is_marked.field-0.0 p.0 p.2 (rw c.deref-2.ensures.value at c.in_err-is_marked.ensures.refused))
 
-pub lay_marked-requires-clause-level : goal.lay_marked-requires-clause-level
-lay_marked-requires-clause-level g c =
+pub lay_marked-requires-clause-rectilinear : goal.lay_marked-requires-clause-rectilinear
+lay_marked-requires-clause-rectilinear g c =
     let value = g.I.OverlayInt.value in
-    let at = (goal.at.lay_marked-requires-clause-level g c).In_ok-is_marked in
+    let at = (goal.at.lay_marked-requires-clause-rectilinear g c).In_ok-is_marked in
     let searched = c.requires.searched in
     let s = searched.2 in
     rw c.deref-3.ensures.value (first_lines g.met.C.WindingCount.lawful searched.0.precision 0 (entries_of value c.args.segments.now.items)

@@ -3,14 +3,14 @@ use Rattle.std.specs.Prelude.{◌≡◌, ◌+◌, ◌≤◌, Bool, true, false, 
 use Rattle.std.proofs.Common.{get_or, refl, sym, ◌∙◌, subst, arith}
 use Rattle.plane_base.specs.Plane.{Edge}
 use Rattle.plane_base.specs.SegmentViews.{edge_of}
-use Rattle.segment_split.specs.LineLaws.{is_level_or_upright}
+use Rattle.segment_split.specs.LineLaws.{is_rectilinear}
 use Rattle.segment_split.specs.MarkLists.{IsAt, IsFilled}
 use Rattle.segment_split.specs.Mixed.{TellsOld}
 use Rattle.segment_split.specs.Passes.{edges_of}
 use Rattle.segment_split.specs.SegmentViews.{entry_of, entries_of}
 use Rattle.segment_split.proofs.Mixed.Told.{TellsTo, tells_old, tells_new, tells_all}
 use Rattle.segment_split.proofs.Passes.MarkLists.{edge_read, edges_length}
-use Rattle.segment_split.proofs.split.mixed.tell_old.Goals.{then-is_level_or_upright-are_lines_old+in_ok-fill+in_ok-push, else-is_level_or_upright-are_lines_old}
+use Rattle.segment_split.proofs.split.mixed.tell_old.Goals.{then-is_rectilinear-are_lines_old+in_ok-fill+in_ok-push, else-is_rectilinear-are_lines_old}
 use Rattle.segment_split.proofs.split.mixed.tell_old.Goals as goal
 
 -- what is told apart from the flag is new, and what isn't is old
@@ -38,19 +38,19 @@ loop-i-preserved g c =
     let es = edges_of (entries_of value c.args.segments.now) in
     let i = c.loop-i.i in
     let flag = c.args.are_lines_old in
-    let test = λ (s : Edge). cond flag (is_level_or_upright s) (not (is_level_or_upright s)) in
+    let test = λ (s : Edge). cond flag (is_rectilinear s) (not (is_rectilinear s)) in
     let segment = c.index-segments-i.result in
     let s = edge_of value (get_or c.args.segments.now i segment).x_segment in
     let at : IsAt es i s = edge_read (entry_of value) c.args.segments.now i segment (omega (arith, c.loop-i-test.true)) c.index-segments-i.is in
     let before = c.loop-i.next_new.items in
-    let told = c.is_level_or_upright.result in
-    elim c.if-is_level_or_upright-are_lines_old.branch [
-      | then-is_level_or_upright-are_lines_old+in_ok-fill+in_ok-push w ↦
+    let told = c.is_rectilinear.result in
+    elim c.if-is_rectilinear-are_lines_old.branch [
+      | then-is_rectilinear-are_lines_old+in_ok-fill+in_ok-push w ↦
           let full = w.fill.new.next_new.items in
           let long = w.in_ok-fill.ensures.len c.loop-i.invariant.short in
-          rw w.next_new-is (tells_new test es before full w.push.new.self.items i s at (new_is flag (is_level_or_upright s) told c.is_level_or_upright.ensures w.if-is_level_or_upright-are_lines_old.true) long w.in_ok-fill.ensures.is w.in_ok-push.ensures.items c.loop-i.invariant)
-      | else-is_level_or_upright-are_lines_old w ↦
-          rw w.next_new-is (tells_old test es before i s at (old_is flag (is_level_or_upright s) told c.is_level_or_upright.ensures w.if-is_level_or_upright-are_lines_old.false) c.loop-i.invariant)
+          rw w.next_new-is (tells_new test es before full w.push.new.self.items i s at (new_is flag (is_rectilinear s) told c.is_rectilinear.ensures w.if-is_rectilinear-are_lines_old.true) long w.in_ok-fill.ensures.is w.in_ok-push.ensures.items c.loop-i.invariant)
+      | else-is_rectilinear-are_lines_old w ↦
+          rw w.next_new-is (tells_old test es before i s at (old_is flag (is_rectilinear s) told c.is_rectilinear.ensures w.if-is_rectilinear-are_lines_old.false) c.loop-i.invariant)
     ]
 
 on_ok_both : {T E P Q R : Type 0} (r : Result T E) → (P → Q → R) → OnOk r P → OnOk r Q → OnOk r R
@@ -62,7 +62,7 @@ returns-clause-told g c =
     let value = g.I.OverlayInt.value in
     let es = edges_of (entries_of value c.args.segments.now) in
     let flag = c.args.are_lines_old in
-    let test = λ (s : Edge). cond flag (is_level_or_upright s) (not (is_level_or_upright s)) in
+    let test = λ (s : Edge). cond flag (is_rectilinear s) (not (is_rectilinear s)) in
     let before = c.loop-i.next_new.items in
     let full = c.fill-2.new.next_new.items in
     let n = length c.args.segments.now in

@@ -1,0 +1,87 @@
+use Rattle.std.proofs.Common.{◌≡◌, ◌++◌, ◌∷◌, [], false, length, slice_index_or, inr, refl, ap, subst, ◌∙◌, arith}
+use Rattle.std.proofs.lemmas.List.{get_or_default}
+use Rattle.std.proofs.lemmas.Result.{err_from_is_err_and}
+use Rattle.plane_base.specs.Counts.{boolean}
+use Rattle.segment_split.specs.Kinds.{count_fits}
+use Rattle.segment_arrangement.specs.RuleViews.{fill_rule_of}
+use Rattle.segment_arrangement.specs.SweepViews.{sides_between}
+use Rattle.segment_arrangement.proofs.Fans.Fills.{alone_sides, alone_beyond}
+use Rattle.segment_arrangement.proofs.RectilinearSides.Pairs.{pair_sides, horizontal_beyond, vertical_beyond}
+use Rattle.segment_arrangement.specs.Seen.{seen_of}
+use Rattle.segment_arrangement.proofs.rectilinear_sides.sides_of_pair.Goals as goal
+
+-- ---- one alone
+
+pub returns-in_err-sides_of-clause-err : goal.returns-in_err-sides_of-clause-err
+returns-in_err-sides_of-clause-err g c =
+    let p = err_from_is_err_and c.from_residual.result c.from_residual.ensures.1 in
+    let told = c.in_err-sides_of.ensures.fault in
+    rw (p.1, p.2)
+    (inr (
+      told.0,
+      λ es v d arranged horizontal all is.
+          alone_beyond (seen_of g.C.FilledCount.sides g.I.OverlayInt.value) c.args.segments.now (slice_index_or c.args.segments.now 0 c.index-segments-0.result) c.if-segments-eq1.true (ap (slice_index_or c.args.segments.now 0) c.index-segments-0.is) es v arranged all c.args.below is d told.1,
+    ))
+
+pub returns-then-segments-eq1-clause-lower : goal.returns-then-segments-eq1-clause-lower
+returns-then-segments-eq1-clause-lower g c = λ es v d arranged horizontal all is.
+    alone_sides (seen_of g.C.FilledCount.sides g.I.OverlayInt.value) c.args.segments.now (slice_index_or c.args.segments.now 0 c.index-segments-0.result) c.if-segments-eq1.true (ap (slice_index_or c.args.segments.now 0) c.index-segments-0.is) es v arranged all c.args.below is (λ lower s. lower) (c.args.below ∷ []) refl 0 d c.args.below c.requires.some
+
+pub returns-then-segments-eq1-clause-ok : goal.returns-then-segments-eq1-clause-ok
+returns-then-segments-eq1-clause-ok g c = λ es v i d e arranged horizontal all is l.
+    alone_sides (seen_of g.C.FilledCount.sides g.I.OverlayInt.value) c.args.segments.now (slice_index_or c.args.segments.now 0 c.index-segments-0.result) c.if-segments-eq1.true (ap (slice_index_or c.args.segments.now 0) c.index-segments-0.is) es v arranged all c.args.below is (λ lower s. sides_between g.C.FilledCount.sides g.C.FilledCount.filled (fill_rule_of c.args.rule) lower s.count) c.push.new.self.items
+    (c.in_ok-push.ensures.items ∙ (λ k. c.clear.ensures.items k ++ c.in_ok-sides_of.ensures.is k ∷ [])) i d e l
+
+-- ---- a vertical one and a horizontal one
+
+pub returns-in_err-horizontal-clause-err : goal.returns-in_err-horizontal-clause-err
+returns-in_err-horizontal-clause-err g c =
+    let p = err_from_is_err_and c.from_residual-in_err-horizontal.result c.from_residual-in_err-horizontal.ensures.1 in
+    let told = c.in_err-horizontal.ensures.fault in
+    let segments = c.args.segments.now in
+    let two : length segments ≡ 2 = omega (arith, c.if-segments-eq1.false, c.requires.some, c.requires.two) in
+    let x = slice_index_or segments 0 c.index-segments-1.result in
+    let y = slice_index_or segments 1 c.index-segments-1.result in
+    rw (p.1, p.2)
+    (inr (
+      told.0,
+      λ es v d arranged horizontal all is.
+          horizontal_beyond (seen_of g.C.FilledCount.sides g.I.OverlayInt.value) segments x y two (get_or_default segments 0 c.index-segments-1.result x (omega (arith, two))) (ap (slice_index_or segments 1) c.index-segments-1.is) es v arranged horizontal all c.args.below is d told.1,
+    ))
+
+pub returns-in_err-sides_of-2-clause-err : goal.returns-in_err-sides_of-2-clause-err
+returns-in_err-sides_of-2-clause-err g c =
+    let p = err_from_is_err_and c.from_residual-in_err-sides_of-2.result c.from_residual-in_err-sides_of-2.ensures.1 in
+    let told = c.in_err-sides_of-2.ensures.fault in
+    let segments = c.args.segments.now in
+    let two : length segments ≡ 2 = omega (arith, c.if-segments-eq1.false, c.requires.some, c.requires.two) in
+    let x = slice_index_or segments 0 c.index-segments-0-2.result in
+    let y = slice_index_or segments 1 c.index-segments-1.result in
+    rw (p.1, p.2)
+    (inr (
+      told.0,
+      λ es v d arranged horizontal all is.
+          vertical_beyond (seen_of g.C.FilledCount.sides g.I.OverlayInt.value) segments x y two (ap (slice_index_or segments 0) c.index-segments-0-2.is) (ap (slice_index_or segments 1) c.index-segments-1.is) es v arranged horizontal all c.args.below is d
+          (subst (λ t. count_fits (boolean.join t (g.C.FilledCount.sides x.count)) ≡ false) (ap (λ t. t.top) c.in_ok-horizontal.ensures.is) told.1),
+    ))
+
+pub returns-clause-lower : goal.returns-clause-lower
+returns-clause-lower g c = λ es v d arranged horizontal all is.
+    let segments = c.args.segments.now in
+    let two : length segments ≡ 2 = omega (arith, c.if-segments-eq1.false, c.requires.some, c.requires.two) in
+    let x = slice_index_or segments 0 c.index-segments-0-2.result in
+    let y = slice_index_or segments 1 c.index-segments-1.result in
+    ap (λ t. t.top) c.in_ok-horizontal.ensures.is
+    ∙ pair_sides (seen_of g.C.FilledCount.sides g.I.OverlayInt.value) segments x y two (ap (slice_index_or segments 0) c.index-segments-0-2.is) (ap (slice_index_or segments 1) c.index-segments-1.is) es v arranged horizontal all c.args.below is (λ lower s. lower)
+    (boolean.join c.args.below (g.C.FilledCount.sides y.count) ∷ c.args.below ∷ []) refl 0 d c.args.below c.requires.some
+
+pub returns-clause-ok : goal.returns-clause-ok
+returns-clause-ok g c = λ es v i d e arranged horizontal all is l.
+    let segments = c.args.segments.now in
+    let two : length segments ≡ 2 = omega (arith, c.if-segments-eq1.false, c.requires.some, c.requires.two) in
+    let x = slice_index_or segments 0 c.index-segments-0-2.result in
+    let y = slice_index_or segments 1 c.index-segments-1.result in
+    let above = c.in_ok-sides_of-2.ensures.is ∙ ap (λ t. sides_between g.C.FilledCount.sides g.C.FilledCount.filled (fill_rule_of c.args.rule) t.top x.count) c.in_ok-horizontal.ensures.is in
+    pair_sides (seen_of g.C.FilledCount.sides g.I.OverlayInt.value) segments x y two (ap (slice_index_or segments 0) c.index-segments-0-2.is) (ap (slice_index_or segments 1) c.index-segments-1.is) es v arranged horizontal all c.args.below is
+    (λ lower s. sides_between g.C.FilledCount.sides g.C.FilledCount.filled (fill_rule_of c.args.rule) lower s.count) c.push-3.new.self.items
+    (c.in_ok-push-3.ensures.items ∙ (λ k. (c.in_ok-push-2.ensures.items ∙ (λ m. c.clear.ensures.items m ++ above m ∷ [])) k ++ c.in_ok-horizontal.ensures.is k ∷ [])) i d e l

@@ -1,5 +1,0 @@
-use Rattle.segment_split.proofs.Ranks.{highest}
-use Rattle.segment_split.proofs.level.ranks.highest_bit.Goals as goal
-
-pub returns : goal.returns
-returns c = highest c.args.word c.ilog2.result c.ilog2.ensures.bound c.ilog2.ensures.power_le c.ilog2.ensures.next_power_gt
