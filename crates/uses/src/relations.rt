@@ -3,12 +3,11 @@
 ghost use Rattle.std.specs.Prelude.{◌≡◌, IfOk, int_lt};
 ghost use Rattle.polygon_overlay.specs.Calls.{contours_of, AreInRange};
 ghost use Rattle.polygon_overlay.specs.PathViews.{paths_of_shapes};
-ghost use Rattle.polygon_overlay.specs.PointBoxes.{are_apart};
 ghost use Rattle.polygon_overlay.specs.PredicateCalls.{held_by, Answers};
 ghost use Rattle.polygon_overlay.specs.Predicates.{intersects, within};
 ghost use Rattle.polygon_overlay.specs.Singles.{IsRelated};
 ghost use Rattle.polygon_overlay.specs.TileViews.{bounds_of};
-ghost use Rattle.uses.specs.Boxes.{HoldsInBoxes};
+ghost use Rattle.uses.specs.Boxes.{HoldsInBoxes, are_apart};
 
 use polygon_overlay::laws::{apart_is_disjoint, covers_is_within_exchanged, holding_goes_on};
 use polygon_overlay::plane::fault::Fault;

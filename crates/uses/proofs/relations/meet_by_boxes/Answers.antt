@@ -6,7 +6,6 @@ use Rattle.polygon_overlay.specs.Counts.{Count, Entry}
 use Rattle.polygon_overlay.specs.Graphs.{all_links}
 use Rattle.polygon_overlay.specs.Groups.{Bounds, AreApart}
 use Rattle.polygon_overlay.specs.Overlays.{redrawn_of}
-use Rattle.polygon_overlay.specs.PointBoxes.{are_apart}
 use Rattle.polygon_overlay.specs.Precision.{Precision}
 use Rattle.polygon_overlay.specs.PredicateCalls.{held_by}
 use Rattle.polygon_overlay.specs.Predicates.{intersects}
@@ -14,7 +13,7 @@ use Rattle.polygon_overlay.specs.Regions.{FillRule}
 use Rattle.polygon_overlay.specs.RelationLaws.{ApartIsDisjoint, LieApart}
 use Rattle.polygon_overlay.specs.RuleViews.{fill_rule_of}
 use Rattle.polygon_overlay.specs.TileViews.{bounds_of}
-use Rattle.uses.specs.Boxes.{HoldsInBoxes}
+use Rattle.uses.specs.Boxes.{HoldsInBoxes, are_apart}
 use Rattle.uses.proofs.relations.meet_by_boxes.Goals as goal
 
 ends_before : (x y : ℤ) → int_lt x y ≡ true → x <ℤ y
