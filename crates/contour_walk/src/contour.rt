@@ -1,4 +1,5 @@
-//! Contours: their points and edges, the corners that are kept, and the least point.
+//! Contours: their points and edges, the corners that are kept, and the least point. Degenerate cases: an empty contour has no
+//! edges and no least point. Each call takes one pass over the points.
 
 ghost use Rattle.std.specs.Prelude.{◌≡◌, ◌<◌, ◌+◌, All, IfOk, OnOk, IsOkUnless, List, ◌∷◌, ◌++◌, length, drop};
 ghost use Rattle.plane_base.specs.Plane.{Point, IsWithin};

@@ -1,4 +1,5 @@
-//! Contours laid flat: those that reach the least area, one after another.
+//! Contours laid flat: those that reach the least area, one after another, with their corners alone or all points. Degenerate
+//! cases: a least area of 0 is reached by all. It takes one pass over the points.
 
 ghost use Rattle.std.specs.Prelude.{◌≡◌, ◌∷◌, [], All, OnOk, IsOkUnless, cond, map};
 ghost use Rattle.plane_base.specs.Plane.{IsWithin};

@@ -1,4 +1,5 @@
-//! Shapes laid flat.
+//! Shapes laid flat: the contours of all, one after another, and a range of these for each shape. It takes one pass over the
+//! points.
 
 ghost use Rattle.std.specs.Prelude.{◌∷◌, [], All, IfOk, OnOk, IsOkUnless, map};
 ghost use Rattle.plane_base.specs.Plane.{IsWithin};

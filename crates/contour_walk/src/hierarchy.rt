@@ -1,4 +1,4 @@
-//! Shapes in shapes: which islands lie in which holes.
+//! Shapes in shapes: shapes laid flat, and a link for each that lies in a hole of another (`child_links` finds them).
 
 ghost use Rattle.std.specs.Prelude.{◌≡◌, ◌↔◌, [], true};
 ghost use Rattle.contour_walk.specs.declared.hierarchy.ChildLink.{ChildLink};

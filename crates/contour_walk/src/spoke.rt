@@ -1,4 +1,5 @@
-//! Links at a node, by the states that tell which of them are left.
+//! Links at a node, seen from it: the far end and the place of each, and by its state whether a walk has passed it yet. Each is
+//! read in constant time.
 
 ghost use Rattle.std.specs.Prelude.{◌≡◌, ◌∷◌, ◌++◌, [], ◌<◌, All, IfSome, cond, length};
 ghost use Rattle.plane_base.specs.Plane.{IsWithin};

@@ -1,4 +1,5 @@
-//! Times, and keys and values that expire.
+//! Times, and keys and values that expire. A key lives before its expiration, a value up to it, that time
+//! included. The order of keys need be lawful only among the live ones and the key of a call.
 ghost use Rattle.std.specs.Prelude.{◌≡◌, ◌-◌, ◌^◌, pos};
 ghost use Rattle.std.specs.declared.cmp.Ordering.{Ordering};
 

@@ -1,4 +1,5 @@
-//! Ranges of numbers that expire, found by the buckets that they touch.
+//! Ranges of numbers that expire, found by the buckets that they touch: a segment tree over 32 buckets
+//! (`tree`), its layout, and its parts.
 mod entity;
 pub mod exp;
 pub mod iter;

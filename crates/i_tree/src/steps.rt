@@ -1,4 +1,5 @@
-//! A counter of steps of size 0.
+//! A counter of steps of size 0: comparisons of keys, and pairs of segments. A ledger keeps the counts, which
+//! contracts alone read.
 ghost use Rattle.std.specs.Prelude.{◌≡◌, ◌+◌};
 
 use std::marker::Model;

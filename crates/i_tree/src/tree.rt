@@ -1,4 +1,5 @@
-//! Red-black trees of nodes in a pool, named by their places.
+//! Red-black trees of nodes in a pool, named by their places: nodes and rotations (`pool`), in-order
+//! predecessors (`order`), additions and removals with their fix-ups, and trees with entries.
 pub mod addition;
 pub mod entries;
 pub mod insertion;

@@ -1,4 +1,5 @@
-//! The crossing of two segments, and their marks, by a radius or late: `meet` seen by one call for each rounding.
+//! The crossing of two segments, and their marks, by a radius or late: `meet` seen by one call for each rounding, with its
+//! degenerate cases and in constant time.
 
 ghost use Rattle.std.specs.Prelude.{◌≡◌, ◌≢◌, ◌↔◌, IsNone, IfSome, true};
 ghost use Rattle.std.specs.declared.cmp.Ordering.TheVariants.{Greater};

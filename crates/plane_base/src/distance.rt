@@ -1,4 +1,5 @@
-//! How far points lie from each other.
+//! How far points lie from each other: squared distances, which are whole numbers and exact. It takes constant
+//! time.
 
 ghost use Rattle.std.specs.Prelude.{◌≡◌, pos, ◌≤ℤ◌};
 ghost use Rattle.plane_base.specs.Plane.{IsWithin};

@@ -1,4 +1,4 @@
-//! Why a call was refused.
+//! Why a call was refused: the one type of refusals of all libraries from here up to `polygon_overlay`.
 
 ghost use Rattle.std.specs.Prelude.{◌≡◌};
 ghost use Rattle.plane_base.specs.declared.fault.Fault.TheVariants.{Memory};

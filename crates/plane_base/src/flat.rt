@@ -1,4 +1,7 @@
 //! Contours laid flat: all points in one list, and a range of it for each contour.
+//!
+//! Degenerate cases: a range that doesn't lie in the list, which `is_well_formed` finds by one pass over the ranges. A
+//! contour is added in time linear in its points, and read in constant time.
 
 ghost use Rattle.std.specs.Prelude.{◌≡◌, ◌∷◌, ◌++◌, [], ◌↔◌, IsTrue, OnOk, OnErr, IfOk, IsOkUnless, ◌≤◌, length, vec_capacity, List};
 ghost use Rattle.std.specs.Borrow.{sem};

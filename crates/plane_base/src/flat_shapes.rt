@@ -1,4 +1,7 @@
 //! Shapes laid flat: all points in one list, a range of it for each contour, and a range of these for each shape.
+//!
+//! Degenerate cases: an empty range of shapes gives an empty shape; what no range has is left out, and what two
+//! have is copied twice. Shapes are copied out in time linear in what is copied.
 
 ghost use Rattle.std.specs.Prelude.{◌≡◌, ◌↔◌, [], map, IsTrue, IfOk, IsOkUnless, ◌≤◌, length, vec_capacity};
 ghost use Rattle.plane_base.specs.Flat.{AreRangesOf, parts, parts_of_parts};

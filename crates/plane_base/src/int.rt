@@ -2,7 +2,7 @@
 //!
 //! A type of coordinates brings kernels: cross and inner products, keys and weighed means of coordinates, each as one number that
 //! is wide enough. Generic code asks such numbers for their signs, sizes and order alone. The kernels stand in `narrow` for 64 bits
-//! and in `wide` for 128 bits.
+//! and in `wide` for 128 bits. Each takes constant time, and a mean one quotient.
 
 ghost use Rattle.std.specs.Prelude.{◌≡◌, ℤ, Bool, true, false, pos, negsuc, neg_ℤ, ◌+◌, ◌^◌, ◌+ℤ◌, ◌-ℤ◌, ◌*ℤ◌, ◌≤ℤ◌, ◌<ℤ◌, ◌↔◌, IsTrue, int_lt, int_le, unsigned_abs};
 ghost use Rattle.std.specs.Ordering.{int_cmp, int_eq};

@@ -1,4 +1,5 @@
-//! The turn of three points: the sign of a cross product, which is exact. Where two of them are equal, all lie on one line.
+//! The turn of three points: the sign of a cross product, which is exact. Degenerate cases: where two of them are equal,
+//! all lie on one line. It takes constant time.
 
 ghost use Rattle.std.specs.Prelude.{◌≡◌, pos, ◌-ℤ◌, ◌≤ℤ◌};
 ghost use Rattle.std.specs.Ordering.{int_cmp};

@@ -1,4 +1,4 @@
-//! Paths, contours and shapes.
+//! Paths, contours and shapes: lists of points, of contours and of shapes, copied in linear time.
 
 ghost use Rattle.std.specs.Prelude.{◌≡◌, map};
 

@@ -1,4 +1,4 @@
-//! Points of whole coordinates, and their order.
+//! Points of whole coordinates, and their order: by x, then by y.
 
 ghost use Rattle.std.specs.Prelude.{◌≡◌};
 

@@ -1,4 +1,5 @@
-//! Whether points lie in their type's range: what each call that reckons with points asks of its caller.
+//! Whether points lie in their type's range: what each call that reckons with points asks of its caller. It takes
+//! one pass over the points.
 
 ghost use Rattle.std.specs.Prelude.{◌↔◌, IsTrue, All, map};
 ghost use Rattle.plane_base.specs.Plane.{IsWithin};

@@ -1,4 +1,4 @@
-//! How a crossing off the grid becomes a whole point.
+//! How a crossing off the grid becomes a whole point: by a radius within which it goes to an end, or late, to no end.
 
 /// How a crossing off the grid becomes a whole point.
 #[derive(Clone, Copy, Debug, PartialEq, Eq)]

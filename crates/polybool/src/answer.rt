@@ -1,4 +1,5 @@
-//! The answer to an overlay.
+//! The answer to an overlay: one builder, in the storage of the last answer, takes the kept contours in anew and
+//! is asked. Degenerate cases: without contours there are no shapes. It takes the time of the overlay.
 
 ghost use Rattle.std.specs.Prelude.{◌≡◌, ◌≢◌, IfOk, IfErr, flat_map};
 ghost use Rattle.plane_base.specs.declared.fault.Fault.TheVariants.{Failed};

@@ -1,4 +1,4 @@
-//! The area of an answer.
+//! The area of an answer: the shoelace formula, summed over its contours in 128 bits. It takes linear time.
 
 ghost use Rattle.std.specs.Prelude.{◌≡◌, flat_map};
 ghost use Rattle.polybool.specs.AnswerAreas.{area_sum, shapes_area, AreMeasurable};

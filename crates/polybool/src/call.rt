@@ -1,4 +1,5 @@
-//! How the program is called.
+//! How the program is called: the arguments, read into two arrays on the stack. Degenerate cases: one that is longer than any path,
+//! or isn't UTF-8, is none that the program knows.
 
 ghost use Rattle.std.specs.Prelude.{◌≡◌, ◌<◌, ◌↔◌, ◌∷◌, [], ℕ, List, Option, Some, None, drop, IsTrue};
 ghost use Rattle.std.specs.List.{slice_get};

@@ -1,7 +1,7 @@
-//! The digits of a number, laid two at a time.
+//! The digits of a number, laid two at a time, by divide and conquer.
 //!
 //! A number is taken apart from above, by halves: eight digits are two times four, and four are two times two. So no step waits for
-//! another, and none divides by ten.
+//! another, and none divides by ten. It takes constant time.
 
 ghost use Rattle.std.specs.Prelude.{◌≡◌, ◌+◌, ◌≤◌, ◌<◌, ◌++◌, ◌∷◌, [], length, take, decimal};
 ghost use Rattle.polybool.specs.Digits.{two_digits, four_digits, eight_digits};

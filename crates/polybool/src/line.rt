@@ -1,4 +1,6 @@
-//! The line that is being read.
+//! The line that is being read: its bytes so far, or why they are not held. Degenerate cases: a line of more than 1,048,576
+//! bytes, or one that finds no room, is read on and not held; a carriage return at its end is no part of its text. A byte takes
+//! amortised constant time.
 
 ghost use Rattle.std.specs.Prelude.{◌≡◌, ◌≢◌, ℕ, List, [], ◌++◌, ◌≤◌, length, ◌↔◌, IsTrue, MatchResult};
 ghost use Rattle.polybool.specs.Lines.{longest, text_of};

@@ -1,4 +1,5 @@
-//! Where a point lies in the last answer.
+//! Where a point lies in the last answer: on an edge, else by parity, as ray casting tells it. It takes linear
+//! time.
 
 ghost use Rattle.std.specs.Prelude.{◌≡◌, IfOk, IfErr, IsOkUnless, flat_map};
 ghost use Rattle.polybool.specs.AnswerAreas.{AreMeasurable};

@@ -1,4 +1,5 @@
-//! Numerals: decimal digits, as many as there may be, for coordinates behind an optional minus sign.
+//! Numerals: decimal digits, as many as there may be, for coordinates behind an optional minus sign. Degenerate cases: without a digit
+//! it is none; a number that no coordinate reaches is capped, so no sum overflows. It takes a step for each digit.
 
 ghost use Rattle.std.specs.Prelude.{◌≡◌, ℕ, ℤ, ◌<◌, ◌≤◌, ◌^◌, ◌+◌, length, true, false, min, None, pos, neg_ℤ, MatchOption, IfSome, IfNone};
 ghost use Rattle.std.specs.List.{list_all};

@@ -1,4 +1,5 @@
-//! A fixed piece of text: words and numbers are laid in it, and go out together.
+//! A fixed piece of text, an output buffer on the stack: words and numbers are laid in it, and go out together.
+//! So laying takes no memory, and a number constant time.
 
 ghost use Rattle.std.specs.Prelude.{◌≡◌, ◌+◌, ◌≤◌, ◌<◌, [], ◌∷◌, ◌++◌, length, decimal, OnOk};
 ghost use Rattle.std.specs.Fmt.{signed_decimal};

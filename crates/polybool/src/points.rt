@@ -1,4 +1,5 @@
-//! The points that words spell.
+//! The points that words spell, two numerals each. Degenerate cases: a number out of range is told only where all
+//! words are numerals, and memory only where all numbers are in range. It takes one pass over the text.
 
 ghost use Rattle.std.specs.Prelude.{◌≡◌, ◌<◌, ◌≤◌, ℕ, ℤ, ◌++◌, ◌∷◌, [], Some, None, List, length, vec_capacity, MatchResult};
 ghost use Rattle.std.specs.Prelude.{IfSome, IfNone};

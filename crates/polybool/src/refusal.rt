@@ -1,4 +1,4 @@
-//! Why a request line is refused.
+//! Why a request line is refused, and the number of the reply.
 
 ghost use Rattle.std.specs.Prelude.{◌≡◌};
 ghost use Rattle.polybool.specs.Texts.{code_of};

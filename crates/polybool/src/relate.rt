@@ -1,4 +1,4 @@
-//! How the kept contours are related.
+//! How the kept contours are related: a builder of its own is asked for all relations by one sweep.
 
 ghost use Rattle.std.specs.Prelude.{IfOk, IfErr};
 ghost use Rattle.polybool.specs.Stores.{store_of};

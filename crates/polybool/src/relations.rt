@@ -1,4 +1,4 @@
-//! The line of relations, laid in a piece.
+//! The line of relations, laid in a piece, so no memory is taken.
 
 ghost use Rattle.std.specs.Prelude.{◌≡◌, ℕ, ◌<◌, List, [], ◌++◌, length, MatchResult};
 ghost use Rattle.std.specs.Io.KnownBytes.{Appends};

@@ -1,4 +1,4 @@
-//! The reply to a line, and how it goes out.
+//! The reply to a line, and how it goes out: short ones by a fixed text, shapes piece by piece. No reply takes memory.
 
 ghost use Rattle.std.specs.Prelude.{◌≡◌, ℕ, ◌+◌, ◌≤◌, ◌<◌, List, [], ◌∷◌, ◌++◌, length, take, MatchResult, decimal};
 ghost use Rattle.std.specs.Fmt.{signed_decimal};

@@ -1,4 +1,4 @@
-//! What a request line asks for.
+//! What a request line asks for: its words, parsed from the front, each once. It takes time linear in the text.
 
 ghost use Rattle.std.specs.Prelude.{◌≡◌, ◌≢◌, ℕ, ◌<◌, [], ◌∷◌, Some, None, List, map, length, MatchResult, IfSome, IfNone};
 ghost use Rattle.std.specs.Option.{option_copied};

@@ -1,4 +1,5 @@
-//! The program over any reader and any writer.
+//! The program over any reader and any writer: the loop that reads 65,536 bytes at a time and hands them to a session.
+//! Degenerate cases: every error of a read or a write ends the run; a line without an end is answered at the end of the input.
 
 ghost use Rattle.std.specs.Prelude.{◌≡◌, []};
 ghost use Rattle.polybool.specs.Sessions.{Stands};

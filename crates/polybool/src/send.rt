@@ -1,4 +1,5 @@
-//! Bytes are written to a writer whole, or it is told that a write failed.
+//! Bytes are written to a writer whole, or it is told that a write failed. Degenerate cases: a write that takes
+//! nothing has failed.
 
 ghost use Rattle.std.specs.Prelude.{◌≡◌, ℕ, ◌<◌, List, [], ◌++◌, length, MatchResult};
 ghost use Rattle.std.specs.Io.KnownBytes.{Appends};

@@ -1,4 +1,6 @@
-//! Takes the bytes that were read, and answers each line as soon as its end came.
+//! Takes the bytes that were read, and answers each line as soon as its end came. Degenerate cases: an empty line
+//! is counted and has no reply; a refused one changes nothing. Beside the requests it takes one pass over the
+//! bytes.
 
 ghost use Rattle.std.specs.Prelude.{◌≡◌, ℕ, ◌+◌, ◌≤◌, ◌<◌, ◌^◌, List, [], ◌∷◌, ◌++◌, length, MatchResult, IfSome, IfNone};
 ghost use Rattle.std.specs.Io.KnownBytes.{Appends, Keeps};

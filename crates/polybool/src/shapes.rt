@@ -1,4 +1,4 @@
-//! The lines of an answer, laid in pieces.
+//! The lines of an answer, laid in pieces, in time linear in its points and without memory.
 
 ghost use Rattle.std.specs.Prelude.{◌≡◌, ℕ, ◌≤◌, ◌<◌, List, [], ◌++◌, length, decimal, MatchResult};
 ghost use Rattle.std.specs.Io.KnownBytes.{Appends};

@@ -1,4 +1,5 @@
-//! The words of a line's text, one after another.
+//! The words of a line's text, one after another: each ends at a space or with the text. A word takes one pass
+//! over it.
 
 ghost use Rattle.std.specs.Prelude.{◌≡◌, ◌<◌, ◌∷◌, [], length, IfSome, IfNone};
 ghost use Rattle.std.specs.Option.{option_copied};

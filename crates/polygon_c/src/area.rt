@@ -1,4 +1,4 @@
-//! The area of a contour.
+//! The area of a contour, as two halves of a number of 128 bits. It takes linear time.
 
 ghost use Rattle.std.specs.Prelude.{◌≡◌, ◌+◌, ◌*◌, ◌^◌, IfOk, IfErr};
 ghost use Rattle.std.specs.Int.{w128, cast_unsigned};

@@ -1,4 +1,5 @@
-//! What a call asks for, once all tests are passed.
+//! What a call asks for, once all tests are passed: the query's numbers, then lengths, then range. The tests take one pass over the
+//! arrays, and memory is asked for after them.
 
 ghost use Rattle.std.specs.Prelude.{IfOk, IfErr};
 ghost use Rattle.polygon_c.specs.Answers.{Passes, AreTaken, IsUnasked};

@@ -1,4 +1,4 @@
-//! Masks of horizontal and vertical edges, checked for widths and spaces.
+//! Masks of horizontal and vertical edges, checked for widths and spaces: the tests, and then `checks` of the engine.
 
 ghost use Rattle.std.specs.Prelude.{◌≡◌, ◌≢◌, ◌↔◌, [], IsTrue, IfOk, IfErr};
 ghost use Rattle.contour_walk.specs.ShapeViews.{IsFlat};

@@ -1,4 +1,4 @@
-//! Lines that a shape clips.
+//! Lines that a shape clips: the tests, and then a clip by the engine, laid flat.
 
 ghost use Rattle.std.specs.Prelude.{◌≡◌, ◌≢◌, [], IfOk, IfErr};
 ghost use Rattle.polygon_c.specs.Answers.{IsRefused};

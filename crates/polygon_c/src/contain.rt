@@ -1,4 +1,4 @@
-//! Which points lie in shapes.
+//! Which points lie in shapes: the tests, and then point location by the engine.
 
 ghost use Rattle.std.specs.Prelude.{◌≡◌, All, IfOk, IfErr, IsOkUnless, map, length, sum};
 ghost use Rattle.contour_walk.specs.BindingLaws.{all_contours};

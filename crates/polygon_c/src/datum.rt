@@ -1,4 +1,5 @@
-//! Numbers that edges carry, and what they become where edges come to lie on each other.
+//! Numbers that edges carry, and what they become where edges come to lie on each other: each bit that one has, the least, or the
+//! one that all have. Degenerate cases: of the last, numbers that differ become none. Each join takes constant time.
 
 ghost use Rattle.std.specs.Prelude.{◌≡◌, ◌↔◌, ℕ, Option, Some, true};
 ghost use Rattle.polygon_c.specs.Joins.{all_bits, lesser, alike};

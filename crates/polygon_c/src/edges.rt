@@ -1,4 +1,4 @@
-//! Overlays of contours whose edges have numbers.
+//! Overlays of contours whose edges have numbers: the tests, and then an overlay of edges with data, whose type the join tells.
 
 ghost use Rattle.std.specs.Prelude.{◌≡◌, ◌≢◌, ◌⊎◌, ◌++◌, ◌∷◌, [], Some, None, OnOk, IfOk, IfErr, MatchOption, Contains, false, map, length, sum};
 ghost use Rattle.plane_base.specs.Counts.{boolean, lay};

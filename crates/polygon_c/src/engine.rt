@@ -1,4 +1,4 @@
-//! Calls of the engine.
+//! Calls of the engine: a request with its contours in, shapes or faults out.
 
 ghost use Rattle.std.specs.Prelude.{◌≡◌, All, IfOk, IfErr, IsOkUnless};
 ghost use Rattle.plane_base.specs.GivenViews.{contours_of};

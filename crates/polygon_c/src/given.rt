@@ -1,4 +1,5 @@
-//! Contours as a C program gives them: the points of all in one array, and how many points each has in another.
+//! Contours as a C program gives them: the points of all in one array, and how many points each has in another. They are tested in
+//! place, and then copied, in linear time.
 
 ghost use Rattle.std.specs.Prelude.{◌≡◌, ◌↔◌, IsTrue, IfOk, IfErr, OnOk, IsOkUnless, length, sum};
 ghost use Rattle.plane_base.specs.Plane.{Point};

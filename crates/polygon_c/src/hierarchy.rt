@@ -1,4 +1,4 @@
-//! Overlays with the shapes that lie in holes of others.
+//! Overlays with the shapes that lie in holes of others: the tests, a hierarchy by the engine, and its links in the order of holes.
 
 ghost use Rattle.std.specs.Prelude.{◌≡◌, ◌≢◌, IfOk, IfErr, map};
 ghost use Rattle.polygon_c.specs.Given.{given};

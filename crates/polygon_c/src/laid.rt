@@ -1,4 +1,5 @@
 //! Shapes laid flat: the points of all contours in one list, how many points each contour has, and how many contours each shape has.
+//! It takes one pass over the points.
 
 ghost use Rattle.std.specs.Prelude.{◌≡◌, ◌++◌, ◌∷◌, [], OnOk, IfOk, map, length};
 ghost use Rattle.plane_base.specs.GivenViews.{contours_of};

@@ -1,4 +1,4 @@
-//! Where points lie: in shapes, on their edges, or outside.
+//! Where points lie: in shapes, on their edges, or outside, told point by point by a `PointLocator` of the shapes.
 
 ghost use Rattle.std.specs.Prelude.{◌≡◌, All, IfOk, IfErr, IsOkUnless, map};
 ghost use Rattle.plane_base.specs.Views.{point_of, points_of};

@@ -1,4 +1,5 @@
-//! Overlays of one subject with many groups of clips, by one builder.
+//! Overlays of one subject with many groups of clips, by one builder. Degenerate cases: where one is refused, nothing is written. It takes
+//! the time of the overlays, the subject given to each anew.
 
 ghost use Rattle.std.specs.Prelude.{◌≡◌, ◌≢◌, ◌⊎◌, IfOk, IfErr, OnOk, List, map, length, flat_map, Contains};
 ghost use Rattle.plane_base.specs.Plane.{Point};

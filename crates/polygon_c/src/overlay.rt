@@ -1,4 +1,4 @@
-//! Overlays.
+//! Overlays: the tests, an overlay by the engine, and its shapes laid flat over the caller's arrays.
 
 ghost use Rattle.std.specs.Prelude.{◌≡◌, ◌≢◌, IfOk, IfErr};
 ghost use Rattle.polygon_c.specs.Given.{given};

@@ -1,4 +1,5 @@
-//! What a C program asks for, as numbers, and what they stand for.
+//! What a C program asks for, as numbers, and what they stand for. Degenerate cases: a missing word is 0, each number's default; one more
+//! than is known is refused. It takes constant time.
 
 ghost use Rattle.std.specs.Prelude.{◌≡◌, Bool, IfOk, IfErr, not, ◌==◌};
 ghost use Rattle.std.specs.Option.{option_map};

@@ -1,4 +1,4 @@
-//! How a subject and a clip are related.
+//! How a subject and a clip are related: the tests, and then relations by the engine, as bytes.
 
 ghost use Rattle.std.specs.Prelude.{◌≡◌, IfOk, IfErr};
 ghost use Rattle.polygon_c.specs.Given.{given};

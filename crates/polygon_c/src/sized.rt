@@ -1,4 +1,4 @@
-//! Regions of horizontal and vertical edges, grown or shrunk.
+//! Regions of horizontal and vertical edges, grown or shrunk: the tests, and then `sizing` of the engine.
 
 ghost use Rattle.std.specs.Prelude.{◌≡◌, ◌≢◌, [], IfOk, IfErr};
 ghost use Rattle.polygon_overlay.specs.SizingViews.{amounts_of};

@@ -1,4 +1,4 @@
-//! Shapes that lines part.
+//! Shapes that lines part: the tests, a slice by the engine, and its pieces laid flat.
 
 ghost use Rattle.std.specs.Prelude.{◌≡◌, ◌≢◌, IfOk, IfErr};
 ghost use Rattle.polygon_c.specs.Answers.{IsRefused};

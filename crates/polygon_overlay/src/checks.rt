@@ -1,9 +1,9 @@
-//! Checks of masks: where regions of horizontal and vertical edges are narrower than a width, or nearer to themselves than a space.
+//! Checks of masks: where regions of horizontal and vertical edges are narrower than a width, or nearer to themselves than a space; in the words of
+//! textbooks, what an opening by a square takes away, and what a closing adds.
 //!
 //! A width is checked by shrinking the region and growing it again by the same amounts, left and right together one less than the width, bottom and
-//! top too: what is gone is what no square of the width in the region covers. A space is checked by growing first: what has come is what no square
-//! of the space outside covers. These are widths and spaces across: of two corners that face each other diagonally nothing is told, however near they
-//! are.
+//! top too: what is gone is what no square of the width in the region covers. A space is checked by growing first: what has come is what no square of
+//! the space outside covers. Degenerate cases: of two corners that face each other diagonally nothing is told, however near they are.
 //!
 //! Each is five overlays: one makes the region, one shrinks it in x, two grow what is left, once it is a region in y too, and the last tells the two
 //! apart.

@@ -2,7 +2,7 @@
 //!
 //! The edges that are held need not bound anything while they are added; a query asks that they are balanced, that is, that as many
 //! leave each point as enter it, in subject and in clip. What data do where edges are turned, cut and joined is told by
-//! `OverlayEdgeData`.
+//! `OverlayEdgeData`. It takes the time of an overlay.
 
 ghost use Rattle.std.proofs.Props.{props};
 ghost use Rattle.polygon_overlay.specs.EdgeBuilders.{AreHeldEdges};

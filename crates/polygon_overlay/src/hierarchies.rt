@@ -1,4 +1,5 @@
 //! A query for a hierarchy: what is held is redrawn, swept, and walked along the boundary, and islands in holes are linked to them.
+//! Degenerate cases: without edges there are no shapes. It takes the time of an overlay, and n log n for the links.
 
 ghost use Rattle.std.specs.Prelude.{◌≡◌, ◌<◌, ◌^◌, List, length, IfOk, IfErr, OnOk, OnErr};
 ghost use Rattle.plane_base.specs.Counts.{Count, Entry};

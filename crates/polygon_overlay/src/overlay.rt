@@ -1,4 +1,5 @@
-//! Overlays: subject and clip contours go in, and shapes come out, query by query.
+//! Overlays: subject and clip contours go in, and shapes come out, query by query. The calls stand below, by what they do; `query`
+//! has the stages that they share.
 
 ghost use Rattle.polygon_overlay.specs.Builders.{IsHeld};
 

@@ -1,4 +1,5 @@
-//! Boxes of points, whose sides run horizontal and vertical.
+//! Bounding boxes of points, whose sides run horizontal and vertical. Degenerate cases: the box of no points ends before it begins.
+//! It takes one pass over the points.
 
 ghost use Rattle.std.specs.Prelude.{◌≡◌, ◌≤ℤ◌, All, int_lt};
 ghost use Rattle.plane_base.specs.Plane.{Point};

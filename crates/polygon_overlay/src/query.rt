@@ -1,4 +1,7 @@
-//! A query: what is held is redrawn, swept, and walked along the boundary.
+//! A query, the stages of every overlay: what is held is redrawn (`segment_split`), swept (`segment_arrangement`), and walked along
+//! the boundary (`contour_walk`).
+//!
+//! Degenerate cases: without edges there are no shapes; after a refusal nothing is held. It takes the time of the three.
 
 ghost use Rattle.std.specs.Prelude.{◌≡◌, ◌↔◌, ◌<◌, ◌^◌, true, List, [], length, map, IsTrue, IfOk, IfErr, OnOk, OnErr};
 ghost use Rattle.plane_base.specs.Counts.{Count, Entry, boolean};

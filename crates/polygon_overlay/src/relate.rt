@@ -1,8 +1,8 @@
 //! Relations between what a subject and a clip fill: whether they meet, touch, or lie one within the other.
 //!
-//! What is held is redrawn and swept as for an overlay, but nothing is walked: the sweep tells the fills of the segments, and ends as soon
-//! as the answer stands. `PredicateOverlay` holds contours and answers predicate by predicate; `IntRelate` answers by one call, and redraws
-//! nothing where the boxes of subject and clip share no point.
+//! What is held is redrawn and swept as for an overlay, but nothing is walked: a visitor of the sweep (`predicate`) is told the fills of
+//! the segments, and ends as soon as the answer stands. `PredicateOverlay` holds contours and answers predicate by predicate; `IntRelate`
+//! answers by one call, and redraws nothing where the boxes of subject and clip share no point.
 
 ghost use Rattle.polygon_overlay.specs.Builders.{IsHeld};
 

@@ -1,4 +1,4 @@
-//! Simplification by one call.
+//! Simplification by one call: a builder is made and asked, with its time.
 
 ghost use Rattle.std.specs.Prelude.{All, IfOk, IfErr, map};
 ghost use Rattle.plane_base.specs.Plane.{IsWithin};

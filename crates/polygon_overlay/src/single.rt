@@ -1,4 +1,4 @@
-//! Overlays by one call.
+//! Overlays by one call: a builder is made of two sources and asked, with its time.
 
 ghost use Rattle.std.specs.Prelude.{◌≡◌, All, IfOk, IfErr, false, map};
 ghost use Rattle.plane_base.specs.Plane.{IsWithin};

@@ -1,13 +1,13 @@
-//! Sizing: regions of horizontal and vertical edges, grown or shrunk by whole distances.
+//! Sizing: regions of horizontal and vertical edges, grown or shrunk by whole distances; in the words of textbooks dilation and erosion by a box.
 //!
 //! The sides of a region move outward, each kind by an amount of its own, and inward where the amount is below 0: first in x, and then in y. What is
-//! answered for the contours is the region. Of it each vertical step is moved, those that run up to the right and those that run down to the
-//! left, and the way from one to the next is horizontal. These contours wind more often than 0 round just the region that is sized in x: `Positive`, for
+//! answered for the contours is the region. Of it each vertical step is moved, those that run up to the right and those that run down to the left,
+//! and the way from one to the next is horizontal. These contours wind more often than 0 round just the region that is sized in x: `Positive`, for
 //! where it shrinks they also wind the other way. What is answered for them is sized in y alike.
 //!
-//! What is shrunk by as much as it is wide is gone, and gaps and holes that are grown over are filled. No contours, and contours that fill nothing,
-//! are answered by no shapes. Both at once would leave a hole that turned round twice, so there are three overlays: each of as many edges as the
-//! answer before it has.
+//! Degenerate cases: what is shrunk by as much as it is wide is gone, and gaps and holes that are grown over are filled. No contours, and contours
+//! that fill nothing, are answered by no shapes. Both at once would leave a hole that turned round twice, so there are three overlays: each of as
+//! many edges as the answer before it has.
 
 ghost use Rattle.std.specs.Prelude.{◌≡◌, ◌↔◌, ◌<◌, ◌+◌, ◌≤ℤ◌, ◌+ℤ◌, neg_ℤ, false, cond, IsTrue, IfOk, IfErr, OnOk, IsOkUnless};
 ghost use Rattle.std.specs.Prelude.{◌∷◌, ◌++◌, List, length, map, drop, slice_index_or, All};

@@ -1,4 +1,5 @@
-//! Queries for edges with their sides: the links of an arrangement, and its contours as the edges that they pass.
+//! Queries for edges with their sides: the links of an arrangement, in order, and its contours as the edges that they pass. Degenerate
+//! cases: after a refusal nothing is held. It takes the time of an overlay.
 
 ghost use Rattle.std.specs.Prelude.{◌≡◌, ◌<◌, ◌^◌, true, length, map, IfOk, IfErr, OnOk, OnErr};
 ghost use Rattle.plane_base.specs.Counts.{boolean};

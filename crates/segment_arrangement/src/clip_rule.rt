@@ -1,4 +1,5 @@
-//! Which lines a clip keeps.
+//! Which lines a clip keeps: a truth table over the bits of a fill, in constant time. Degenerate cases: a segment that
+//! no line runs along is never kept.
 
 ghost use Rattle.std.specs.Prelude.{◌≡◌};
 

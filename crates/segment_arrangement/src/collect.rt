@@ -1,4 +1,5 @@
-//! The handler that makes a graph's links.
+//! The handler that makes a graph's links: a visitor of the sweep, which keeps each segment whose fill passes a filter, in
+//! constant time. Room for all links is made beforehand.
 
 ghost use Rattle.std.specs.Prelude.{◌≡◌, ◌<◌, ◌^◌, true, length, map, IfOk, IfErr};
 ghost use Rattle.std.specs.declared.ops.ControlFlow.TheVariants.{Continue};

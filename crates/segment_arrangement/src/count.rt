@@ -1,4 +1,5 @@
-//! Kinds of counts whose segments can be swept.
+//! Kinds of counts whose segments can be swept: what a count adds from the lower side of a segment to the upper one, and which fill
+//! is told. Degenerate cases: what a string's lines count adds nothing. Each call takes constant time.
 
 ghost use Rattle.std.specs.Prelude.{◌≡◌, ℕ};
 ghost use Rattle.plane_base.specs.Counts.{Count, boolean};

@@ -1,4 +1,4 @@
-//! Depths: how often a point is wound round at least where `AtLeast` fills it.
+//! Depths: how often a point is wound round at least where `AtLeast` fills it. Degenerate cases: below 1 there is none.
 
 ghost use Rattle.std.specs.Prelude.{◌≡◌, ◌≤ℤ◌, ◌<ℤ◌, pos, MatchOption};
 

@@ -3,6 +3,7 @@
 //! A number has the end's point highest, then whether the link starts or ends there, then the link's place. So in ascending order
 //! the ends stand as nodes need them: by rising points, at one point what starts there before what ends there, then by rising
 //! place. Numbers of 64 bits have room for coordinates of 20 bits and 2^23 links, those of 128 bits for 41 bits and 2^31 links.
+//! Each is made and read in constant time.
 
 ghost use Rattle.std.specs.Prelude.{◌≡◌, ◌↔◌, ℕ, ◌<◌, ◌≤◌, ◌^◌, pos, negsuc, IsTrue};
 ghost use Rattle.std.specs.Ordering.{nat_cmp};

@@ -1,4 +1,7 @@
-//! The segments of a list that start at one point.
+//! The segments of a list that start at one point, and their sides: they are sorted by angle (`fan`), and what lies
+//! below the point is summed upward (`fan_sides`).
+//!
+//! Degenerate cases: a segment that starts alone needs no sort. It takes n log n time for n that start there.
 
 ghost use Rattle.std.specs.Prelude.{◌≡◌, ◌≢◌, ℕ, ◌<◌, ◌≤◌, ◌⊎◌, List, false, length, slice_index_or, filter, All, OnOk, IfErr};
 ghost use Rattle.plane_base.specs.Segments.{IsEdgeWithin};

@@ -1,4 +1,5 @@
-//! The sides of the segments that start at one point, from the lowest to the highest.
+//! The sides of the segments that start at one point, by prefix sums from the lowest to the highest: what lies above
+//! one lies below the next. Degenerate cases: a sum that leaves the range of counts is refused. It takes linear time.
 
 ghost use Rattle.std.specs.Prelude.{◌≡◌, ℕ, ◌<◌, true, false, length, map, slice_index_or, All, IfOk, OnOk, IfErr};
 ghost use Rattle.plane_base.specs.Counts.{Count as Windings, boolean};

@@ -1,6 +1,7 @@
-//! The fill of a segment: which of its sides subject and clip fill.
+//! The fill of a segment: which of its sides subject and clip fill, a bit for each.
 //!
-//! The top of a vertical segment is its left side, the bottom its right side.
+//! Degenerate cases: the top of a vertical segment is its left side, the bottom its right side. Each call takes
+//! constant time.
 
 ghost use Rattle.std.specs.Prelude.{◌≡◌, ◌≤◌, ◌+◌, ◌*◌, ◌∷◌, []};
 ghost use Rattle.segment_arrangement.specs.EdgeSides.{bit, fill_bits};

@@ -1,4 +1,4 @@
-//! Which windings are filled.
+//! Which windings are filled: a test of one number, in constant time. Degenerate cases: no rule fills a winding of 0.
 
 ghost use Rattle.std.specs.Prelude.{◌≡◌, ◌↔◌, ◌≤ℤ◌, IsTrue, Some};
 ghost use Rattle.plane_base.specs.Regions.{is_filled};

@@ -1,4 +1,5 @@
-//! Which segments bound the region of an overlay rule, and which of them a clip keeps, by their fills.
+//! Which segments bound the region of an overlay rule, and which of them a clip keeps: truth tables over their fills,
+//! in constant time. Degenerate cases: with the region on both sides, or on neither, a segment bounds nothing.
 
 ghost use Rattle.std.specs.Prelude.{◌≡◌, ℕ, Bool, true, false};
 ghost use Rattle.plane_base.specs.Regions.{Subject, Clip, Intersect, Union, Difference, InverseDifference, Xor};

@@ -1,4 +1,5 @@
-//! The graph of an arrangement: links, the nodes at which they meet, and how far walks have come.
+//! The graph of an arrangement: links, the nodes at which they meet, and the states that tell how far walks have come. States
+//! and `validate` take one pass over links, or nodes.
 
 ghost use Rattle.std.specs.Prelude.{◌≡◌, ◌≤◌, ◌↔◌, ⊤, true, [], length, map, All, IsTrue, OnOk, OnErr, IsOkUnless};
 ghost use Rattle.plane_base.specs.Segments.{IsEdgeWithin};

@@ -1,4 +1,4 @@
-//! Handlers: who is told the fills of segments, one after the other, by a sweep, and may break off.
+//! Handlers, the visitors of a sweep: who is told the fills of segments, one after the other, and may break off.
 
 ghost use Rattle.std.specs.Prelude.{◌≡◌, ℕ, MatchResult};
 ghost use Rattle.std.specs.declared.ops.ControlFlow.{ControlFlow};

@@ -1,4 +1,4 @@
-//! The links of a graph.
+//! The links of a graph: its edges, with the numbers of the nodes at their ends.
 
 use crate::fill::SegmentFill;
 use plane_base::segment::IdPoint;

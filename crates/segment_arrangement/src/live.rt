@@ -1,4 +1,8 @@
-//! The live segments of a sweep: what lies below a point, and one more of them.
+//! The status of the plane sweep, the live segments of any collection of expiring keys: what lies below a point, by one search
+//! for the last that passes below it, and one more of them.
+//!
+//! Degenerate cases: where none passes below, nothing winds there; a vertical segment never lives. Each call is one of the
+//! collection's, with its cost.
 
 ghost use Rattle.std.specs.Prelude.{◌≡◌, ◌+◌, ◌<◌, ◌^◌, List, length, take, slice_index_or, Contains, IfOk, OnOk, IfErr};
 ghost use Rattle.i_tree.specs.LiveList.{live_at, IsNotBefore, IsAdvanced};

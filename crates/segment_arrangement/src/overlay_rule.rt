@@ -1,4 +1,5 @@
-//! Which points an overlay of subject and clip keeps.
+//! Which points an overlay of subject and clip keeps: truth tables of seven rules, in constant time. Degenerate cases:
+//! what neither fills no rule keeps.
 
 ghost use Rattle.std.specs.Prelude.{◌≡◌, Some};
 ghost use Rattle.plane_base.specs.Regions.{holds};

@@ -1,4 +1,8 @@
-//! Counts: how often contours run along a segment.
+//! Counts: how often contours run along a segment, less how often back; for subject and clip, or for a subject and a mask
+//! of the ways in which lines run.
+//!
+//! Degenerate cases: a sum that leaves its range is refused with `Count`; 0 throughout is empty. Each call takes constant
+//! time.
 
 ghost use Rattle.std.specs.Prelude.{◌≡◌, ℤ, ◌+ℤ◌, neg_ℤ, pos, ◌≤ℤ◌, ◌<◌, Bool, true, false, refl, MatchResult};
 ghost use Rattle.std.proofs.Common.{rules};

@@ -1,4 +1,6 @@
-//! What else belongs to a segment, and how it is carried on where segments are turned, cut and joined.
+//! What else belongs to a segment, and how it is carried on where segments are turned, cut and joined: by the type of the
+//! data, with a store of its own. Degenerate cases: data that tell nothing, as `()`, say so (`is_bare`). The type decides
+//! what a call costs.
 
 ghost use Rattle.std.specs.Prelude.{◌≡◌, ◌⊎◌, Bool, true, false, IsOkUnless};
 ghost use Rattle.segment_split.specs.Data.{IsJoin};

@@ -1,5 +1,6 @@
 //! What every builder has: edges, the store of their data, the room of the splitter, and whether a query was refused. A contour is
 //! added whole or not at all. A refused query leaves nothing held, and then edges are refused with `Failed` until all is taken out.
+//! It takes the time of `build` and of `split`.
 
 ghost use Rattle.std.specs.Prelude.{◌≡◌, ◌↔◌, ◌<◌, ◌≤◌, ◌^◌, ◌++◌, true, [], All, IfOk, IfErr, OnOk, OnErr, IsOkUnless, length, map};
 ghost use Rattle.plane_base.specs.Counts.{lay, normal};

@@ -1,4 +1,5 @@
-//! The marks of a pass in one list: each with the number of its segment and its place along it.
+//! The marks of a pass in one list: each with the number of its segment and its place along it, as one number. So marks are
+//! ordered by segment, and along it. A mark is laid in amortised constant time.
 
 ghost use Rattle.std.specs.Prelude.{◌≡◌, ◌++◌, ◌+ℤ◌, ◌*ℤ◌, neg_ℤ, cond, ◌∷◌, [], All, OnOk, IsOkUnless};
 ghost use Rattle.plane_base.specs.Plane.{IsWithin, IsCoordinate};

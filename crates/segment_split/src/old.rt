@@ -2,7 +2,8 @@
 //! a piece of another joins it; every other is new. Two old ones are parted, so no later pass looks at both.
 //!
 //! It isn't enough that the pass before had a segment with the same ends: one that was cut can be laid again, whole, by the
-//! pieces of another, and needn't be parted from what cut it.
+//! pieces of another, and needn't be parted from what cut it. One number for each segment names the next new one from it on, so
+//! runs of old ones are passed over in constant time.
 
 ghost use Rattle.std.specs.Prelude.{◌≡◌, ◌≤◌, ◌<◌, ℕ, List, length, slice_index_or, OnOk, IsOkUnless};
 ghost use Rattle.plane_base.specs.Plane.{Edge};

@@ -1,4 +1,4 @@
-//! Segments with their counts and data.
+//! Segments with their counts and data, the lesser end first. They are compared by their ends alone.
 
 ghost use Rattle.std.specs.Prelude.{◌≡◌, true};
 ghost use Rattle.std.specs.Ordering.{ordering_then, is_lt};

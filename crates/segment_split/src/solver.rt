@@ -1,4 +1,5 @@
-//! How segments are cut: which road finds the pairs, and how near to an end a crossing goes to it.
+//! How segments are cut: which road finds the pairs, and how near to an end a crossing goes to it. The redrawn map depends on the
+//! precision alone, and never on the strategy.
 
 ghost use Rattle.std.specs.Prelude.{◌≡◌};
 ghost use Rattle.segment_split.specs.declared.solver.Strategy.TheVariants.{Auto};

@@ -1,7 +1,8 @@
 //! The owners of holes among given contours.
 //!
-//! The steps of contours tell the sides of their edges. An anchor that is vertical can't be sought by a sweep: where one is, and with too
-//! many edges, a ray is shot down from each anchor, in time quadratic in the edges.
+//! The steps of contours tell the sides of their edges; then one sweep finds what lies below each anchor (`below`), in n log n time.
+//! Degenerate cases: an anchor that is vertical can't be sought by a sweep: where one is, and with too many edges, a ray is shot down
+//! from each anchor, in time quadratic in the edges.
 
 ghost use Rattle.std.specs.Prelude.{◌≡◌, ◌<◌, ℕ, IfOk, IsOkUnless, IsFalse, All, int_lt, length, slice_index_or, true};
 ghost use Rattle.contour_walk.specs.ShapeViews.{walks_of, ContoursAreWithin, owned_edges_of, OwnedAreWithin, contour_below};

@@ -1,4 +1,6 @@
-//! From graphs to lists of edges with their sides.
+//! From graphs to lists of edges with their sides: the links as they stand, in linear time, or the region's contours, walked and bound as
+//! for shapes, each step with the link along it (`along`). Degenerate cases: a shape of which simplification leaves nothing is left out.
+//! Shapes take n log n time beside that of `bind`.
 
 ghost use Rattle.std.specs.Prelude.{◌≡◌, List, All, IfOk, IsOkUnless, map};
 ghost use Rattle.plane_base.specs.Counts.{Count, Entry};

@@ -1,4 +1,8 @@
-//! What every collection of expiring keys does.
+//! What every collection of expiring keys does, as the status of a plane sweep: each call names a time and answers from the live
+//! list at it.
+//!
+//! Degenerate cases: an entry that has expired is accepted and never answered; a query below which nothing lives answers its
+//! default. How many comparisons a call makes at most each collection tells by `most_comparisons`.
 ghost use Rattle.std.specs.Prelude.{◌≡◌, ℕ, ◌≤◌, ◌↔◌, List, IsTrue, IfOk, OnOk, OnErr, All};
 ghost use Rattle.std.specs.Bool.{OnTrue, OnFalse};
 ghost use Rattle.std.specs.declared.cmp.Ordering.{Ordering};

@@ -1,7 +1,8 @@
-//! The live list as it is: a sorted vector.
+//! The live list as it is: a sorted vector, by linear search.
 //!
 //! Each call first drops the expired entries and then searches from the front, so it takes time and comparisons in
-//! the number of live entries. It serves where few keys live at a time.
+//! the number of live entries. Degenerate cases: an entry that has expired isn't stored. It serves where few keys
+//! live at a time.
 ghost use Rattle.std.specs.Prelude.{◌≡◌, ◌<◌, ◌≤◌, [], All, IfOk, OnErr, OnOk, if◌then◌else◌, length};
 ghost use Rattle.std.specs.Bool.{OnTrue, OnFalse};
 ghost use Rattle.std.specs.declared.cmp.Ordering.{Ordering};

@@ -1,9 +1,9 @@
-//! The live list in a row: a sorted vector, searched by halves.
+//! The live list in a row: a sorted vector, by binary search.
 //!
-//! What has expired stays where it stands until an entry is put over it, or until there is too much of it. A search steps
-//! over it and compares with live entries alone: k + 1 times at most, where k is the greatest number with `2^k <= n` for n
-//! entries stored. A new entry moves those after it, unless it comes where one has expired. So a row serves where
-//! at most a thousand keys or so live at a time.
+//! What has expired stays where it stands until an entry is put over it, or until there is too much of it. A search steps over it
+//! and compares with live entries alone: k + 1 times at most, where k is the greatest number with `2^k <= n` for n entries
+//! stored. A new entry moves those after it, unless it comes where one has expired. So a row serves where at most a thousand keys
+//! or so live at a time.
 ghost use Rattle.std.specs.Prelude.{◌≡◌, ◌≢◌, ◌-◌, ◌+◌, ◌<◌, ◌≤◌, ◌^◌, true, length, drop, slice_index_or, All, IfOk, IfErr, OnErr, Some, None, Ok, Err};
 ghost use Rattle.std.specs.Bool.{OnTrue, OnFalse};
 ghost use Rattle.std.specs.Ordering.{ordering_then};

@@ -1,6 +1,7 @@
-//! The search in a tree of expiring keys, which drops what has expired on its way down.
+//! The binary search in a tree of expiring keys, which removes on its way down each expired node that it comes to.
 //!
-//! A search compares with live entries alone, since the keys' order need not be lawful among those that have expired.
+//! It compares with live entries alone, since the keys' order need not be lawful among those that have expired: once
+//! for each live node on its way. A removal takes at most a step for each level.
 ghost use Rattle.std.specs.Prelude.{◌≡◌, ℕ, ◌<◌, List, length, All, Some, slice_get, not};
 ghost use Rattle.std.specs.declared.cmp.Ordering.{Ordering};
 ghost use Rattle.i_tree.specs.LiveList.{is_live, live_at};

@@ -1,7 +1,8 @@
 //! The live list behind a red-black tree.
 //!
-//! Each call goes down the tree once, and drops what has expired on its way. It makes at most 2k comparisons, where k
-//! is the greatest number with `2^k <= n + 1` for n entries stored.
+//! Each call goes down the tree once by binary search, and removes what has expired on its way. It makes at most 2k
+//! comparisons, where k is the greatest number with `2^k <= n + 1` for n entries stored. Degenerate cases: an entry
+//! that has expired is stored and never answered. Each entry is removed once, in at most a step for each level.
 ghost use Rattle.std.specs.Prelude.{◌≡◌, [], All, IfOk, OnErr, OnOk};
 ghost use Rattle.std.specs.Bool.{OnTrue, OnFalse};
 ghost use Rattle.std.specs.Ordering.{ordering_then};

@@ -1,4 +1,5 @@
-//! An insertion, as the pool of a bucket tree keeps it.
+//! An insertion, as the pool of a bucket tree keeps it: a value, its buckets, and the nodes that name its
+//! place.
 ghost use Rattle.std.specs.Prelude.{◌≤◌};
 
 use std::alloc::AllocError;

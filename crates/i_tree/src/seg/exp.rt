@@ -1,4 +1,5 @@
-//! What every collection of expiring ranges does.
+//! What every collection of expiring ranges does: a query answers the live insertions that share a bucket with its
+//! range, each once and in any order. Degenerate cases: what shares a bucket may lie less than a bucket's width away.
 ghost use Rattle.std.specs.Prelude.{◌≡◌, ◌↔◌, IsTrue, OnOk, OnErr, IfOk, IsPermutation};
 ghost use Rattle.i_tree.specs.Layout.{bucket_of, IsAccepted};
 ghost use Rattle.i_tree.specs.Bag.{Bag, empty_bag, values_met, IsInTime, BagHasRoom, IsAdded, IsPassed};

@@ -1,4 +1,6 @@
-//! The lists of a bucket tree's nodes.
+//! The lists of a bucket tree's nodes: for each of the 63 nodes the places in the pool of what is inserted
+//! there. Room is made at all nodes of a mask before any of them is written. Each call goes once over the
+//! nodes.
 ghost use Rattle.std.specs.Prelude.{◌≡◌, ◌<◌, ℕ, [], ◌∷◌, ◌++◌, map, length, IfOk, OnOk, if◌then◌else◌};
 ghost use Rattle.i_tree.specs.Ranges.Nodes.{list_at, has_node, HaveRoom};
 

@@ -1,4 +1,5 @@
-//! The set as it is: a sorted vector. An index is a position.
+//! The set as it is: a sorted vector, by linear search. An index is a position, so an insertion or a deletion
+//! changes the indexes behind it.
 //!
 //! A search goes from the front, so it takes time and comparisons in the number of values.
 ghost use Rattle.std.specs.Prelude.{◌≡◌, ◌≤◌, ◌<◌, ◌+◌, ◌-◌, ◌^◌, length, min, vec_len, vec_capacity, IfOk, IfErr, OnOk, OnErr};

@@ -1,4 +1,7 @@
-//! What every set of indexed values does.
+//! What every set of indexed values does: values with distinct keys, sorted by these, each known by an index.
+//!
+//! Degenerate cases: where no value comes before, the index is `EMPTY_REF`. How many comparisons a call makes at most
+//! each set tells by `most_comparisons`.
 ghost use Rattle.std.specs.Prelude.{◌≡◌, ℕ, ◌≤◌, ◌↔◌, IsTrue, ◌+◌, OnOk, OnErr, IfErr, Contains, length};
 ghost use Rattle.std.specs.Fn.{FnReturnsAt};
 ghost use Rattle.std.specs.declared.cmp.Ordering.{Ordering};

@@ -1,6 +1,7 @@
-//! The set as a red-black tree of nodes in a pool. An index names a node.
+//! The set as a red-black tree of nodes in a pool, by binary search. An index names a node.
 //!
-//! A search or an insertion makes comparisons in the height of the tree.
+//! Degenerate cases: of an empty set, and below the first value, a search answers `EMPTY_REF`. A search or an
+//! insertion makes at most 2k comparisons, where k is the greatest number with `2^k <= n + 1` for n values.
 ghost use Rattle.std.specs.Prelude.{◌≡◌, ℕ, ◌+◌, length, All, Some, IsSome, OnOk, OnErr, IfOk, IfErr};
 ghost use Rattle.std.specs.Borrow.{sem, Lends};
 ghost use Rattle.std.specs.Fn.{FnReturnsAt};

@@ -1,4 +1,6 @@
-//! The places of a red-black tree, and new nodes there.
+//! The places of a red-black tree, and new nodes there: a leaf is attached, and the tree rebalanced
+//! (`insertion`). Degenerate cases: the root of an empty tree is a vacant place. A step down takes constant
+//! time, an insertion at most a step for each level.
 ghost use Rattle.std.specs.Prelude.{◌≡◌, ◌≢◌, ◌<◌, ℕ, List, [], Bool, IfOk, IfErr, OnErr, length};
 ghost use Rattle.i_tree.specs.Tree.Shape.{Context, Tree, plug};
 ghost use Rattle.i_tree.specs.Tree.Pool.{Nodes, places, root_of, parent_of, IsOnSide, Stands};

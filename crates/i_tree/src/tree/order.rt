@@ -1,4 +1,6 @@
-//! The node before a node: its in-order predecessor.
+//! The node before a node, its in-order predecessor: the rightmost on its left, else the first upward on whose
+//! right it lies. Degenerate cases: before the first node there is none. It takes a step for each level at
+//! most.
 ghost use Rattle.std.specs.Prelude.{◌≡◌, ◌++◌};
 ghost use Rattle.i_tree.specs.Tree.Shape.{names, names_before};
 ghost use Rattle.i_tree.specs.Tree.Pool.{Focus};

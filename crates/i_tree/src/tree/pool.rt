@@ -1,10 +1,12 @@
 //! The nodes of a red-black tree, in a vector. A node's name is its place.
 //!
 //! `links` alone reads a node's words, and `put` and `add_place` alone write them; all that changes a tree stands on these
-//! three, on the root and on the list of the spare places.
+//! three, on the root and on the list of the spare places. In the words of textbooks `lift` is a rotation; `adopt` and
+//! `hang` relink a subtree with its parent, upward and downward; `attach` links a new leaf; `cut` splices a node out; the
+//! list of spare places is a free list.
 //!
-//! In the words of textbooks `lift` is a rotation; `adopt` and `hang` relink a subtree with its parent, upward and downward;
-//! `attach` links a new leaf; `cut` splices a node out; the list of spare places is a free list.
+//! Degenerate cases: a node without a parent is the root. Each call takes constant time, but for `clear` and for making
+//! room.
 ghost use Rattle.std.specs.Prelude.{◌≡◌, ◌≢◌, ℕ, ◌+◌, ◌<◌, ◌≤◌, List, ◌∷◌, Bool, [], ◌++◌, IfOk, IfErr, OnOk, OnErr, IsTrue, ◌↔◌, Some, slice_get, length};
 ghost use Rattle.i_tree.specs.Tree.Entries.{no_entries, with_entry, IsSwapped, IsEntered};
 ghost use Rattle.i_tree.specs.Tree.Shape.{Tree, Context, join, plug, count, count_around, redness, root_redness};

@@ -1,5 +1,5 @@
 //! What a pair of segments lays on each of the two: one mark at most, and where both run on one line up to two, in order along
-//! the segment.
+//! the segment. Degenerate cases: a segment's own end doesn't mark it. It takes constant time.
 
 ghost use Rattle.std.specs.Prelude.{◌≡◌, [], ◌∷◌, IfSome, All, true, false};
 ghost use Rattle.plane_base.specs.Plane.{Point, IsWithin};

@@ -1,4 +1,8 @@
-//! On which side of one segment the ends of another lie, and what that tells of the pair.
+//! On which side of one segment the ends of another lie, by two turns (signs of cross products), and what that
+//! tells of the pair.
+//!
+//! Degenerate cases: an end on the other's line lies on neither side; it tells a pair apart only where both begin,
+//! or both end, there. It takes constant time.
 
 ghost use Rattle.std.specs.Prelude.{◌≡◌, ◌&&◌, IsTrue, pos, true, int_lt};
 ghost use Rattle.std.specs.Ordering.{int_eq};

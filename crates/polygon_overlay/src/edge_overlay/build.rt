@@ -1,4 +1,5 @@
-//! Calls that make a builder of edges, that add to it, and that read it.
+//! Calls that make a builder of edges, that add to it, and that read it. Degenerate cases: an edge whose ends are equal adds nothing. An
+//! edge is added in amortised constant time.
 
 ghost use Rattle.std.specs.Prelude.{◌≡◌, ◌≢◌, ◌⊎◌, ◌↔◌, ◌≤◌, ◌+◌, ◌/◌, ◌++◌, true, false, All, length, map, IsTrue, IfErr, OnOk, OnErr};
 ghost use Rattle.std.specs.Iterator.{IsFinite, Drains, HoldsAlong};

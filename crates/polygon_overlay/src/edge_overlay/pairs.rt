@@ -1,4 +1,4 @@
-//! The ends of the edges that are held, one edge after another.
+//! The ends of the edges that are held, one edge after another: an iterator that takes no memory.
 
 ghost use Rattle.std.specs.Prelude.{List};
 ghost use Rattle.plane_base.specs.Plane.{Point};

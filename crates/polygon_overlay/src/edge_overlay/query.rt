@@ -1,4 +1,4 @@
-//! Calls that answer edges with their sides and data.
+//! Calls that answer edges with their sides and data, in the time of an overlay.
 //!
 //! After an answer the redrawn edges are held, with their data. After a refusal nothing is held, and the builder answers `Failed` for good.
 

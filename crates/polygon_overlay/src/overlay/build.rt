@@ -1,4 +1,5 @@
-//! Calls that make a builder, that add to it, and that take all out.
+//! Calls that make a builder, that add to it, and that take all out. A contour is added whole or not at all; one that is thinned away
+//! adds nothing. They take linear time.
 
 ghost use Rattle.std.specs.Prelude.{◌≡◌, List, All};
 ghost use Rattle.std.specs.Iterator.{IsFinite, Drains};

@@ -1,4 +1,5 @@
-//! Calls that lay contours flat.
+//! The call that lays contours flat. Degenerate cases: after a refusal the buffer is empty. It takes the time of an overlay without
+//! binding holes.
 
 ghost use Rattle.std.specs.Prelude.{OnOk, IsSome};
 ghost use Rattle.segment_arrangement.specs.RuleViews.{fill_rule_of, overlay_rule_of};

@@ -1,4 +1,5 @@
-//! Calls that lend graphs.
+//! Calls that lend graphs: one makes the graph, another lends it, so a refusal can empty what is held. Degenerate cases: where no
+//! edge is left there is no graph. It takes the time of redrawing and of the sweep.
 
 ghost use Rattle.std.specs.Prelude.{◌≡◌, ◌↔◌, [], map, IsTrue, IfOk, OnOk};
 ghost use Rattle.segment_arrangement.specs.Graphs.{all_links};

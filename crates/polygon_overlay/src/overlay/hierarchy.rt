@@ -1,4 +1,4 @@
-//! The call that answers a hierarchy.
+//! The call that answers a hierarchy (`hierarchies`).
 
 ghost use Rattle.std.specs.Prelude.{IfOk, OnOk, IsSome};
 ghost use Rattle.segment_arrangement.specs.RuleViews.{fill_rule_of, overlay_rule_of};

@@ -1,4 +1,4 @@
-//! Calls that answer shapes.
+//! The call that answers shapes: `query`, with the builder's options and solver.
 
 ghost use Rattle.std.specs.Prelude.{IfOk, OnOk, IsSome};
 ghost use Rattle.segment_arrangement.specs.RuleViews.{fill_rule_of, overlay_rule_of};

@@ -1,4 +1,7 @@
-//! Calls that simplify contours: a perfect one is answered as it runs, all others by an overlay of the subject alone.
+//! Calls that simplify contours: a perfect one is answered as it runs (`perfect`), all others by an overlay of the subject alone.
+//!
+//! Degenerate cases: a perfect contour whose inside the rule doesn't fill goes. Such a contour takes n log n time and the pairs of one
+//! pass, any other an overlay.
 
 ghost use Rattle.std.specs.Prelude.{◌≡◌, ◌↔◌, ◌<◌, true, List, [], ◌∷◌, length, All, IsTrue, IfOk, IfErr, OnOk, OnErr, IsSome};
 ghost use Rattle.plane_base.specs.Plane.{IsWithin};

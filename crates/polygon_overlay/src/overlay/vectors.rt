@@ -1,4 +1,4 @@
-//! Calls that answer edges with the sides that are filled beside them.
+//! Calls that answer edges with the sides that are filled beside them: `vectors`, in the time of an overlay.
 
 ghost use Rattle.std.specs.Prelude.{◌≡◌, true, map, IfOk, IfErr, OnOk, OnErr, IsSome};
 ghost use Rattle.segment_split.specs.Holdings.{holding, failed};

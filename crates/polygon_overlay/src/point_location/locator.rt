@@ -1,4 +1,5 @@
-//! Shapes that are kept under boxes, to be asked for points from query to query.
+//! Shapes that are kept under boxes, to be asked for points from query to query. A locator is made in n log n time; a point takes no memory, and a
+//! step for each stretch that isn't passed: at most as many as there are edges.
 
 ghost use Rattle.std.specs.Prelude.{◌≡◌, All, IfOk, IsOkUnless};
 ghost use Rattle.plane_base.specs.Plane.{IsWithin};

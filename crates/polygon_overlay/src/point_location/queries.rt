@@ -1,5 +1,8 @@
-//! Points that are asked for, sorted by x. Each edge turns the parity of the points that it passes below. A shape looks at the points in its
-//! columns alone.
+//! Points that are asked for, sorted by x, and located by ray casting: each edge turns the parity of the points that it passes below. A
+//! shape looks at the points in its columns alone.
+//!
+//! Degenerate cases: an edge has the column where it begins and not that where it ends, a vertical one none. The sort takes p log p for p
+//! points, an edge two binary searches and a step for each point in its columns.
 
 ghost use Rattle.std.specs.Prelude.{◌≡◌, ◌≤◌, ◌<◌, ◌≤ℤ◌, ◌<ℤ◌, Bool, false, [], ◌∷◌, IfOk, IsOkUnless, IsPermutation, All, length, map, slice_index_or};
 ghost use Rattle.plane_base.specs.Plane.{IsWithin, RationalPoint};

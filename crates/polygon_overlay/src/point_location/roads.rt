@@ -1,4 +1,5 @@
-//! Points located by one of two roads: by stretches under boxes, or by columns where boxes tell little and where there are few edges.
+//! Points located by one of two roads: by stretches under boxes, or by columns where boxes tell little (`sample`) and below 64 edges.
+//! Both answer the same; each takes its own time.
 
 ghost use Rattle.std.specs.Prelude.{◌≡◌, All, IfOk, IsOkUnless, map};
 ghost use Rattle.std.specs.List.{AllZip};

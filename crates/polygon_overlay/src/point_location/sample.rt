@@ -1,8 +1,8 @@
 //! Whether boxes tell little: then points are located by columns.
 //!
 //! Where boxes lie over each other, as those of contours that lie in one another or of long edges that run aslant, a point looks at as
-//! many stretches as there are edges. A few points, spread over those that are asked for, are tried: where they look at more than half
-//! as many stretches together as there are edges, boxes tell little. What is told is of speed alone.
+//! many stretches as there are edges. About eight points, spread over those that are asked for, are tried: where they look at more
+//! than half as many stretches together as there are edges, boxes tell little. What is told is of speed alone.
 
 ghost use Rattle.std.specs.Prelude.{◌≤◌};
 

@@ -3,8 +3,8 @@
 //! has the number of the first of its parts.
 //!
 //! So a list is read from its end: from a stretch the way leads to its last part, which stands right before it, or past it to what stands before
-//! its parts. The list is made from left to right as a binary counter counts: behind a new stretch those that are equally long are joined.
-//! Nothing is sorted, and n items have n / 4 stretches.
+//! its parts. The list is made from left to right as a binary counter counts: behind a new stretch those that are equally long are joined. Nothing
+//! is sorted: n items have n / 4 stretches, made in linear time.
 
 ghost use Rattle.std.specs.Prelude.{◌≡◌, ◌≤◌, ◌<◌, ◌*◌, true, length, int_lt, OnOk, IsOkUnless};
 ghost use Rattle.plane_base.specs.Views.{point_of};

@@ -1,4 +1,4 @@
-//! Queries whose contours are laid flat.
+//! Queries whose contours are laid flat: the stages of `query`, without binding holes.
 
 ghost use Rattle.std.specs.Prelude.{◌≡◌, ◌<◌, ◌^◌, List, length, IfErr, OnOk, OnErr};
 ghost use Rattle.plane_base.specs.Counts.{Count, Entry};

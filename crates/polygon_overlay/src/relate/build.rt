@@ -1,4 +1,4 @@
-//! Calls that make a builder, that add to it, and that take all out.
+//! Calls that make a builder, that add to it, and that take all out. Each contour is thinned. They take linear time.
 
 ghost use Rattle.std.specs.Prelude.{◌≡◌, List, All};
 ghost use Rattle.std.specs.Iterator.{IsFinite, Drains};

@@ -1,4 +1,4 @@
-//! The five predicates of a builder.
+//! The five predicates of a builder, and all relations at once, each by one sweep.
 //!
 //! After a predicate the redrawn segments are held. After a refusal nothing is held, and the builder answers `Failed` until it is cleared.
 

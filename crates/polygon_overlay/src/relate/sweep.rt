@@ -1,4 +1,5 @@
-//! The sweep that tells a handler the fills of what is held.
+//! The sweep that tells a handler the fills of what is held, once that is redrawn. It takes the time of both, but for what the
+//! handler breaks off.
 
 ghost use Rattle.std.specs.Prelude.{◌≡◌, IfOk, IfErr, OnOk, OnErr};
 ghost use Rattle.segment_split.specs.Holdings.{holding, failed};

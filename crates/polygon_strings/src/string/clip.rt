@@ -1,4 +1,4 @@
-//! Clips of lines and paths by one call.
+//! Clips of lines and paths by one call: a builder is made, filled and asked. It takes the time of these.
 
 ghost use Rattle.std.specs.Prelude.{◌∷◌, [], All, IfOk, IfErr, map};
 ghost use Rattle.plane_base.specs.GivenViews.{contours_of};

@@ -1,4 +1,5 @@
-//! From graphs of strings to shapes.
+//! From graphs of strings to shapes: slice walks along half-edges (`slice_walk`), cut into loops and bound (`pieces`). Degenerate cases: where
+//! nothing is filled there are no pieces. It takes the time of the two.
 
 ghost use Rattle.std.specs.Prelude.{◌≡◌, false, List, All, IfOk, IsOkUnless};
 ghost use Rattle.plane_base.specs.Plane.{IsWithin};

@@ -1,4 +1,5 @@
-//! A query: what is held is redrawn and swept.
+//! A query: what is held is redrawn, and its subject swept; a graph is made of all edges, or of those that a clip keeps. Degenerate
+//! cases: after a refusal nothing is held. It takes the time of redrawing and of the sweep.
 
 ghost use Rattle.std.specs.Prelude.{◌≡◌, ◌↔◌, [], All, map, IsTrue, IfOk, IfErr, OnOk, OnErr};
 ghost use Rattle.plane_base.specs.GivenViews.{contours_of};

@@ -1,4 +1,5 @@
-//! Slices of polygons by one call.
+//! Slices of polygons by one call: a builder is made of shape and strings, asked for the graph, and its pieces are extracted. It
+//! takes the time of these.
 
 ghost use Rattle.std.specs.Prelude.{◌∷◌, [], false, All, IfOk, IfErr, map};
 ghost use Rattle.plane_base.specs.GivenViews.{contours_of};

@@ -1,4 +1,6 @@
-//! Graphs of string maps.
+//! Graphs of string maps: links and nodes as in other graphs (`builder`), by a sweep of the subject alone, each node as the list
+//! of its links' places. Degenerate cases: where no link is kept, and after a refusal, the graph is empty. It takes the time of
+//! the sweep, and n log n for nodes.
 
 ghost use Rattle.std.specs.Prelude.{◌≡◌, ◌<◌, ◌^◌, [], length, map, OnOk, OnErr, IfOk, IfErr};
 ghost use Rattle.segment_split.specs.SegmentViews.{entries_of, AreWithin};

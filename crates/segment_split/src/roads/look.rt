@@ -1,4 +1,4 @@
-//! The one look at two segments of a pass. Each is counted.
+//! The one look at two segments of a pass: the test of the pair (`plane_base::meet`), which is counted. It takes constant time.
 
 ghost use Rattle.std.specs.Prelude.{◌≡◌, ◌+◌, ◌<◌, length, IfOk, IsOkUnless};
 ghost use Rattle.plane_base.specs.Plane.{Edge};

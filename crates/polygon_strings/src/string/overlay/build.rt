@@ -1,4 +1,4 @@
-//! Calls that make a builder, and that add contours of shapes.
+//! Calls that make a builder, and that add contours of shapes, thinned, in linear time.
 
 ghost use Rattle.std.specs.Prelude.{◌≡◌, List, All, map};
 ghost use Rattle.std.specs.Iterator.{IsFinite, Drains};

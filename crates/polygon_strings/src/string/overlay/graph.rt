@@ -1,4 +1,5 @@
-//! Calls that lend graphs.
+//! Calls that lend graphs: one makes the graph and another lends it, so a refusal leaves nothing held. Degenerate cases: where no edge is left
+//! there is no graph. It takes the time of redrawing and of the sweep.
 
 ghost use Rattle.std.specs.Prelude.{◌≡◌, ◌↔◌, [], map, IsTrue, IfOk, OnOk};
 ghost use Rattle.segment_arrangement.specs.LentGraphs.{string_links_kept_by};

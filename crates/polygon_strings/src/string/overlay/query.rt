@@ -1,4 +1,5 @@
-//! Calls that clip.
+//! Calls that clip: what is held is redrawn and swept, and paths are walked along what the clip rule keeps (`clip_walk`). It takes the time of
+//! the three.
 
 ghost use Rattle.std.specs.Prelude.{All, IfOk};
 ghost use Rattle.plane_base.specs.GivenViews.{contours_of};

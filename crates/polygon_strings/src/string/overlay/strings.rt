@@ -1,4 +1,5 @@
-//! Calls that add strings.
+//! Calls that add strings: lines, open paths and closed contours, with all their points. Degenerate cases: equal points add no step. They
+//! take linear time.
 
 ghost use Rattle.std.specs.Prelude.{◌≡◌, ◌∷◌, [], All, map};
 ghost use Rattle.plane_base.specs.Given.{closed};

@@ -1,4 +1,8 @@
-//! The segments that were passed, in trees of buckets of y.
+//! The segments that were passed, in segment trees over 32 buckets of y (`i_tree::seg`), in which each expires at its
+//! greatest x.
+//!
+//! Degenerate cases: where all y span less than 31 there are no trees. An insertion takes a step for each of 63 nodes, a
+//! question that and a step for each segment that stands there.
 
 ghost use Rattle.std.specs.Prelude.{◌≡◌, pos, negsuc, true, false, map, fold, IsPermutation, OnOk, IfOk, IfNone, IfSome, IsOkUnless};
 ghost use Rattle.std.specs.Int.{int_min, int_max};

@@ -1,4 +1,5 @@
 //! How far new segments extend in rows. An old segment is looked for only in rows where it shares an x with what extends there.
+//! Degenerate cases: nothing is near to a row that no new segment reaches. It takes a step for each row that a segment reaches.
 
 ghost use Rattle.std.specs.Prelude.{◌≡◌, ◌<◌, ◌≤◌, ◌^◌, ◌≤ℤ◌, true, ℕ, ℤ, length, IfOk, OnOk, IsOkUnless, IsFalse};
 ghost use Rattle.segment_split.specs.Passes.{edges_of};

@@ -1,5 +1,7 @@
 //! Whether horizontal and vertical segments are to be expected to cross often: told by how much length of each kind lies in the cells of a grid.
 //! No two segments are taken together, and nothing but time hangs on it.
+//!
+//! It takes a step for each cell that a segment reaches; from 4,096 segments on one in five is taken.
 
 ghost use Rattle.std.specs.Prelude.{◌<◌, IsOkUnless};
 
