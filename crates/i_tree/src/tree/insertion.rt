@@ -1,8 +1,8 @@
-//! Mending a red-black tree after an insertion: at most a step for each level, and two rotations.
+//! The fix-up of a red-black tree after an insertion: red nodes under red ones are recoloured upward, or parted by
+//! a single or a double rotation. In the words of textbooks `redden` is the colour flip below a red uncle's
+//! parent, `straighten` the first rotation of a double one.
 //!
-//! In the words of textbooks `mend_insertion` is the rebalancing, or fix-up, after an insertion; `redden` is the
-//! colour flip below a red uncle's parent; `straighten` is the first rotation of a double rotation, and the `lift`
-//! after it the second.
+//! Degenerate cases: a red root is painted black. It takes at most a step for each level, and two rotations.
 ghost use Rattle.std.specs.Prelude.{◌≡◌, ℕ, ◌<◌, List, Bool};
 ghost use Rattle.i_tree.specs.Tree.Shape.{Context};
 ghost use Rattle.i_tree.specs.Tree.Pool.{Nodes, Stands};

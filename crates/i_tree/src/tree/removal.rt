@@ -1,8 +1,9 @@
-//! Mending a red-black tree where a black node was taken out: at most a step for each level, and three rotations.
+//! The deletion from a red-black tree, by way of the in-order successor where a node has two children, and its fix-up.
+//! In the words of textbooks `take_out` splices out a node with one child at most, and a lack is the double black of
+//! the place that the fix-up (`mend_removal`) is at.
 //!
-//! In the words of textbooks `remove` is the deletion, by way of the in-order successor where a node has two children;
-//! `take_out` splices out a node with one child at most; `mend_removal` is the rebalancing, or fix-up, after a
-//! deletion, and a lack is the extra black of the place that the fix-up is at.
+//! Degenerate cases: a red node leaves no lack, and a red only child is painted black. It takes at most a step for
+//! each level, and three rotations.
 ghost use Rattle.std.specs.Prelude.{◌≡◌, ◌≢◌, ℕ, ◌<◌, List, ◌∷◌, Bool, false};
 ghost use Rattle.i_tree.specs.Tree.Shape.{Context, Tree, under, join, names};
 ghost use Rattle.i_tree.specs.Tree.Pool.{Nodes, Stands, Focus, root_of, parent_of, IsOnSide};
