@@ -84,7 +84,7 @@ pub record AreSeen {I : Type 0} (value : I → ℤ) (lines : Lines I) : Type 0 w
 -- one edge more runs along the line, or one less, and its count comes to the sum
 abbrev pub changed : Bool → Count → LineView → LineView
 changed more c l = record {
-  running = cond more (min (l.running + 1) (2 ^ 64 - 1)) (l.running - 1);
+  running = cond more (min (l.running + 1) (2 ^ 32 - 1)) (l.running - 1);
   sum = boolean.join l.sum c;
   next = l.next;
 }

@@ -56,6 +56,7 @@ const TOO_MANY: usize = 1 << 31;
 
 use crate::count::{ShapeCountBoolean, WindingCount};
 use crate::guesses::Guesses;
+use crate::placing::SortRoom;
 use crate::segment::Segment;
 use cut::is_cut;
 use ends::{Left, SecondEnd, by_second_ends, next_end};
@@ -424,7 +425,8 @@ pub fn redraw<I: OverlayInt, L: Ledger>(
         (LaysTooMany boolean precision (entries_of I.value segments.now)) fault) }
     ensures steps { CountsPairsUpTo steps.old steps.new (most_pairs strategy.Auto (edges_of (entries_of I.value segments.now))) }
 {
-    let is_marked = redraw_where_cut(alloc, laid, segments, steps)?;
+    let mut room = SortRoom::new(alloc);
+    let is_marked = redraw_where_cut(alloc, laid, segments, &mut room, steps)?;
     if is_marked {
         return Ok(true);
     }
@@ -438,6 +440,7 @@ fn redraw_where_cut<I: OverlayInt, L: Ledger>(
     alloc: Global,
     laid: &mut Vec<Key<I>>,
     keys: &[Key<I>],
+    room: &mut SortRoom,
     steps: &mut Steps<L>,
 ) -> Result<bool, Fault>
     requires normal { IsNormal boolean (entries_of I.value keys.now) }
@@ -454,7 +457,7 @@ fn redraw_where_cut<I: OverlayInt, L: Ledger>(
 {
     laid.clear();
     let mut lines = lines_over(alloc, keys)?;
-    let ends = by_second_ends(alloc, keys)?;
+    let ends = by_second_ends(alloc, keys, room)?;
     if !is_cut(alloc, &lines, keys, &ends)? {
         return Ok(false);
     }
@@ -481,7 +484,7 @@ pub(crate) fn lay_lines<I: OverlayInt, L: Ledger>(
 {
     laid.clear();
     let mut lines = lines_over(alloc, keys)?;
-    let ends = by_second_ends(alloc, keys)?;
+    let ends = by_second_ends(alloc, keys, &mut SortRoom::new(alloc))?;
     lay_by_sweep(laid, &mut lines, keys, &ends, steps)?;
     Ok(())
 }

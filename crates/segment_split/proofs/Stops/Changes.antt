@@ -28,20 +28,20 @@ one_at_most test (e ∷ es) = by (test e) (one_at_most test es)
 -- ---- one comes
 
 module _ (test : Entry Count → Bool) (gone come : List (Entry Count)) (l : LineView) (h : Runs test gone come l) (e : Entry Count) where
-  pub comes : length come + 1 < 2 ^ 64 → test e ≡ true → Runs test gone (e ∷ come) (changed true e.count l)
+  pub comes : length come + 1 < 2 ^ 32 → test e ≡ true → Runs test gone (e ∷ come) (changed true e.count l)
   comes few t = record {
-    running = more (pos l.running) (pos (min (l.running + 1) (2 ^ 64 - 1))) (one_if test e) _ _ (ap (λ (b : Bool). cond b (pos 1) (pos 0)) t) (kept room) h.running;
+    running = more (pos l.running) (pos (min (l.running + 1) (2 ^ 32 - 1))) (one_if test e) _ _ (ap (λ (b : Bool). cond b (pos 1) (pos 0)) t) (kept room) h.running;
     subject = added l.sum.subject e.count.subject (subject_if test e) _ _ (ap (λ (b : Bool). cond b e.count.subject (pos 0)) t) h.subject;
     clip = added l.sum.clip e.count.clip (clip_if test e) _ _ (ap (λ (b : Bool). cond b e.count.clip (pos 0)) t) h.clip;
   }
     where
-      room : l.running + 1 < 2 ^ 64
+      room : l.running + 1 < 2 ^ 32
       room = fits l.running (total (one_if test) gone) (total (one_if test) come) (length come) (one_not_negative test gone) (one_at_most test come) h.running few
         where
-          fits : (n : ℕ) (g c : ℤ) (k : ℕ) → pos 0 ≤ℤ g → c ≤ℤ pos k → pos n +ℤ g ≡ c → k + 1 < 2 ^ 64 → n + 1 < 2 ^ 64
+          fits : (n : ℕ) (g c : ℤ) (k : ℕ) → pos 0 ≤ℤ g → c ≤ℤ pos k → pos n +ℤ g ≡ c → k + 1 < 2 ^ 32 → n + 1 < 2 ^ 32
           fits n g c k a b e l = omega (arith, ints, a, b, e, l)
 
-      kept : l.running + 1 < 2 ^ 64 → pos (min (l.running + 1) (2 ^ 64 - 1)) ≡ pos l.running +ℤ pos 1
+      kept : l.running + 1 < 2 ^ 32 → pos (min (l.running + 1) (2 ^ 32 - 1)) ≡ pos l.running +ℤ pos 1
       kept r = omega (arith, ints, r)
 
       more : (n m w g c : ℤ) → w ≡ pos 1 → m ≡ n +ℤ pos 1 → n +ℤ g ≡ c → m +ℤ g ≡ w +ℤ c
@@ -111,7 +111,7 @@ module _ (e : Entry Count) where
   horizontal_row : (y : ℤ) (b : Bool) → int_eq e.edge.a.x e.edge.b.x ≡ false → int_eq e.edge.a.y y ≡ b → in_row y e ≡ b
   horizontal_row y b u t = ap (λ (b : Bool). cond b false (int_eq e.edge.a.y y)) u ∙ t
 
-  pub all_come : (gone come : List (Entry Count)) (lines : LinesView) → length come + 1 < 2 ^ 64 → AllRun gone come lines → AllRun gone (e ∷ come) (at_line e.edge (changed true e.count) lines)
+  pub all_come : (gone come : List (Entry Count)) (lines : LinesView) → length come + 1 < 2 ^ 32 → AllRun gone come lines → AllRun gone (e ∷ come) (at_line e.edge (changed true e.count) lines)
   all_come gone come lines few h = by (int_eq e.edge.a.x e.edge.b.x) refl
     where
       by : (b : Bool) → int_eq e.edge.a.x e.edge.b.x ≡ b
@@ -150,11 +150,11 @@ module _ (e : Entry Count) where
       }
 
 -- Those that come and go one after the other, the last first.
-pub come_all : (es gone come : List (Entry Count)) (lines : LinesView) → length es + length come < 2 ^ 64 → AllRun gone come lines → AllRun gone (es ++ come) (all_changed true es lines)
+pub come_all : (es gone come : List (Entry Count)) (lines : LinesView) → length es + length come < 2 ^ 32 → AllRun gone come lines → AllRun gone (es ++ come) (all_changed true es lines)
 come_all [] gone come lines few h = h
 come_all (e ∷ es) gone come lines few h = all_come e gone (es ++ come) (all_changed true es lines) room (come_all es gone come lines (omega (arith, few)) h)
   where
-    room : length (es ++ come) + 1 < 2 ^ 64
+    room : length (es ++ come) + 1 < 2 ^ 32
     room = rw (length-append es come) (omega (arith, few))
 
 pub go_all : (es gone come : List (Entry Count)) (lines : LinesView) → ((test : Entry Count → Bool) → total (one_if test) (es ++ gone) ≤ℤ total (one_if test) come)

@@ -306,7 +306,7 @@ module _ (es : List (Entry Count)) (h : AreInOrder es) (all : AllRectilinear (ed
     (lines : LinesView) (laid : List (Entry Count)) (marked : Bool) (swept : Swept es t ps before gone ahead come lines laid marked) (p : Point) (next : IsNextEnd es t p) (clear : IsClear p lines ps)
     (starts : before ≡ left ++ mid) (start_here : All (λ e. e.edge.a ≡ p) mid) (start_last : (front : List (Entry Count)) (e : Entry Count) → left ≡ front ++ e ∷ [] → e.edge.a ≢ p)
     (ends : ahead ≡ left_ends ++ mid_ends) (end_here : All (λ e. e.edge.b ≡ p) mid_ends) (end_last : (front : List (Entry Count)) (e : Entry Count) → left_ends ≡ front ++ e ∷ [] → e.edge.b ≢ p)
-    (seconds : AllPairs (λ e f. point_order e.edge.b f.edge.b ≢ Greater) (ahead ++ come)) (few : length (ahead ++ come) < 2 ^ 64) where
+    (seconds : AllPairs (λ e f. point_order e.edge.b f.edge.b ≢ Greater) (ahead ++ come)) (few : length (ahead ++ come) < 2 ^ 32) where
   p_first : IsBefore ps p
   p_first = p_before es h all t ps before gone ahead come lines laid marked swept p next
 
@@ -452,10 +452,10 @@ module _ (es : List (Entry Count)) (h : AreInOrder es) (all : AllRectilinear (ed
   runs_come : AllRun (mid ++ gone) (mid_ends ++ come) lines_come
   runs_come = come_all mid_ends (mid ++ gone) come lines_gone room runs_gone
     where
-      room : length mid_ends + length come < 2 ^ 64
+      room : length mid_ends + length come < 2 ^ 32
       room = shorter (length left_ends) (length mid_ends) (length come) (length (ahead ++ come)) (ap length seconds_parted ∙ (length-append left_ends (mid_ends ++ come) ∙ ap (λ n. length left_ends + n) (length-append mid_ends come))) few
         where
-          shorter : (a b c n : ℕ) → n ≡ a + (b + c) → n < 2 ^ 64 → b + c < 2 ^ 64
+          shorter : (a b c n : ℕ) → n ≡ a + (b + c) → n < 2 ^ 32 → b + c < 2 ^ 32
           shorter a b c n e l = omega (arith, e, l)
 
   known_now : (s : Point) → IsCrossing (edges_of es) s → CountsFrom boolean es s → Contains (p ∷ ps) s ⊎ IsBefore (p ∷ ps) s

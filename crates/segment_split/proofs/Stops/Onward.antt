@@ -77,7 +77,7 @@ module _ (es before ahead : List (Entry Count)) (lines : LinesView) (laid : List
   or_regrouped true b c = refl
   or_regrouped false b c = refl
 
-  pub onward : (crossed_lines : LinesView) (crossed_laid : List (Entry Count)) (new_ticks : ℕ) (crossed : Bool) → Crosses p lines laid ticks crossed_lines crossed_laid new_ticks crossed → AreInOrder es → AllRectilinear (edges_of es) → length es < 2 ^ 64
+  pub onward : (crossed_lines : LinesView) (crossed_laid : List (Entry Count)) (new_ticks : ℕ) (crossed : Bool) → Crosses p lines laid ticks crossed_lines crossed_laid new_ticks crossed → AreInOrder es → AllRectilinear (edges_of es) → length es < 2 ^ 32
       → (left mid left_ends mid_ends : List (Entry Count)) → before ≡ left ++ mid → All (λ e. e.edge.a ≡ p) mid → ((front : List (Entry Count)) (e : Entry Count) → left ≡ front ++ e ∷ [] → e.edge.a ≢ p)
       → ahead ≡ left_ends ++ mid_ends → All (λ e. e.edge.b ≡ p) mid_ends → ((front : List (Entry Count)) (e : Entry Count) → left_ends ≡ front ++ e ∷ [] → e.edge.b ≢ p)
       → (lines_gone lines_come : LinesView) (new_laid : List (Entry Count)) (passed : Bool) → lines_gone ≡ all_changed false mid (visited p crossed_lines) → lines_come ≡ all_changed true mid_ends lines_gone
@@ -100,10 +100,10 @@ module _ (es before ahead : List (Entry Count)) (lines : LinesView) (laid : List
         ticked = ticked_on es now.0 p origin new_ticks (now.3 origin is.ticked);
       }
     where
-      room : length (ahead ++ is.come) < 2 ^ 64
+      room : length (ahead ++ is.come) < 2 ^ 32
       room = by (length es) (length (ahead ++ is.come)) (length_permutation es (ahead ++ is.come) is.swept.cut.seconds) few
         where
-          by : (m n : ℕ) → n ≡ m → m < 2 ^ 64 → n < 2 ^ 64
+          by : (m n : ℕ) → n ≡ m → m < 2 ^ 32 → n < 2 ^ 32
           by m n e l = omega (arith, e, l)
 
       through_now : Bool

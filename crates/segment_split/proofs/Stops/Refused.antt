@@ -316,7 +316,7 @@ module _ (es : List (Entry Count)) (h : AreInOrder es) (all : AllRectilinear (ed
   -- ---- where keys come
 
   module _ (left mid front behind : List (Entry Count)) (e : Entry Count) (clear : IsClear p lines ps) (starts : before ≡ left ++ mid) (start_here : All (λ f. f.edge.a ≡ p) mid)
-      (start_last : (front : List (Entry Count)) (f : Entry Count) → left ≡ front ++ f ∷ [] → f.edge.a ≢ p) (seconds : AreBySeconds (ahead ++ come)) (few : length (ahead ++ come) < 2 ^ 64)
+      (start_last : (front : List (Entry Count)) (f : Entry Count) → left ≡ front ++ f ∷ [] → f.edge.a ≢ p) (seconds : AreBySeconds (ahead ++ come)) (few : length (ahead ++ come) < 2 ^ 32)
       (parts : ahead ≡ front ++ e ∷ behind) (here : All (λ f. f.edge.b ≡ p) (e ∷ behind)) where
     ends : Parted (λ f. f.edge.b) p ahead
     ends = parted (λ f. f.edge.b) p ahead
@@ -342,10 +342,10 @@ module _ (es : List (Entry Count)) (h : AreInOrder es) (all : AllRectilinear (ed
     abbrev pub lines_now : LinesView
     lines_now = all_changed true behind lines_gone
 
-    room : length behind + length come < 2 ^ 64
+    room : length behind + length come < 2 ^ 32
     room = shorter (length front) (length behind) (length come) (length (ahead ++ come)) (ap length here_parts ∙ (length-append front (e ∷ (behind ++ come)) ∙ ap (λ n. length front + suc n) (length-append behind come))) few
       where
-        shorter : (a b c n : ℕ) → n ≡ a + suc (b + c) → n < 2 ^ 64 → b + c < 2 ^ 64
+        shorter : (a b c n : ℕ) → n ≡ a + suc (b + c) → n < 2 ^ 32 → b + c < 2 ^ 32
         shorter a b c n e l = omega (arith, e, l)
 
     now_runs : Runs (line_test e) (mid ++ gone) (behind ++ come) (line_on e.edge lines_now)
@@ -469,7 +469,7 @@ module _ (es : List (Entry Count)) (h : AreInOrder es) (all : AllRectilinear (ed
 
 module _ (es before ahead : List (Entry Count)) (lines : LinesView) (laid : List (Entry Count)) (marked : Bool) (origin ticks : ℕ) (is : IsSwept es before ahead lines laid marked origin ticks)
     (p : Point) (greatest : IsGreatestEnd before ahead p) (crossed_lines : LinesView) (crossed_laid : List (Entry Count)) (new_ticks : ℕ) (crossed : Bool)
-    (crosses : Crosses p lines laid ticks crossed_lines crossed_laid new_ticks crossed) (h : AreInOrder es) (all : AllRectilinear (edges_of es)) (few : length es < 2 ^ 64) (precision : Precision) where
+    (crosses : Crosses p lines laid ticks crossed_lines crossed_laid new_ticks crossed) (h : AreInOrder es) (all : AllRectilinear (edges_of es)) (few : length es < 2 ^ 32) (precision : Precision) where
   ahead_next : IsNextEnd es is.last p
   ahead_next = next_end_is es before ahead lines laid marked origin ticks is p greatest
 
@@ -487,5 +487,5 @@ module _ (es before ahead : List (Entry Count)) (lines : LinesView) (laid : List
       (room (length es) (length (ahead ++ is.come)) (length_permutation es (ahead ++ is.come) is.swept.cut.seconds) few) leaves.parts leaves.here precision
       (ap (λ l. count_fits (boolean.join (line_on leaves.entry.edge (all_changed true leaves.behind l)).sum leaves.entry.count)) (sym e) ∙ leaves.too_much)
     where
-      room : (m n : ℕ) → n ≡ m → m < 2 ^ 64 → n < 2 ^ 64
+      room : (m n : ℕ) → n ≡ m → m < 2 ^ 32 → n < 2 ^ 32
       room m n e l = omega (arith, e, l)

@@ -16,6 +16,7 @@ use super::status::Key;
 use super::{are_rectilinear, redraw_where_cut};
 use crate::count::WindingCount;
 use crate::data::OverlayEdgeData;
+use crate::placing::SortRoom;
 use crate::segment::Segment;
 use crate::solver::{Solver, Strategy};
 use i_tree::Steps;
@@ -34,6 +35,7 @@ pub(crate) fn redraw_by_lines<C: WindingCount, I: OverlayInt, D: OverlayEdgeData
     segments: &mut Vec<Segment<C, I, D>>,
     solver: Solver,
     alloc: Global,
+    room: &mut SortRoom,
     steps: &mut Steps<L>,
 ) -> Result<Option<bool>, Fault>
     requires { CanBeRedrawn I.least I.greatest C.counting (entries_of I.value segments.old.items) }
@@ -57,7 +59,7 @@ pub(crate) fn redraw_by_lines<C: WindingCount, I: OverlayInt, D: OverlayEdgeData
     };
     let keys = keys_of(alloc, segments)?;
     let mut laid = Vec::new(alloc);
-    let is_marked = redraw_where_cut(alloc, &mut laid, &keys, steps)?;
+    let is_marked = redraw_where_cut(alloc, &mut laid, &keys, room, steps)?;
     if !is_marked {
         return Ok(Some(false));
     }

@@ -29,8 +29,8 @@ use std::alloc::Global;
 // How many keys run along each row and upward, the places of the rows on which one runs, and the place of the last end's height.
 #[derive(Drop)]
 struct Running {
-    rows: Vec<usize>,
-    column: usize,
+    rows: Vec<u32>,
+    column: u32,
     places: PlaceSet,
     last: usize,
 }

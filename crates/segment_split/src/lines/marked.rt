@@ -18,6 +18,7 @@ use super::cut::is_cut;
 use super::ends::by_second_ends;
 use super::status::Key;
 use super::{lay_lines, lines_over};
+use crate::placing::SortRoom;
 use i_tree::Steps;
 use plane_base::fault::Fault;
 use plane_base::int::OverlayInt;
@@ -64,6 +65,6 @@ fn are_cut<I: OverlayInt>(alloc: Global, keys: &[Key<I>]) -> Result<bool, Fault>
     ensures memory { IsOkUnless result Fault.Memory }
 {
     let lines = lines_over(alloc, keys)?;
-    let ends = by_second_ends(alloc, keys)?;
+    let ends = by_second_ends(alloc, keys, &mut SortRoom::new(alloc))?;
     is_cut(alloc, &lines, keys, &ends)
 }

@@ -37,7 +37,7 @@ pub(super) type Key<I> = Segment<ShapeCountBoolean, I, ()>;
 // What runs along a line on from the last stop: how many keys, and what they count for together. And the last stop on the line.
 #[derive(Clone, Copy)]
 pub(super) struct Line<I> {
-    pub(super) running: usize,
+    pub(super) running: u32,
     pub(super) sum: ShapeCountBoolean,
     pub(super) next: Option<IntPoint<I>>,
 }
@@ -139,9 +139,9 @@ fn change<I: OverlayInt>(
     })
 }
 
-// One key more or less. Of fewer than 2^31 keys no line has 2^64.
-pub(super) fn one_more(running: usize, more: bool) -> usize
-    ensures { result ≡ cond more (min (running + 1) (2 ^ 64 - 1)) (running - 1) }
+// One key more or less. Of fewer than 2^31 keys no line has 2^32.
+pub(super) fn one_more(running: u32, more: bool) -> u32
+    ensures { result ≡ cond more (min (running + 1) (2 ^ 32 - 1)) (running - 1) }
 {
     if more {
         running.saturating_add(1)
