@@ -1,5 +1,5 @@
 -- A live list in a row: a sorted vector in which expired entries stay for a while, and the places in it.
-use Rattle.std.specs.Prelude.{◌≡◌, ℕ, ◌<◌, min, List, length, take, drop, insert, slice_set, slice_index_or, true, false, All, Option, Result, Ok, Err}
+use Rattle.std.specs.Prelude.{◌≡◌, ℕ, ◌+◌, ◌-◌, ◌<◌, ◌≤◌, min, List, ◌∷◌, ◌++◌, length, take, drop, slice_index_or, true, false, All, Option, Result, Ok, Err}
 use Rattle.std.specs.declared.cmp.Ordering.{Ordering}
 use Rattle.std.specs.declared.cmp.Ordering.TheVariants.{Less, Greater}
 use Rattle.i_tree.specs.declared.key.row.RowPlace.{RowPlace}
@@ -43,12 +43,13 @@ pub record IsParted {K E V : Type 0} (cmp : E → E → Ordering) (expires : K �
   pub less : All (λ entry. by entry.0 ≡ Less) (live_at cmp expires time (take from entries))
   pub greater : All (λ entry. by entry.0 ≡ Greater) (live_at cmp expires time (drop to entries))
 
--- an entry was put at a place between its neighbours, or over one that had expired; tells how many entries were added
-pub data IsPut {K E V : Type 0} (cmp : E → E → Ordering) (expires : K → E) (time : E) (old new : List (K × V)) (at : ℕ) (entry : K × V)
-    (added : ℕ) : Type 0 where
-  between : new ≡ insert old at entry → added ≡ 1 → IsPut cmp expires time old new at entry added
-  over : at < length old → ((d : K × V) → is_live cmp expires time (slice_index_or old at d).0 ≡ false) → new ≡ slice_set old at entry → added ≡ 0 →
-      IsPut cmp expires time old new at entry added
+-- an entry was put at a place, and those from there on moved up as far as one that had expired, or all
+pub record IsPut {K E V : Type 0} (cmp : E → E → Ordering) (expires : K → E) (time : E) (old new : List (K × V)) (at : ℕ) (entry : K × V)
+    (filled : ℕ) : Type 0 where
+  pub from : at ≤ filled
+  pub within : filled ≤ length old
+  pub expired : (d : K × V) → filled < length old → is_live cmp expires time (slice_index_or old filled d).0 ≡ false
+  pub is : new ≡ take at old ++ (entry ∷ (take (filled - at) (drop at old) ++ drop (filled + 1) old))
 
 -- what was found: the value of an equal key, or that of the last key below, if there is one
 abbrev pub way_of : {V : Type 0} → Result V (Option V) → Way V

@@ -1,8 +1,7 @@
 -- What an insertion into a row leaves.
-use Rattle.std.proofs.Common.{◌≡◌, ◌≢◌, ℕ, suc, ◌+◌, ◌-◌, ◌<◌, ◌≤◌, ◌⊎◌, inl, inr, min, List, ◌∷◌, ◌++◌, length, take, drop, get_or, if◌then◌else◌, true, false, All, Contains, Option, Some, sym, ap, ◌∙◌, arith, subst}
-use Rattle.std.proofs.lemmas.List.{take-append-drop, take-append-le, drop-drop, take-set-le, drop-set-lt, set_split, length-set, length-take-le}
+use Rattle.std.proofs.Common.{◌≡◌, ◌≢◌, ℕ, suc, ◌+◌, ◌-◌, ◌<◌, ◌≤◌, ◌⊎◌, inl, inr, min, List, [], ◌∷◌, ◌++◌, length, take, drop, get_or, set, if◌then◌else◌, true, false, All, Contains, Option, Some, refl, sym, ap, ◌∙◌, arith, subst}
+use Rattle.std.proofs.lemmas.List.{take-append-drop, take-append-le, take-take, take_all, drop-append-le, drop-drop, drop_all, drop_more, set_at, append-nil, length-append, length-drop, length-take-le}
 use Rattle.std.proofs.lemmas.Bool.{cases_order}
-use Rattle.std.proofs.lemmas.List.Edits.{length-insert}
 use Rattle.std.proofs.lemmas.List.Elements.{All-filter, All-contains_itself, filter-append, Contains-append_left, Contains-append_right}
 use Rattle.std.proofs.Math.Seq.{drop-append-add}
 use Rattle.std.specs.Cmp.{IsTotalOrder}
@@ -14,7 +13,6 @@ use Rattle.i_tree.specs.LiveList.{LiveList, is_live, live_at, placed, IsSound, I
 use Rattle.i_tree.specs.KeyAnswers.{IsMonotone, IsPlace}
 use Rattle.i_tree.specs.Row.{Row, kept_in, from_in, end_in, before_in, after_in, IsParted, IsPut}
 use Rattle.i_tree.specs.Tree.Kept.{live_since}
-use Rattle.i_tree.specs.Row.IsPut.{between, over}
 use Rattle.i_tree.proofs.Keys.Expiry.{length-filter_le, not_before_itself}
 use Rattle.i_tree.proofs.Keys.Insertion.{IsInserted-live, IsSound-live}
 use Rattle.i_tree.proofs.Keys.LiveGaps.{placed-between}
@@ -24,52 +22,154 @@ use Rattle.i_tree.proofs.Keys.Rows.{live, filter-parts, drop-false, filter-true,
 use Rattle.i_tree.proofs.Trees.Kept.{live_at-since}
 
 -- ---- what stands before and after a place in which an entry was put
-module _ {K E V : Type 0} (cmp : E → E → Ordering) (expires : K → E) (time : E) (old new : List (K × V)) (at : ℕ) (entry : K × V) (added : ℕ) (inside : at ≤ length old) where
-  took : length (take at old) ≡ at
-  took = length-take-le at old inside
+module _ {K E V : Type 0} (cmp : E → E → Ordering) (expires : K → E) (time : E) (old new : List (K × V)) (at : ℕ) (entry : K × V) (filled : ℕ) (put : IsPut cmp expires time old new at entry filled) where
+  -- what stood before the place, what moved up, and what stood beyond
+  abbrev below : List (K × V)
+  below = take at old
 
-  pub take-put : IsPut cmp expires time old new at entry added → (from : ℕ) → from ≤ at → take from new ≡ take from old
-  take-put (between is one) from le =
-      ap (take from) is
-      ∙ take-append-le from (take at old) (entry ∷ drop at old) (rw took le)
-      ∙ sym (ap (take from) (sym (take-append-drop at old)) ∙ take-append-le from (take at old) (drop at old) (rw took le))
-  take-put (over lt gone is none) from le = ap (take from) is ∙ take-set-le from old at entry le
+  abbrev moved : List (K × V)
+  moved = take (filled - at) (drop at old)
 
-  drop-inserted : (end : ℕ) → at ≤ end → drop (end + 1) (take at old ++ (entry ∷ drop at old)) ≡ drop end old
-  drop-inserted end le =
-      let far : end + 1 ≡ length (take at old) + suc (end - at) = omega (arith, took) in
-      let back : at + (end - at) ≡ end = omega arith in
-      ap (λ n. drop n (take at old ++ (entry ∷ drop at old))) far
-      ∙ drop-append-add (take at old) (entry ∷ drop at old) (suc (end - at))
-      ∙ drop-drop (end - at) at old
-      ∙ ap (λ n. drop n old) back
+  abbrev beyond : List (K × V)
+  beyond = drop (filled + 1) old
 
-  pub drop-put : IsPut cmp expires time old new at entry added → (end next : ℕ) → at ≤ end → (added ≡ 1 → next ≡ end + 1) → (added ≡ 0 → at < end → next ≡ end) → (added ≡ 0 → at ≡ end → next ≡ end + 1) → live_at cmp expires time (drop next new) ≡ live_at cmp expires time (drop end old)
-  drop-put (between is one) end next le far _ _ = ap (live_at cmp expires time) (ap (λ n. drop n new) (far one) ∙ ap (drop (end + 1)) is ∙ drop-inserted end le)
-  drop-put (over lt gone is none) end next le _ same past = by (cases_order at end) where
-    by : (at ≡ end) ⊎ ((at < end) ⊎ (end < at)) → live_at cmp expires time (drop next new) ≡ live_at cmp expires time (drop end old)
-    by (inl e) =
-        let on = past none e in
-        ap (live_at cmp expires time) (ap (λ n. drop n new) on ∙ ap (drop (end + 1)) is ∙ drop-set-lt (end + 1) old at entry (omega (arith, e)))
-        ∙ sym (drop-false (live cmp expires time) old end entry (omega (arith, e, lt)) (subst (λ n. is_live cmp expires time (get_or old n entry).0 ≡ false) e (gone entry)))
-    by (inr (inl less)) = ap (live_at cmp expires time) (ap (λ n. drop n new) (same none less) ∙ ap (drop end) is ∙ drop-set-lt end old at entry less)
-    by (inr (inr more)) = absurd (omega (arith, more, le))
+  abbrev alive : List (K × V) → List (K × V)
+  alive = live_at cmp expires time
 
-  pub length-put : IsPut cmp expires time old new at entry added → length new ≡ length old + added
-  length-put (between is one) = rw (is, one) (length-insert old at entry inside)
-  length-put (over lt gone is none) = rw (is, none) (length-set old at entry ∙ omega arith)
+  length-below : length below ≡ at
+  length-below = length-take-le at old (omega (arith, put.from, put.within))
+
+  length-moved : length moved ≡ filled - at
+  length-moved = let n = length-drop at old in length-take-le (filled - at) (drop at old) (omega (arith, put.within))
+
+  after_moved : drop at old ≡ moved ++ drop filled old
+  after_moved =
+      sym (take-append-drop (filled - at) (drop at old))
+      ∙ ap (λ zs. moved ++ zs) (drop-drop (filled - at) at old ∙ (let e : at + (filled - at) ≡ filled = omega (arith, put.from) in ap (λ n. drop n old) e))
+
+  -- the place that is filled holds nothing live
+  alive-beyond : alive (drop filled old) ≡ alive beyond
+  alive-beyond = by (cases_order filled (length old)) where
+    by : (filled ≡ length old) ⊎ ((filled < length old) ⊎ (length old < filled)) → alive (drop filled old) ≡ alive beyond
+    by (inl e) = ap alive (drop_all filled old (omega (arith, e)) ∙ sym (drop_all (filled + 1) old (omega (arith, e))))
+    by (inr (inl lt)) = drop-false (live cmp expires time) old filled entry lt (put.expired entry lt)
+    by (inr (inr more)) = absurd (omega (arith, more, put.within))
+
+  pub take-put : (from : ℕ) → from ≤ at → take from new ≡ take from old
+  take-put from le =
+      ap (take from) put.is
+      ∙ take-append-le from below (entry ∷ (moved ++ beyond)) (rw length-below le)
+      ∙ take-take from at old le
+
+  drop-new : (end : ℕ) → at ≤ end → drop (end + 1) new ≡ drop (end - at) (moved ++ beyond)
+  drop-new end le =
+      let far : end + 1 ≡ length below + suc (end - at) = omega (arith, length-below) in
+      ap (λ n. drop n new) far ∙ ap (drop (length below + suc (end - at))) put.is ∙ drop-append-add below (entry ∷ (moved ++ beyond)) (suc (end - at))
+
+  drop-within : (end : ℕ) → at ≤ end → filled < end → drop end new ≡ drop end old
+  drop-within end le lt =
+      let last : end ≡ (end - 1) + 1 = omega (arith, lt) in
+      let far : (end - 1) - at ≡ length moved + (end - (filled + 1)) = omega (arith, length-moved, put.from, lt) in
+      let back : filled + 1 + (end - (filled + 1)) ≡ end = omega (arith, lt) in
+      ap (λ n. drop n new) last ∙ drop-new (end - 1) (omega (arith, put.from, lt))
+      ∙ ap (λ n. drop n (moved ++ beyond)) far ∙ drop-append-add moved beyond (end - (filled + 1))
+      ∙ drop-drop (end - (filled + 1)) (filled + 1) old ∙ ap (λ n. drop n old) back
+
+  drop-beyond : (end : ℕ) → at ≤ end → end ≤ filled → alive (drop (end + 1) new) ≡ alive (drop end old)
+  drop-beyond end le less =
+      let few : end - at ≤ length moved = omega (arith, length-moved, less) in
+      let back : at + (end - at) ≡ end = omega (arith, le) in
+      ap alive (drop-new end le ∙ drop-append-le (end - at) moved beyond few)
+      ∙ filter-append (live cmp expires time) (drop (end - at) moved) beyond
+      ∙ ap (λ zs. alive (drop (end - at) moved) ++ zs) (sym alive-beyond)
+      ∙ sym (filter-append (live cmp expires time) (drop (end - at) moved) (drop filled old))
+      ∙ ap alive (sym (drop-append-le (end - at) moved (drop filled old) few) ∙ ap (drop (end - at)) (sym after_moved) ∙ drop-drop (end - at) at old ∙ ap (λ n. drop n old) back)
+
+  pub drop-put : (end next : ℕ) → at ≤ end → (filled < end → next ≡ end) → (end ≤ filled → next ≡ end + 1) → live_at cmp expires time (drop next new) ≡ live_at cmp expires time (drop end old)
+  drop-put end next le inner outer = by (cases_order filled end) where
+    past : end ≤ filled → live_at cmp expires time (drop next new) ≡ live_at cmp expires time (drop end old)
+    past less = ap (λ n. alive (drop n new)) (outer less) ∙ drop-beyond end le less
+
+    by : (filled ≡ end) ⊎ ((filled < end) ⊎ (end < filled)) → live_at cmp expires time (drop next new) ≡ live_at cmp expires time (drop end old)
+    by (inl e) = past (omega (arith, e))
+    by (inr (inl lt)) = ap (λ n. alive (drop n new)) (inner lt) ∙ ap alive (drop-within end le lt)
+    by (inr (inr more)) = past (omega (arith, more))
+
+  length-parts : length new ≡ at + suc ((filled - at) + (length old - (filled + 1)))
+  length-parts =
+      let n = length-append below (entry ∷ (moved ++ beyond)) in let m = length-append moved beyond in let k = length-drop (filled + 1) old in
+      ap length put.is ∙ omega (arith, n, m, k, length-below, length-moved)
+
+  pub length-put : length new ≤ length old + 1
+  length-put = omega (arith, length-parts, put.from, put.within)
+
+  -- a place goes on within what is stored then
+  pub next_within : (end next : ℕ) → at ≤ end → end ≤ length old → (filled < end → next ≡ end) → (end ≤ filled → next ≡ end + 1) → next ≤ length new
+  next_within end next le within inner outer = by (cases_order filled end) where
+    by : (filled ≡ end) ⊎ ((filled < end) ⊎ (end < filled)) → next ≤ length new
+    by (inl e) = let is = outer (omega (arith, e)) in omega (arith, is, e, length-parts, put.from, put.within)
+    by (inr (inl lt)) = let is = inner lt in omega (arith, is, lt, length-parts, put.from, within)
+    by (inr (inr more)) = let is = outer (omega (arith, more)) in omega (arith, is, more, length-parts, put.from, put.within)
+
+  pub next_beyond : (from end next : ℕ) → from ≤ at → at ≤ end → (filled < end → next ≡ end) → (end ≤ filled → next ≡ end + 1) → from ≤ next
+  next_beyond from end next low le inner outer = by (cases_order filled end) where
+    by : (filled ≡ end) ⊎ ((filled < end) ⊎ (end < filled)) → from ≤ next
+    by (inl e) = let is = outer (omega (arith, e)) in omega (arith, is, low, le)
+    by (inr (inl lt)) = let is = inner lt in omega (arith, is, low, le)
+    by (inr (inr more)) = let is = outer (omega (arith, more)) in omega (arith, is, low, le)
 
   -- what is live is in its place
-  pub live-put : (order : K → K → Ordering) → IsPut cmp expires time old new at entry added → IsParted cmp expires (λ k. order k entry.0) time old at at → is_live cmp expires time entry.0 ≡ true → live_at cmp expires time new ≡ placed order entry (live_at cmp expires time old)
-  live-put order put parted e = is_between put ∙ sym (ap (placed order entry) (filter-parts (live cmp expires time) old at) ∙ placed-between order entry (live_at cmp expires time (take at old)) (live_at cmp expires time (drop at old)) parted.less parted.greater) where
-    split : (rest : List (K × V)) → live_at cmp expires time (take at old ++ (entry ∷ rest)) ≡ live_at cmp expires time (take at old) ++ (entry ∷ live_at cmp expires time rest)
-    split rest = filter-append (live cmp expires time) (take at old) (entry ∷ rest) ∙ ap (λ zs. live_at cmp expires time (take at old) ++ zs) (filter-true (live cmp expires time) entry rest e)
+  pub live-put : (order : K → K → Ordering) → IsParted cmp expires (λ k. order k entry.0) time old at at → is_live cmp expires time entry.0 ≡ true → live_at cmp expires time new ≡ placed order entry (live_at cmp expires time old)
+  live-put order parted e =
+      ap alive put.is ∙ filter-append (live cmp expires time) below (entry ∷ (moved ++ beyond))
+      ∙ ap (λ zs. alive below ++ zs) (filter-true (live cmp expires time) entry (moved ++ beyond) e ∙ ap (λ zs. entry ∷ zs) rest)
+      ∙ sym (ap (placed order entry) (filter-parts (live cmp expires time) old at) ∙ placed-between order entry (alive below) (alive (drop at old)) parted.less parted.greater)
+    where
+      rest : alive (moved ++ beyond) ≡ alive (drop at old)
+      rest =
+          filter-append (live cmp expires time) moved beyond ∙ ap (λ zs. alive moved ++ zs) (sym alive-beyond)
+          ∙ sym (filter-append (live cmp expires time) moved (drop filled old)) ∙ ap alive (sym after_moved)
 
-    is_between : IsPut cmp expires time old new at entry added → live_at cmp expires time new ≡ live_at cmp expires time (take at old) ++ (entry ∷ live_at cmp expires time (drop at old))
-    is_between (between is one) = ap (live_at cmp expires time) is ∙ split (drop at old)
-    is_between (over lt gone is none) =
-        ap (live_at cmp expires time) (is ∙ set_split old at entry lt) ∙ split (drop (suc at) old)
-        ∙ ap (λ zs. live_at cmp expires time (take at old) ++ (entry ∷ zs)) (let next : suc at ≡ at + 1 = omega arith in ap (λ n. live_at cmp expires time (drop n old)) next ∙ sym (drop-false (live cmp expires time) old at entry lt (gone entry)))
+-- ---- how an entry is put over one, once those up to it moved up
+module _ {X : Type 0} (old : List X) (at filled : ℕ) (entry : X) (order : at ≤ filled) (lt : filled < length old) where
+  abbrev part : List X
+  part = take (filled + 1 - at) (drop at old)
+
+  abbrev up : ℕ
+  up = length part - 1
+
+  length-part : length part ≡ filled + 1 - at
+  length-part = let n = length-drop at old in length-take-le (filled + 1 - at) (drop at old) (omega (arith, n, order, lt))
+
+  turned : drop up part ++ take up part ≡ get_or part up entry ∷ take (filled - at) (drop at old)
+  turned =
+      let few : up ≡ filled - at = omega (arith, length-part, order) in
+      ap (λ zs. zs ++ take up part) (drop_more part up entry (omega (arith, length-part, order)) ∙ ap (λ zs. get_or part up entry ∷ zs) (drop_all (up + 1) part (omega (arith, length-part))))
+      ∙ ap (λ zs. get_or part up entry ∷ zs) (ap (λ n. take n part) few ∙ take-take (filled - at) (filled + 1 - at) (drop at old) (omega arith))
+
+  abbrev laid : List X → List X
+  laid zs = take at old ++ (zs ++ drop (filled + 1 - at) (drop at old))
+
+  rest : drop (filled + 1 - at) (drop at old) ≡ drop (filled + 1) old
+  rest = drop-drop (filled + 1 - at) at old ∙ (let e : at + (filled + 1 - at) ≡ filled + 1 = omega (arith, order) in ap (λ n. drop n old) e)
+
+  length-laid : (zs : List X) → length zs ≡ length part → length (laid zs) ≡ length old
+  length-laid zs e =
+      let n = length-append (take at old) (zs ++ drop (filled + 1 - at) (drop at old)) in
+      let m = length-append zs (drop (filled + 1 - at) (drop at old)) in
+      let k = ap length rest ∙ length-drop (filled + 1) old in
+      let front = length-take-le at old (omega (arith, order, lt)) in
+      omega (arith, n, m, k, front, e, length-part, order, lt)
+
+  pub put-rotated : (n : ℕ) (zs : List X) → n ≡ length old → length zs ≡ length part → zs ≡ drop up part ++ take up part → set (take n (laid zs ++ drop (length (laid zs)) old)) at entry ≡ take at old ++ (entry ∷ (take (filled - at) (drop at old) ++ drop (filled + 1) old))
+  put-rotated n zs n_is len is =
+      let long = length-laid zs len in
+      ap (λ xs. set (take n (laid zs ++ xs)) at entry) (drop_all (length (laid zs)) old (omega (arith, long)))
+      ∙ ap (λ xs. set (take n xs) at entry) (append-nil (laid zs))
+      ∙ ap (λ xs. set xs at entry) (take_all n (laid zs) (omega (arith, n_is, long)))
+      ∙ ap (λ xs. set (laid xs) at entry) (is ∙ turned)
+      ∙ set_at (take at old) (get_or part up entry) (take (filled - at) (drop at old) ++ drop (filled + 1 - at) (drop at old)) entry at (length-take-le at old (omega (arith, order, lt)))
+      ∙ ap (λ xs. take at old ++ (entry ∷ (take (filled - at) (drop at old) ++ xs))) rest
 
 -- ---- the insertion, once the time was named
 module _ {K E V : Type 0} (cmp : E → E → Ordering) (total : IsTotalOrder cmp) (expires : K → E) (order : K → K → Ordering) (old mid : Row K E V) (time : E) (advanced : IsAdvanced cmp expires time (kept_in cmp expires old) (kept_in cmp expires mid)) (sound : IsSound cmp expires order (kept_in cmp expires mid)) (entry : K × V) where
@@ -102,12 +202,12 @@ module _ {K E V : Type 0} (cmp : E → E → Ordering) (total : IsTotalOrder cmp
       none_equal at lt is e =
           All-kept (live cmp expires time) (λ e. order e.0 entry.0 ≢ Equal) mid.entries at entry (subst (All (λ e. order e.0 entry.0 ≢ Equal)) (sym here) unlike) lt is e
 
-      module _ (live_key : is_live cmp expires time entry.0 ≡ true) (new : List (K × V)) (at added : ℕ) (inside : at ≤ length mid.entries) (few : added ≤ 1) (put : IsPut cmp expires time mid.entries new at entry added) (parted : IsParted cmp expires (λ k. order k entry.0) time mid.entries at at) where
+      module _ (live_key : is_live cmp expires time entry.0 ≡ true) (new : List (K × V)) (at filled : ℕ) (put : IsPut cmp expires time mid.entries new at entry filled) (parted : IsParted cmp expires (λ k. order k entry.0) time mid.entries at at) where
         most : length new ≤ length mid.entries + 1
-        most = let n = length-put cmp expires time mid.entries new at entry added inside put in omega arith
+        most = length-put cmp expires time mid.entries new at entry filled put
 
         items : live_since cmp expires mid.latest_time new ≡ placed order entry (live_since cmp expires mid.latest_time mid.entries)
-        items = subst (λ latest. live_since cmp expires latest new ≡ placed order entry (live_since cmp expires latest mid.entries)) (sym now) (live-put cmp expires time mid.entries new at entry added inside order put parted live_key)
+        items = subst (λ latest. live_since cmp expires latest new ≡ placed order entry (live_since cmp expires latest mid.entries)) (sym now) (live-put cmp expires time mid.entries new at entry filled put order parted live_key)
 
         least : length (live_since cmp expires mid.latest_time new) ≤ length new
         least = subst (λ latest. length (live_since cmp expires latest new) ≤ length new) (sym now) (length-filter_le (live cmp expires time) new)
@@ -137,34 +237,6 @@ module _ {K E V : Type 0} (cmp : E → E → Ordering) (total : IsTotalOrder cmp
       ap (λ latest. live_since cmp expires latest (drop (min end (length new)) new)) now
       ∙ ap (λ n. live_at cmp expires time (drop n new)) on ∙ same
       ∙ sym (live_at-since cmp total expires old.latest_time time in_time (drop (end_in (length old.entries) place) old.entries))
-
--- where a place goes on after an insertion
-pub next_within : (end next at added n m : ℕ) → at ≤ end → end ≤ n → m ≡ n + added → added ≤ 1 → (added ≡ 0 → at < n) → (added ≡ 1 → next ≡ end + 1) → (added ≡ 0 → at < end → next ≡ end) → (added ≡ 0 → at ≡ end → next ≡ end + 1) → next ≤ m
-next_within end next at added n m le within long few room one same past = by (cases_order added 1) (cases_order at end) where
-  by : (added ≡ 1) ⊎ ((added < 1) ⊎ (1 < added)) → (at ≡ end) ⊎ ((at < end) ⊎ (end < at)) → next ≤ m
-  by (inl e) _ = let is = one e in omega arith
-  by (inr (inr more)) _ = absurd (omega arith)
-  by (inr (inl none)) (inl e) = let zero_is : added ≡ 0 = omega arith in let is = past zero_is e in let free = room zero_is in omega arith
-  by (inr (inl none)) (inr (inl less)) = let zero_is : added ≡ 0 = omega arith in let is = same zero_is less in omega arith
-  by (inr (inl none)) (inr (inr more)) = absurd (omega arith)
-
-pub next_beyond : (from end next at added : ℕ) → from ≤ at → at ≤ end → added ≤ 1 → (added ≡ 1 → next ≡ end + 1) → (added ≡ 0 → at < end → next ≡ end) → (added ≡ 0 → at ≡ end → next ≡ end + 1) → from ≤ next
-next_beyond from end next at added low le few one same past = by (cases_order added 1) (cases_order at end) where
-  by : (added ≡ 1) ⊎ ((added < 1) ⊎ (1 < added)) → (at ≡ end) ⊎ ((at < end) ⊎ (end < at)) → from ≤ next
-  by (inl e) _ = let is = one e in omega arith
-  by (inr (inr more)) _ = absurd (omega arith)
-  by (inr (inl none)) (inl e) = let zero_is : added ≡ 0 = omega arith in let is = past zero_is e in omega arith
-  by (inr (inl none)) (inr (inl less)) = let zero_is : added ≡ 0 = omega arith in let is = same zero_is less in omega arith
-  by (inr (inl none)) (inr (inr more)) = absurd (omega arith)
-
-module _ {K E V : Type 0} (cmp : E → E → Ordering) (expires : K → E) (time : E) (old new : List (K × V)) (at : ℕ) (entry : K × V) (added : ℕ) where
-  pub few-put : IsPut cmp expires time old new at entry added → added ≤ 1
-  few-put (between is one) = omega (arith, one)
-  few-put (over lt gone is none) = omega (arith, none)
-
-  pub room-put : IsPut cmp expires time old new at entry added → added ≡ 0 → at < length old
-  room-put (between is one) none = absurd (omega (arith, one, none))
-  room-put (over lt gone is _) none = lt
 
 -- an insertion after a call at the same time is one
 pub IsInserted-after : {K E V : Type 0} (cmp : E → E → Ordering) (total : IsTotalOrder cmp) (expires : K → E) (order : K → K → Ordering) (entry : K × V) (time : E) (old mid new : LiveList K E V) → IsAdvanced cmp expires time old mid → IsInserted cmp expires order entry time mid new → IsInserted cmp expires order entry time old new

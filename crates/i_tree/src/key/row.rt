@@ -2,9 +2,9 @@
 //!
 //! What has expired stays where it stands until an entry is put over it, or until there is too much of it. A search steps over it
 //! and compares with live entries alone: k + 1 times at most, where k is the greatest number with `2^k <= n` for n entries
-//! stored. A new entry moves those after it, unless it comes where one has expired. So a row serves where at most a thousand keys
-//! or so live at a time.
-ghost use Rattle.std.specs.Prelude.{◌≡◌, ◌≢◌, ◌-◌, ◌+◌, ◌<◌, ◌≤◌, ◌^◌, true, length, drop, slice_index_or, All, IfOk, IfErr, OnErr, Some, None, Ok, Err};
+//! stored. A new entry moves those after it, as far as the nearest that has expired, whose place it fills, or all where none near
+//! has. So a row serves where at most a thousand keys or so live at a time.
+ghost use Rattle.std.specs.Prelude.{◌≡◌, ◌≢◌, ◌-◌, ◌+◌, ◌<◌, ◌≤◌, ◌^◌, true, false, length, drop, slice_index_or, All, IfOk, IfErr, OnErr, Some, None, Ok, Err};
 ghost use Rattle.std.specs.Bool.{OnTrue, OnFalse};
 ghost use Rattle.std.specs.Ordering.{ordering_then};
 ghost use Rattle.std.specs.declared.cmp.Ordering.{Ordering};
@@ -31,6 +31,9 @@ const FEW: usize = 64;
 
 // A search that steps over more than this at once calls the row full.
 const FAR: usize = 8;
+
+// So many places, from that of a new entry on, are looked at for an entry that has expired.
+const NEAR: usize = 32;
 
 /// A stretch of a row: keys that belong to the place stand there, and all others before or after it.
 #[derive(Clone, Copy)]
@@ -244,11 +247,11 @@ impl<K: ExpiredKey<E>, E: Expiration, V: Copy> KeyExpCollection<K, E, V> for Key
             steps,
         );
         let Err(at) = found else { unreachable!() };
-        let added = put(&mut self.entries, at, (key, val), time)?;
+        let filled = put(&mut self.entries, at, (key, val), time)?;
         self.insertions += 1;
         Ok(RowPlace {
             from,
-            end: next_end(end, at, added),
+            end: next_end(end, filled),
         })
     }
 
@@ -286,16 +289,13 @@ fn within<T>(place: RowPlace, entries: &[T]) -> RowPlace
     }
 }
 
-// Where a place ends once so many entries were added to it, the last of them there.
-fn next_end(end: usize, at: usize, added: usize) -> usize
+// Where a place ends once the entries from one in it on moved up as far as this one.
+fn next_end(end: usize, filled: usize) -> usize
     requires end { end < 2 ^ 31 }
-    requires at { at ≤ end }
-    requires added { added ≤ 1 }
-    ensures one { added ≡ 1 → result ≡ end + 1 }
-    ensures over { added ≡ 0 → at < end → result ≡ end }
-    ensures over_end { added ≡ 0 → at ≡ end → result ≡ end + 1 }
+    ensures within { filled < end → result ≡ end }
+    ensures beyond { end ≤ filled → result ≡ end + 1 }
 {
-    if added == 0 && at < end { end } else { end + 1 }
+    if filled < end { end } else { end + 1 }
 }
 
 // The value at a place that was found, or just before the one where a search ended.
@@ -331,7 +331,8 @@ fn value_or<V: Copy>(found: Result<V, Option<V>>, default: V) -> V
     }
 }
 
-// Puts an entry at a place: over one that has expired by then, else between its neighbours. Tells how many entries were added.
+// Puts an entry at a place. Those from there on move up, as far as the first near one that has expired by then, or all.
+// Tells the place that is filled so.
 fn put<K: ExpiredKey<E>, E: Expiration, V: Copy>(
     entries: &mut Vec<(K, V)>,
     at: usize,
@@ -339,15 +340,39 @@ fn put<K: ExpiredKey<E>, E: Expiration, V: Copy>(
     time: E,
 ) -> Result<usize, AllocError>
     requires within { at ≤ length entries.old.items }
-    ensures ok { IfOk result (λ added. IsPut E.cmp K.expires time entries.old.items entries.new.items at entry added) }
+    ensures ok { IfOk result (λ filled. IsPut E.cmp K.expires time entries.old.items entries.new.items at entry filled) }
     ensures err { OnErr result (entries.new.items ≡ entries.old.items) }
 {
-    if at < entries.len() && !entries[at].0.expiration().cmp(&time).is_gt() {
+    let filled = first_expired(entries, at, time);
+    if filled < entries.len() {
+        entries[at..filled + 1].rotate_right(1);
         entries[at] = entry;
-        return Ok(0);
+        return Ok(filled);
     }
     entries.insert(at, entry)?;
-    Ok(1)
+    Ok(filled)
+}
+
+// The first near place from one on whose entry has expired, or where the entries end.
+fn first_expired<K: ExpiredKey<E>, E: Expiration, V: Copy>(
+    entries: &[(K, V)],
+    from: usize,
+    time: E,
+) -> usize
+    requires within { from ≤ length entries.now }
+    ensures beyond { from ≤ result }
+    ensures within { result ≤ length entries.now }
+    ensures expired { (d : _) → result < length entries.now → is_live E.cmp K.expires time (slice_index_or entries.now result d).0 ≡ false }
+{
+    let end = from + NEAR.min(entries.len() - from);
+    let mut at = from;
+    while at < end {
+        if !entries[at].0.expiration().cmp(&time).is_gt() {
+            return at;
+        }
+        at += 1;
+    }
+    entries.len()
 }
 
 // The first place of a stretch with a live entry, or where the stretch ends.

@@ -7,7 +7,7 @@ use Rattle.std.proofs.Common.{ℕ, List, Option, Some, None, ◌≡◌, ◌+◌,
 use Rattle.i_tree.specs.LiveList.{is_live}
 use Rattle.i_tree.specs.Row.{kept_in, from_in, end_in}
 use Rattle.i_tree.proofs.Keys.Insertion.{IsInserted-expired, IsSound-expired}
-use Rattle.i_tree.proofs.Keys.RowInsertion.{take-put, drop-put, length-put, few-put, room-put, next_within, next_beyond, parted_by, monotone, none_equal, IsInserted-row, IsSound-inserted, before_next, after_next}
+use Rattle.i_tree.proofs.Keys.RowInsertion.{take-put, drop-put, next_within, next_beyond, parted_by, monotone, none_equal, IsInserted-row, IsSound-inserted, before_next, after_next}
 use Rattle.i_tree.proofs.key.row.KeyExpRowKeyExpCollection.insert_at.Goals as goal
 
 none_counted : (counts : Counts) (n : ℕ) → CountsAtMost counts counts n
@@ -59,10 +59,8 @@ invariant_of-self-2 g c =
     (rw c.deref-2.ensures.value at c.in-Err.ensures.parted) (λ k. g.K.ExpiredKey.order k c.args.key) (λ i d h r e. search rules)
     (monotone g.E.Ord.cmp g.met.E.Ord.total g.K.ExpiredKey.expires g.K.ExpiredKey.order c.args.self.now _ c.args.time kept sound (c.args.key, c.args.val) c.requires.lawful)
     (parted_by g.E.Ord.cmp g.met.E.Ord.total g.K.ExpiredKey.expires g.K.ExpiredKey.order c.args.self.now _ c.args.time kept sound (c.args.key, c.args.val) c.requires.in_time same c.args.place c.requires.below c.requires.above _ _ from_is end_is) in
-    let at_most : c.in-Err.at ≤ length c.self.inside.entries.items = omega (arith, c.in-Err.ensures.within.1, inside) in
-    let put = c.in_ok-added.ensures.ok in
-    let few = few-put _ _ _ _ _ _ _ _ put in
-    IsSound-inserted g.E.Ord.cmp g.met.E.Ord.total g.K.ExpiredKey.expires g.K.ExpiredKey.order c.args.self.now _ c.args.time kept sound (c.args.key, c.args.val) c.requires.lawful c.requires.new_key live c.put.new.entries.items c.in-Err.at c.in_ok-added.added at_most few put parted
+    let put = c.in_ok-filled.ensures.ok in
+    IsSound-inserted g.E.Ord.cmp g.met.E.Ord.total g.K.ExpiredKey.expires g.K.ExpiredKey.order c.args.self.now _ c.args.time kept sound (c.args.key, c.args.val) c.requires.lawful c.requires.new_key live c.put.new.entries.items c.in-Err.at c.in_ok-filled.filled put parted
 
 pub returns-clause-ok : goal.returns-clause-ok
 returns-clause-ok g c =
@@ -77,10 +75,8 @@ returns-clause-ok g c =
     (rw c.deref-2.ensures.value at c.in-Err.ensures.parted) (λ k. g.K.ExpiredKey.order k c.args.key) (λ i d h r e. search rules)
     (monotone g.E.Ord.cmp g.met.E.Ord.total g.K.ExpiredKey.expires g.K.ExpiredKey.order c.args.self.now _ c.args.time kept sound (c.args.key, c.args.val) c.requires.lawful)
     (parted_by g.E.Ord.cmp g.met.E.Ord.total g.K.ExpiredKey.expires g.K.ExpiredKey.order c.args.self.now _ c.args.time kept sound (c.args.key, c.args.val) c.requires.in_time same c.args.place c.requires.below c.requires.above _ _ from_is end_is) in
-    let at_most : c.in-Err.at ≤ length c.self.inside.entries.items = omega (arith, c.in-Err.ensures.within.1, inside) in
-    let put = c.in_ok-added.ensures.ok in
-    let few = few-put _ _ _ _ _ _ _ _ put in
-    IsInserted-row g.E.Ord.cmp g.met.E.Ord.total g.K.ExpiredKey.expires g.K.ExpiredKey.order c.args.self.now _ c.args.time kept sound (c.args.key, c.args.val) c.requires.lawful c.requires.new_key live c.put.new.entries.items c.in-Err.at c.in_ok-added.added at_most few put parted
+    let put = c.in_ok-filled.ensures.ok in
+    IsInserted-row g.E.Ord.cmp g.met.E.Ord.total g.K.ExpiredKey.expires g.K.ExpiredKey.order c.args.self.now _ c.args.time kept sound (c.args.key, c.args.val) c.requires.lawful c.requires.new_key live c.put.new.entries.items c.in-Err.at c.in_ok-filled.filled put parted
 
 pub returns-clause-before : goal.returns-clause-before
 returns-clause-before g c =
@@ -88,15 +84,12 @@ returns-clause-before g c =
     let kept = rw (← c.self.view_is) at c.set_time.ensures.kept in
     let inside = rw c.deref.ensures.value at c.within-from.ensures.within in
     let from_is : c.within-from.result.from ≡ from_in (length c.args.self.now.entries) c.args.place = rw same at (rw c.deref.ensures.value at c.within-from.ensures.from) in
-    let at_most : c.in-Err.at ≤ length c.self.inside.entries.items = omega (arith, c.in-Err.ensures.within.1, inside) in
-    let put = c.in_ok-added.ensures.ok in
-    let few = few-put _ _ _ _ _ _ _ _ put in
+    let put = c.in_ok-filled.ensures.ok in
     let next = c.next_end.ensures in
-    let long = length-put _ _ _ _ _ _ _ _ at_most put in
     before_next g.E.Ord.cmp g.met.E.Ord.total g.K.ExpiredKey.expires c.args.self.now c.args.time c.requires.in_time c.args.place c.self.inside.latest_time kept.latest_time c.put.new.entries.items (c.self.inside.insertions + 1) c.within-from.result.from c.next_end.result
-    (next_beyond _ _ _ _ _ c.in-Err.ensures.within.0 c.in-Err.ensures.within.1 few next.one next.over next.over_end)
-    (next_within _ _ _ _ _ _ c.in-Err.ensures.within.1 inside long few (room-put _ _ _ _ _ _ _ _ put) next.one next.over next.over_end)
-    (take-put _ _ _ _ _ _ _ _ at_most put _ c.in-Err.ensures.within.0 ∙ rw (from_is, same) refl)
+    (next_beyond _ _ _ _ _ _ _ _ put _ _ _ c.in-Err.ensures.within.0 c.in-Err.ensures.within.1 next.within next.beyond)
+    (next_within _ _ _ _ _ _ _ _ put _ _ c.in-Err.ensures.within.1 inside next.within next.beyond)
+    (take-put _ _ _ _ _ _ _ _ put _ c.in-Err.ensures.within.0 ∙ rw (from_is, same) refl)
 
 pub returns-clause-after : goal.returns-clause-after
 returns-clause-after g c =
@@ -104,15 +97,12 @@ returns-clause-after g c =
     let kept = rw (← c.self.view_is) at c.set_time.ensures.kept in
     let inside = rw c.deref.ensures.value at c.within-from.ensures.within in
     let end_is : c.within-from.result.end ≡ end_in (length c.args.self.now.entries) c.args.place = rw same at (rw c.deref.ensures.value at c.within-from.ensures.end) in
-    let at_most : c.in-Err.at ≤ length c.self.inside.entries.items = omega (arith, c.in-Err.ensures.within.1, inside) in
-    let put = c.in_ok-added.ensures.ok in
-    let few = few-put _ _ _ _ _ _ _ _ put in
+    let put = c.in_ok-filled.ensures.ok in
     let next = c.next_end.ensures in
-    let long = length-put _ _ _ _ _ _ _ _ at_most put in
     after_next g.E.Ord.cmp g.met.E.Ord.total g.K.ExpiredKey.expires c.args.self.now c.args.time c.requires.in_time c.args.place c.self.inside.latest_time kept.latest_time c.put.new.entries.items (c.self.inside.insertions + 1) c.within-from.result.from c.next_end.result
-    (next_beyond _ _ _ _ _ c.in-Err.ensures.within.0 c.in-Err.ensures.within.1 few next.one next.over next.over_end)
-    (next_within _ _ _ _ _ _ c.in-Err.ensures.within.1 inside long few (room-put _ _ _ _ _ _ _ _ put) next.one next.over next.over_end)
-    (drop-put _ _ _ _ _ _ _ _ at_most put _ _ c.in-Err.ensures.within.1 next.one next.over next.over_end ∙ rw (end_is, same) refl)
+    (next_beyond _ _ _ _ _ _ _ _ put _ _ _ c.in-Err.ensures.within.0 c.in-Err.ensures.within.1 next.within next.beyond)
+    (next_within _ _ _ _ _ _ _ _ put _ _ c.in-Err.ensures.within.1 inside next.within next.beyond)
+    (drop-put _ _ _ _ _ _ _ _ put _ _ c.in-Err.ensures.within.1 next.within next.beyond ∙ rw (end_is, same) refl)
 
 pub returns-clause-sound : goal.returns-clause-sound
 returns-clause-sound g c = invariant_of-self-2 g c
@@ -120,14 +110,14 @@ returns-clause-sound g c = invariant_of-self-2 g c
 pub returns-then-not-is_gt-clause-err : goal.returns-then-not-is_gt-clause-err
 returns-then-not-is_gt-clause-err g c = tt
 
-pub returns-in_err-added-clause-ok : goal.returns-in_err-added-clause-ok
-returns-in_err-added-clause-ok g c = rw ((err_from_is_err_and c.from_residual.result c.from_residual.ensures.1).1) tt
+pub returns-in_err-filled-clause-ok : goal.returns-in_err-filled-clause-ok
+returns-in_err-filled-clause-ok g c = rw ((err_from_is_err_and c.from_residual.result c.from_residual.ensures.1).1) tt
 
-pub returns-in_err-added-clause-before : goal.returns-in_err-added-clause-before
-returns-in_err-added-clause-before g c = rw ((err_from_is_err_and c.from_residual.result c.from_residual.ensures.1).1) tt
+pub returns-in_err-filled-clause-before : goal.returns-in_err-filled-clause-before
+returns-in_err-filled-clause-before g c = rw ((err_from_is_err_and c.from_residual.result c.from_residual.ensures.1).1) tt
 
-pub returns-in_err-added-clause-after : goal.returns-in_err-added-clause-after
-returns-in_err-added-clause-after g c = rw ((err_from_is_err_and c.from_residual.result c.from_residual.ensures.1).1) tt
+pub returns-in_err-filled-clause-after : goal.returns-in_err-filled-clause-after
+returns-in_err-filled-clause-after g c = rw ((err_from_is_err_and c.from_residual.result c.from_residual.ensures.1).1) tt
 
 pub returns-clause-err : goal.returns-clause-err
 returns-clause-err g c = tt
@@ -137,8 +127,8 @@ returns-clause-cost g c =
     let same = rw (← c.self.view_is) at c.set_time.ensures.entries in
     rw same at (rw c.deref-2.ensures.value at c.search-found.ensures.cost)
 
-pub returns-in_err-added-clause-cost : goal.returns-in_err-added-clause-cost
-returns-in_err-added-clause-cost g c =
+pub returns-in_err-filled-clause-cost : goal.returns-in_err-filled-clause-cost
+returns-in_err-filled-clause-cost g c =
     let same = rw (← c.self.view_is) at c.set_time.ensures.entries in
     rw same at (rw c.deref-2.ensures.value at c.search-found.ensures.cost)
 
@@ -163,26 +153,20 @@ pub returns-then-not-is_gt-clause-sound : goal.returns-then-not-is_gt-clause-sou
 returns-then-not-is_gt-clause-sound g c =
     invariant_of-self g c
 
-pub invariant_of-self-in_err-added : goal.invariant_of-self-in_err-added
-invariant_of-self-in_err-added g c =
-    rw c.in_err-added.ensures.err (rw (← c.self.view_is) at c.set_time.ensures.sound)
+pub invariant_of-self-in_err-filled : goal.invariant_of-self-in_err-filled
+invariant_of-self-in_err-filled g c =
+    rw c.in_err-filled.ensures.err (rw (← c.self.view_is) at c.set_time.ensures.sound)
 
-pub returns-in_err-added-clause-sound : goal.returns-in_err-added-clause-sound
-returns-in_err-added-clause-sound g c =
-    invariant_of-self-in_err-added g c
+pub returns-in_err-filled-clause-sound : goal.returns-in_err-filled-clause-sound
+returns-in_err-filled-clause-sound g c =
+    invariant_of-self-in_err-filled g c
 
-pub returns-in_err-added-clause-err : goal.returns-in_err-added-clause-err
-returns-in_err-added-clause-err g c =
-    rw ((err_from_is_err_and c.from_residual.result c.from_residual.ensures.1).1, c.in_err-added.ensures.err) (rw (← c.self.view_is) at c.set_time.ensures.kept)
+pub returns-in_err-filled-clause-err : goal.returns-in_err-filled-clause-err
+returns-in_err-filled-clause-err g c =
+    rw ((err_from_is_err_and c.from_residual.result c.from_residual.ensures.1).1, c.in_err-filled.ensures.err) (rw (← c.self.view_is) at c.set_time.ensures.kept)
 
 pub search-found-requires-clause-order : goal.search-found-requires-clause-order
 search-found-requires-clause-order g c = c.within-from.ensures.order
 
 pub search-found-requires-clause-within : goal.search-found-requires-clause-within
 search-found-requires-clause-within g c = rw c.deref-2.ensures.value (rw c.deref.ensures.value at c.within-from.ensures.within)
-
-pub next_end-requires-clause-at : goal.next_end-requires-clause-at
-next_end-requires-clause-at g c = c.in-Err.ensures.within.1
-
-pub next_end-requires-clause-added : goal.next_end-requires-clause-added
-next_end-requires-clause-added g c = few-put _ _ _ _ _ _ _ _ c.in_ok-added.ensures.ok
