@@ -10,7 +10,7 @@ use Rattle.plane_base.specs.Views.{point_of}
 use Rattle.plane_base.proofs.Facts.Points.Orders.{point_less, before_is_less}
 use Rattle.segment_arrangement.specs.declared.graph.VisitState.{VisitState}
 use Rattle.segment_arrangement.specs.declared.graph.VisitState.TheVariants.{Skipped}
-use Rattle.contour_walk.specs.declared.spoke.Spoke.{Spoke}
+use Rattle.contour_walk.specs.declared.walk.spoke.Spoke.{Spoke}
 use Rattle.contour_walk.specs.Nearest.{Numbered}
 use Rattle.contour_walk.specs.NearestViews.{numbered}
 use Rattle.contour_walk.specs.LinearWalks.{is_left, near_end, other_end, spokes_from}

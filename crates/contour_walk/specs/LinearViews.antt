@@ -11,7 +11,7 @@ use Rattle.contour_walk.specs.Walks.{Border}
 use Rattle.contour_walk.specs.Nearest.{Numbered}
 use Rattle.contour_walk.specs.NearestViews.{numbered}
 use Rattle.contour_walk.specs.Extraction.{border_of_link, borders_of_links}
-use Rattle.contour_walk.specs.declared.spoke.Spoke.{Spoke}
+use Rattle.contour_walk.specs.declared.walk.spoke.Spoke.{Spoke}
 
 abbrev pub link_edges : {I D : Type 0} → (I → ℤ) → List (OverlayLink I D) → List Edge
 link_edges value links = map (link_edge_of value) links

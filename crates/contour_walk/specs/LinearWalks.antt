@@ -6,7 +6,7 @@ use Rattle.segment_arrangement.specs.declared.graph.VisitState.{VisitState}
 use Rattle.segment_arrangement.specs.declared.graph.VisitState.TheVariants.{Unvisited, Skipped, HoleVisited, HullVisited}
 use Rattle.contour_walk.specs.Walks.{Border, Contour, same_point, same_edge, between, without, next_point, walked, walk_from, is_same, top_link, left_by}
 use Rattle.contour_walk.specs.Nearest.{Numbered}
-use Rattle.contour_walk.specs.declared.course.Course.{Course}
+use Rattle.contour_walk.specs.declared.walk.course.Course.{Course}
 
 abbrev pub is_left : VisitState → Bool
 is_left Unvisited = true

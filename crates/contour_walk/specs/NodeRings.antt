@@ -4,8 +4,8 @@ use Rattle.plane_base.specs.Plane.{Point, Edge, turn}
 use Rattle.plane_base.specs.Views.{point_of}
 use Rattle.segment_arrangement.specs.declared.graph.VisitState.{VisitState}
 use Rattle.segment_arrangement.specs.declared.graph.VisitState.TheVariants.{Skipped}
-use Rattle.contour_walk.specs.declared.spoke.Spoke.{Spoke}
-use Rattle.contour_walk.specs.declared.rings.Ring.{Ring}
+use Rattle.contour_walk.specs.declared.walk.spoke.Spoke.{Spoke}
+use Rattle.contour_walk.specs.declared.walk.rings.Ring.{Ring}
 use Rattle.contour_walk.specs.LinearWalks.{is_left, StayPassed, spokes_from}
 use Rattle.contour_walk.specs.Nearest.{Numbered}
 use Rattle.contour_walk.specs.NearestViews.{numbered}

@@ -18,6 +18,8 @@ use plane_base::int::OverlayInt;
 use plane_base::point::IntPoint;
 use std::alloc::Global;
 
+pub(crate) mod shapes;
+
 /// Takes all contours out.
 pub(crate) fn clear<I: OverlayInt>(output: &mut FlatContoursBuffer<I>)
     ensures points { output.new.points.items ≡ [] }

@@ -10,6 +10,12 @@ use crate::contour_direction::ContourDirection;
 use crate::turning::Turned;
 use segment_arrangement::laws::{node_ring, points_have_rings, signs_sum_to_region};
 
+pub mod answers;
+pub mod binding;
+pub mod groups;
+pub mod hierarchy;
+pub mod loops;
+
 /// Walks pass each link of the boundary once, with the region on the left, or on the right where the output is clockwise.
 pub fn all_are_walked()
     ensures { AllAreWalked }

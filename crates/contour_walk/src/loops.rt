@@ -20,6 +20,9 @@ use plane_base::segment::is_same_point;
 use std::alloc::Global;
 use std::collections::BTreeMap;
 
+pub(crate) mod least;
+pub(crate) mod parted;
+
 /// The loops of a path, each cut out where the path comes back to a point that isn't cut out yet; what is left in the end is the last.
 /// Loops of fewer than three points are left out, and those whose area, rounded down, is below the minimum. `Memory` alone is refused.
 pub fn split_loops<I: OverlayInt>(

@@ -29,13 +29,13 @@ ghost use Rattle.contour_walk.specs.NearestViews.{numbered, IsNearest};
 ghost use Rattle.contour_walk.specs.ShapeViews.{contour_of, walks_of, ContoursAreWithin};
 ghost use Rattle.contour_walk.specs.Walks.{Border, same_point, far_end, is_same, top_link, between, walked};
 
-use crate::build_rings::rings_of;
 use crate::contour::{Contour, is_same};
-use crate::course::Course;
 use crate::nearest_vector::is_before;
-use crate::rings::{Rings, next_in_ring, place_in, ring_at, top_in_ring};
-use crate::spoke::{Spoke, is_left, places_at, spoke_at};
 use crate::turning::{Turned, half_turns, is_left as is_left_turn};
+use crate::walk::build_rings::rings_of;
+use crate::walk::course::Course;
+use crate::walk::rings::{Rings, next_in_ring, place_in, ring_at, top_in_ring};
+use crate::walk::spoke::{Spoke, is_left, places_at, spoke_at};
 use plane_base::fault::Fault;
 use plane_base::int::OverlayInt;
 use plane_base::point::IntPoint;
@@ -45,6 +45,14 @@ use segment_arrangement::graph::{OverlayGraph, VisitState};
 use segment_arrangement::link::OverlayLink;
 use segment_arrangement::overlay_rule::OverlayRule;
 use std::alloc::Global;
+
+pub(crate) mod build_rings;
+pub(crate) mod course;
+pub(crate) mod rings;
+mod sorting;
+pub mod spoke;
+pub mod spokes;
+mod ways;
 
 /// The link that is met first of those that a search has seen, and by how much one turns until then.
 #[derive(Clone, Copy, Debug)]

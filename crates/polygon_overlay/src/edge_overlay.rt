@@ -21,7 +21,7 @@ use plane_base::point::IntPoint;
 use segment_arrangement::builder::GraphBuilder;
 use segment_split::count::ShapeCountBoolean;
 use segment_split::data::OverlayEdgeData;
-use segment_split::held::Held;
+use segment_split::given::held::Held;
 use segment_split::solver::Solver;
 use std::alloc::Global;
 use tally::Tally;

@@ -22,7 +22,7 @@ use plane_base::fault::Fault;
 use plane_base::int::OverlayInt;
 use segment_arrangement::builder::GraphBuilder;
 use segment_split::count::ShapeCountBoolean;
-use segment_split::held::Held;
+use segment_split::given::held::Held;
 use segment_split::segment::Segment;
 use std::alloc::Global;
 use std::sync::ledger::{Blank, Ledger};

@@ -19,13 +19,13 @@ ghost use Rattle.polygon_overlay.specs.RuleLaws.{AlikeRulesAnswerAlike};
 ghost use Rattle.polygon_overlay.specs.VectorAnswers.{boundary_vectors};
 
 use crate::given_laws::held_winds_as_given;
-use contour_walk::answer_laws::{
+use contour_walk::laws::answers::{
     answers_are_orderly, answers_stand_on_ends, answers_wind, least_of_zero_keeps_all,
 };
-use contour_walk::binding_laws::corners_stay;
-use contour_walk::group_laws::groups_are_answered_alone;
+use contour_walk::laws::binding::corners_stay;
+use contour_walk::laws::groups::groups_are_answered_alone;
+use contour_walk::laws::loops::loops_keep_steps;
 use contour_walk::laws::{all_are_walked, anchors_are_sided, answer_winds, passing_winds};
-use contour_walk::loop_laws::loops_keep_steps;
 use plane_base::int::OverlayInt;
 use plane_base::segment_laws::whole_marks_stay;
 use segment_arrangement::laws::{
@@ -34,12 +34,12 @@ use segment_arrangement::laws::{
 };
 use segment_split::count::{ShapeCountBoolean, ShapeCountString};
 use segment_split::data::OverlayEdgeData;
+use segment_split::laws::spread::{marks_stand_along_their_edge, whole_meetings_keep_windings};
 use segment_split::laws::{
     groups_redraw_alone, one_pass_is_enough, passes_rearrange, redrawing_comes_to_rest,
     redrawing_is_stable, redrawing_passes_counts, redrawing_passes_overlays,
     redrawn_maps_are_balanced,
 };
-use segment_split::spread_laws::{marks_stand_along_their_edge, whole_meetings_keep_windings};
 
 /// New builders hold no contours, those made of sources hold theirs, and adders add to what is held.
 pub fn holding_goes_on()

@@ -18,7 +18,7 @@ use contour_walk::options::IntOverlayOptions;
 use plane_base::int::OverlayInt;
 use segment_arrangement::builder::GraphBuilder;
 use segment_split::count::ShapeCountBoolean;
-use segment_split::held::Held;
+use segment_split::given::held::Held;
 use segment_split::solver::Solver;
 use std::alloc::Global;
 

@@ -23,11 +23,11 @@ ghost use Rattle.polygon_overlay.specs.Overlays.{redrawn_of, AnswersAreOverlays,
 
 pub(crate) mod flat;
 
-use contour_walk::answer_laws::{
+use contour_walk::extract::{BooleanExtractionBuffer, extract_shapes};
+use contour_walk::laws::answers::{
     answers_are_orderly, answers_are_short, answers_reach_least, answers_stand_on_ends,
     answers_wind,
 };
-use contour_walk::extract::{BooleanExtractionBuffer, extract_shapes};
 use contour_walk::options::IntOverlayOptions;
 use i_tree::Steps;
 use plane_base::fault::Fault;
@@ -38,11 +38,11 @@ use segment_arrangement::fill_rule::FillRule;
 use segment_arrangement::overlay_rule::OverlayRule;
 use segment_split::count::ShapeCountBoolean;
 use segment_split::data::OverlayEdgeData;
-use segment_split::held::Held;
+use segment_split::given::held::Held;
+use segment_split::laws::spread::whole_meetings_keep_windings;
 use segment_split::laws::{passes_rearrange, redrawing_comes_to_rest, redrawn_maps_are_balanced};
 use segment_split::segment::Segment;
 use segment_split::solver::Solver;
-use segment_split::spread_laws::whole_meetings_keep_windings;
 use std::alloc::Global;
 use std::sync::ledger::{Blank, Ledger};
 

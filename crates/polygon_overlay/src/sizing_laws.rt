@@ -5,12 +5,12 @@ ghost use Rattle.polygon_overlay.specs.SizingLaws.{MovedFillTheSized, RegionsSta
 
 use crate::given_laws::held_winds_as_given;
 use crate::laws::answers_stay_in_the_box;
-use contour_walk::answer_laws::{answers_are_orderly, answers_wind, least_of_zero_keeps_all};
-use contour_walk::binding_laws::{answer_has_all_walks, corners_stay};
+use contour_walk::laws::answers::{answers_are_orderly, answers_wind, least_of_zero_keeps_all};
+use contour_walk::laws::binding::{answer_has_all_walks, corners_stay};
 use segment_arrangement::laws::filled_is_bounded;
 use segment_split::count::ShapeCountBoolean;
+use segment_split::laws::spread::{redrawn_of_rectilinear, whole_meetings_keep_windings};
 use segment_split::laws::{passes_rearrange, redrawing_comes_to_rest, redrawn_maps_are_balanced};
-use segment_split::spread_laws::{redrawn_of_rectilinear, whole_meetings_keep_windings};
 
 /// What the region of horizontal and vertical contours, moved in x and then in y, winds round more often than 0: the sized region.
 pub fn moved_fill_the_sized()

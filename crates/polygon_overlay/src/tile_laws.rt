@@ -4,12 +4,12 @@ ghost use Rattle.polygon_overlay.specs.TileLaws.{ClampedWindsAlike, AnswersStayR
 ghost use Rattle.polygon_overlay.specs.TileLaws.{GridsAreTiles, TilesUnite};
 
 use crate::given_laws::held_winds_as_given;
-use contour_walk::answer_laws::{answers_are_orderly, answers_wind};
-use contour_walk::binding_laws::corners_stay;
+use contour_walk::laws::answers::{answers_are_orderly, answers_wind};
+use contour_walk::laws::binding::corners_stay;
 use segment_arrangement::laws::filled_is_bounded;
 use segment_split::count::ShapeCountBoolean;
+use segment_split::laws::spread::{redrawn_of_rectilinear, whole_meetings_keep_windings};
 use segment_split::laws::{passes_rearrange, redrawing_comes_to_rest, redrawn_maps_are_balanced};
-use segment_split::spread_laws::{redrawn_of_rectilinear, whole_meetings_keep_windings};
 
 /// A contour whose steps keep to a tile, each of its points clamped into the tile, winds there round each rational point as before, and
 /// round no other.

@@ -25,7 +25,7 @@ use segment_arrangement::builder::GraphBuilder;
 use segment_arrangement::fill_rule::FillRule;
 use segment_split::count::ShapeCountBoolean;
 use segment_split::data::OverlayEdgeData;
-use segment_split::held::Held;
+use segment_split::given::held::Held;
 use segment_split::segment::Segment;
 use segment_split::solver::Solver;
 use std::alloc::Global;

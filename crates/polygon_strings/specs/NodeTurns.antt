@@ -6,8 +6,8 @@ use Rattle.segment_arrangement.specs.declared.graph.VisitState.{VisitState}
 use Rattle.segment_arrangement.specs.declared.graph.VisitState.TheVariants.{Unvisited, Skipped}
 use Rattle.segment_arrangement.specs.declared.link.OverlayLink.{OverlayLink}
 use Rattle.contour_walk.specs.NodeRings.{AreRound, place_after}
-use Rattle.contour_walk.specs.declared.spoke.Spoke.{Spoke}
-use Rattle.contour_walk.specs.declared.spokes.Spokes.{Spokes}
+use Rattle.contour_walk.specs.declared.walk.spoke.Spoke.{Spoke}
+use Rattle.contour_walk.specs.declared.walk.spokes.Spokes.{Spokes}
 use Rattle.polygon_strings.specs.ClipWalks.{link_edges}
 use Rattle.polygon_strings.specs.SliceWalks.{has_halves}
 

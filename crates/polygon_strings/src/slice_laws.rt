@@ -2,8 +2,8 @@
 
 ghost use Rattle.polygon_strings.specs.SliceLaws.{HalvesGoOn, SliceWalksWind, PiecesWind};
 
+use contour_walk::laws::loops::{long_loops_wind, loops_keep_steps, loops_repeat_no_point};
 use contour_walk::laws::{all_are_walked, answer_winds};
-use contour_walk::loop_laws::{long_loops_wind, loops_keep_steps, loops_repeat_no_point};
 use segment_arrangement::laws::{points_have_rings, sectors_are_whole};
 
 /// On each half of a string map follows a half, which is met first on turning through the filled side.

@@ -51,7 +51,7 @@ use plane_base::int::OverlayInt;
 use plane_base::point::IntPoint;
 use plane_base::segment::XSegment;
 use segment_split::count::ShapeCountBoolean;
-use segment_split::guesses::Guesses;
+use segment_split::lines::guesses::Guesses;
 use segment_split::lines::place_set::PlaceSet;
 use segment_split::segment::Segment;
 use std::alloc::Global;

@@ -8,7 +8,7 @@ use Rattle.plane_base.specs.Plane.{Edge}
 use Rattle.segment_split.specs.StepBounds.{all_values, buckets_over, share_bucket, share_point, x_range, y_range}
 use Rattle.segment_split.specs.MarkLists.{IsAt}
 use Rattle.segment_split.specs.Rows.{is_old}
-use Rattle.segment_split.specs.declared.roads.buckets.passed.Passed.{Passed}
+use Rattle.segment_split.specs.declared.pairs.buckets.passed.Passed.{Passed}
 
 -- the buckets of y of all edges
 abbrev pub y_buckets : List Edge → Buckets

@@ -15,7 +15,7 @@ use Rattle.segment_split.specs.StepBounds.{most_pairs, pairs_in_passes, LooksAtF
 use Rattle.segment_split.specs.WholeLaws.{AllMeetWhole}
 use Rattle.segment_split.specs.declared.segment.Segment.{Segment}
 use Rattle.segment_split.specs.declared.solver.Solver.{Solver}
-use Rattle.segment_split.specs.declared.split.Passed.{Passed}
+use Rattle.segment_split.specs.declared.pass.Passed.{Passed}
 
 -- by what a map is redrawn
 pub record Work (C D : Type 0) : Type 0 where

@@ -9,7 +9,7 @@ use Rattle.i_tree.specs.Steps.{Counts}
 use Rattle.plane_base.specs.Plane.{Point, Edge}
 use Rattle.plane_base.specs.Crossing.{Marks, no_marks, crosses_off_grid}
 use Rattle.plane_base.specs.WholeLaws.{MeetsWhole}
-use Rattle.segment_split.specs.declared.roads.rows.extents.Extent.{Extent}
+use Rattle.segment_split.specs.declared.pairs.rows.extents.Extent.{Extent}
 use Rattle.segment_split.specs.MarkLists.{LaidMark, IsAt, IsLaid, HasMark, IsFound}
 use Rattle.segment_split.specs.StepBounds.{x_range, share_point}
 

@@ -11,6 +11,9 @@ ghost use Rattle.segment_split.specs.RedrawLaws.{RedrawsToTheEnd, IsCountMap, ro
 ghost use Rattle.segment_split.specs.TurnLaws.{CutsInTurn};
 ghost use Rattle.segment_split.specs.declared.solver.Precision.{Precision};
 
+pub mod data;
+pub mod spread;
+
 /// A pass leaves a map, strictly sorted and without empty counts, that is balanced where it was, and for which no box
 /// of the ends has to grow. So do several, and so does redrawing.
 pub fn passes_rearrange<C>()

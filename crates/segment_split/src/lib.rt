@@ -6,25 +6,16 @@
 //! ones do not, and each of them shortens the segments.
 #![tactic(auto)]
 
-pub mod build;
-mod columns;
 pub mod count;
-mod cutting;
 pub mod data;
-pub mod data_laws;
-pub mod guesses;
-pub mod held;
+pub mod given;
 pub mod laws;
 pub mod lines;
+mod maps;
 mod mark;
-mod merge;
-mod normal;
-mod old;
-mod order;
-mod placing;
-mod roads;
+mod pairs;
+mod pass;
 pub mod segment;
-mod settling;
 pub mod solver;
+mod sort;
 pub mod split;
-pub mod spread_laws;

@@ -47,6 +47,7 @@ ghost use Rattle.segment_split.specs.declared.solver.Strategy.TheVariants as str
 pub(crate) mod bare;
 mod cut;
 mod ends;
+pub mod guesses;
 pub(crate) mod marked;
 pub mod place_set;
 mod status;
@@ -55,9 +56,9 @@ mod status;
 const TOO_MANY: usize = 1 << 31;
 
 use crate::count::{ShapeCountBoolean, WindingCount};
-use crate::guesses::Guesses;
-use crate::placing::SortRoom;
+use crate::lines::guesses::Guesses;
 use crate::segment::Segment;
+use crate::sort::placing::SortRoom;
 use cut::is_cut;
 use ends::{Left, SecondEnd, by_second_ends, next_end};
 use i_tree::Steps;

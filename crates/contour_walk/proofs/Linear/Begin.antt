@@ -22,7 +22,7 @@ use Rattle.contour_walk.specs.Walks.{Border, Contour, top_link}
 use Rattle.contour_walk.specs.Extraction.{border_of_link, borders_of_links, AreLinksFor}
 use Rattle.contour_walk.specs.WalkLaws.{borders}
 use Rattle.contour_walk.specs.LinearWalks.{is_left, left_of, walks_by, contour_within, left_by_within}
-use Rattle.contour_walk.specs.declared.course.Course.{Course}
+use Rattle.contour_walk.specs.declared.walk.course.Course.{Course}
 use Rattle.contour_walk.specs.LinearViews.{link_edges, link_borders, IsWalkable}
 use Rattle.contour_walk.proofs.Facts.Walks.Rings.{Each, Pairs, Alternates}
 use Rattle.contour_walk.proofs.Walks.Members.{each_from_all, pairs_from_all, all_from_each, all_pairs_from}

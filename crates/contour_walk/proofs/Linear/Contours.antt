@@ -5,7 +5,7 @@ use Rattle.plane_base.specs.Plane.{Point, Edge}
 use Rattle.contour_walk.specs.Walks.{Border, Contour, between, without, next_point, walked, walk_from, is_same, top_link, is_one_of, contour_edges, left_by}
 use Rattle.contour_walk.specs.LinearWalks.{left_after, walk_within, left_within, contour_by, walks_by_within, contour_within, left_by_within}
 use Rattle.contour_walk.specs.WalkLaws.{step_along}
-use Rattle.contour_walk.specs.declared.course.Course.{Course}
+use Rattle.contour_walk.specs.declared.walk.course.Course.{Course}
 use Rattle.contour_walk.proofs.Facts.Walks.Turns.{Has}
 use Rattle.contour_walk.proofs.Facts.Walks.Rings.{Spoke, spoke, IsWheel, Alternates, wheel_from, neighbour, wheels_either_way}
 use Rattle.contour_walk.proofs.Walks.Links.{AreLinks, kept_links, Along, one_goes}

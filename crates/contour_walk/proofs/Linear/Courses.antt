@@ -5,7 +5,7 @@ use Rattle.contour_walk.specs.Walks.{Border, Contour, walk_from, is_same, contou
 use Rattle.contour_walk.specs.WalkLaws.{step_along, walk_along}
 use Rattle.contour_walk.specs.LinearWalks.{contour_by, walks_by_within, walks_by}
 use Rattle.contour_walk.specs.Parted.{region_walks_within, region_walks}
-use Rattle.contour_walk.specs.declared.course.Course.{Course}
+use Rattle.contour_walk.specs.declared.walk.course.Course.{Course}
 
 module _ (output : Bool) where
   abbrev kinds : Course

@@ -12,8 +12,8 @@ use Rattle.plane_base.proofs.Facts.Points.Turns.{Place, place, a_turn, coordinat
 use Rattle.plane_base.proofs.Facts.Columns.Order.{before_of_order}
 use Rattle.segment_arrangement.proofs.Facts.Angles.{left_through}
 use Rattle.segment_arrangement.specs.declared.graph.VisitState.{VisitState}
-use Rattle.contour_walk.specs.declared.rings.Ring.{Ring}
-use Rattle.contour_walk.specs.declared.spoke.Spoke.{Spoke}
+use Rattle.contour_walk.specs.declared.walk.rings.Ring.{Ring}
+use Rattle.contour_walk.specs.declared.walk.spoke.Spoke.{Spoke}
 use Rattle.contour_walk.specs.Nearest.{Numbered}
 use Rattle.contour_walk.specs.NearestViews.{numbered}
 use Rattle.contour_walk.specs.LinearWalks.{spokes_from}

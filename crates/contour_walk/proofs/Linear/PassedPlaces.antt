@@ -4,7 +4,7 @@ use Rattle.std.proofs.lemmas.Bool.{cases_lt, cases_order, false≢true}
 use Rattle.std.proofs.lemmas.List.{get_or-set_same, get_or-set_other, get_or_default}
 use Rattle.segment_arrangement.specs.declared.graph.VisitState.{VisitState}
 use Rattle.segment_arrangement.specs.declared.graph.VisitState.TheVariants.{Skipped}
-use Rattle.contour_walk.specs.declared.spoke.Spoke.{Spoke}
+use Rattle.contour_walk.specs.declared.walk.spoke.Spoke.{Spoke}
 use Rattle.contour_walk.specs.LinearWalks.{is_left}
 use Rattle.contour_walk.specs.NodeRings.{IsPassed, IsLeftAt, LeadAhead, LeadBack, IsBefore, IsNextPlace}
 

@@ -8,8 +8,8 @@ use Rattle.plane_base.specs.Plane.{Point, Edge, turn, is_before}
 use Rattle.plane_base.specs.Views.{point_of}
 use Rattle.segment_arrangement.specs.declared.graph.VisitState.{VisitState}
 use Rattle.segment_arrangement.specs.declared.graph.VisitState.TheVariants.{Skipped}
-use Rattle.contour_walk.specs.declared.rings.Ring.{Ring}
-use Rattle.contour_walk.specs.declared.spoke.Spoke.{Spoke}
+use Rattle.contour_walk.specs.declared.walk.rings.Ring.{Ring}
+use Rattle.contour_walk.specs.declared.walk.spoke.Spoke.{Spoke}
 use Rattle.contour_walk.specs.Nearest.{Numbered, nearest}
 use Rattle.contour_walk.specs.NearestViews.{numbered}
 use Rattle.contour_walk.specs.LinearViews.{id_if_any}

@@ -17,8 +17,8 @@ ghost use Rattle.contour_walk.specs.Vectors.{vector_along, vector_contour, vecto
 ghost use Rattle.contour_walk.specs.VectorViews.{LinksRise, IsLinked, AreLinked, IsOfLink};
 
 use crate::contour::point_after;
-use crate::spoke::places_of;
 use crate::vector::edge::{DataVectorEdge, DataVectorPath, DataVectorShape, reverse};
+use crate::walk::spoke::places_of;
 use plane_base::fault::Fault;
 use plane_base::int::OverlayInt;
 use plane_base::path::{IntContour, IntShape};

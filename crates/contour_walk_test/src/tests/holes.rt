@@ -7,7 +7,7 @@ ghost use Rattle.contour_walk.specs.ShapeViews.{shapes_of};
 ghost use Rattle.contour_walk_test.specs.ScatteredHoles.{three_squares, four_holes, framed_square, hole_above, apart_squares, holes_outside};
 
 use super::contours_from;
-use contour_walk::join_holes::JoinHoles;
+use contour_walk::bind::join_holes::JoinHoles;
 use plane_base::fault::Fault;
 use plane_base::path::{IntPath, IntShape, IntShapes};
 use plane_base::point::IntPoint;

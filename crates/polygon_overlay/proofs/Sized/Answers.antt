@@ -29,7 +29,7 @@ use Rattle.contour_walk.specs.Walks.{is_same}
 use Rattle.contour_walk.specs.WalkLaws.{border_of, borders, step_along, contour_steps, PassAll}
 use Rattle.polygon_overlay.specs.Builders.{IsHeld}
 use Rattle.polygon_overlay.specs.OverlayLaws.{overlay_of}
-use Rattle.polygon_overlay.proofs.TallyLaws.{AllPairs-map}
+use Rattle.polygon_overlay.proofs.Holding.TallyLaws.{AllPairs-map}
 use Rattle.polygon_overlay.proofs.Tiles.Steps.{at_most}
 use Rattle.polygon_overlay.proofs.Tiles.Straight.{arranged, told, are_finished, redrawn_straight, full_straight, is_thinned}
 use Rattle.polygon_overlay.proofs.Sized.Terms.{just_at, crossing, is_under, has_begun, column_of, row_over, falls_past, climbs_past, right_past, left_past, PassOneByOne, PassOneByOneUp}

@@ -27,7 +27,7 @@ use Rattle.polygon_overlay.specs.FlatCalls.{flat_overlay_of}
 use Rattle.polygon_overlay.specs.OverlayLaws.{overlay_of}
 use Rattle.polygon_overlay.specs.Overlays.{redrawn_of}
 use Rattle.polygon_overlay.specs.SizingLaws.{RegionsStayInTheBox}
-use Rattle.polygon_overlay.proofs.ArrangementLaws.{redrawn_arrangement}
+use Rattle.polygon_overlay.proofs.Answering.ArrangementLaws.{redrawn_arrangement}
 
 zero_least : (n : ℕ) → nat_le 0 n ≡ true
 zero_least zero = refl

@@ -11,7 +11,7 @@ use Rattle.polygon_overlay.specs.Calls.{AreInRange}
 use Rattle.polygon_overlay.specs.Sizing.{Amounts, moved_across, moved_up, moved}
 use Rattle.polygon_overlay.specs.SizingCalls.{HasRoom, HasRoomInTurn, HasRoomAlong, StaysInRange, StaysInTurn, Fits, FitsInTurn}
 use Rattle.polygon_overlay.specs.SizingLaws.{IsRegionOf, IsMovedTo, RegionsStayInTheBox}
-use Rattle.polygon_overlay.proofs.EndLaws.{BothEnds, steps_between}
+use Rattle.polygon_overlay.proofs.Boxing.EndLaws.{BothEnds, steps_between}
 
 pub both_hold : (P Q R : Point → Type 0) → ((p : Point) → P p → Q p → R p) → (cs : List (List Point)) → All (All P) cs → All (All Q) cs → All (All R) cs
 both_hold P Q R f cs h k i d l j e m = f (get_or (get_or cs i d) j e) (h i d l j e m) (k i d l j e m)

@@ -28,7 +28,7 @@ use Rattle.polygon_overlay.specs.Overlays.{once, redrawn_of}
 use Rattle.polygon_overlay.specs.Sizing.{Amounts, IsSizedAcross, IsSizedUp, IsSized, IsFilledBy, exchanged, moved_across, moved_up, moved}
 use Rattle.polygon_overlay.specs.SizingLaws.{HoldsAlone, IsRegionOf, AreMoved, Tells, FillJust, MovedFillTheSized, SizedIsTheNeighbourhood}
 use Rattle.polygon_overlay.specs.Tiles.{AreRectilinear}
-use Rattle.polygon_overlay.proofs.ArrangementLaws.{redrawn_arrangement}
+use Rattle.polygon_overlay.proofs.Answering.ArrangementLaws.{redrawn_arrangement}
 use Rattle.polygon_overlay.proofs.Tiles.Regions.{answer_winds}
 use Rattle.polygon_overlay.proofs.Tiles.Straight.{keys_straight, held_meets_whole, answers_stay_rectilinear}
 use Rattle.polygon_overlay.proofs.Sized.Across.{across_has_places}

@@ -25,8 +25,8 @@ use Rattle.polygon_overlay.specs.Overlays.{redrawn_of}
 use Rattle.polygon_overlay.specs.OverlayLaws.{HoldsContours, overlay_of}
 use Rattle.polygon_overlay.specs.Tiles.{in_tile, clamped, KeepsTo, straight, AreRectilinear}
 use Rattle.polygon_overlay.specs.TileLaws.{TilesAnswerTheirRegion}
-use Rattle.polygon_overlay.proofs.AgreementLaws.{winds_as_contours}
-use Rattle.polygon_overlay.proofs.ArrangementLaws.{redrawn_arrangement}
+use Rattle.polygon_overlay.proofs.Relating.AgreementLaws.{winds_as_contours}
+use Rattle.polygon_overlay.proofs.Answering.ArrangementLaws.{redrawn_arrangement}
 use Rattle.polygon_overlay.proofs.Tiles.Contours.{all_clamped}
 use Rattle.polygon_overlay.proofs.Tiles.Straight.{contours_clamped, held_meets_whole, both_straight}
 

@@ -41,9 +41,9 @@ use Rattle.polygon_overlay.specs.Overlays.{redrawn_of, MeetsWhole}
 use Rattle.polygon_overlay.specs.OverlayLaws.{HoldsContours}
 use Rattle.polygon_overlay.specs.Tiles.{clamped_point, clamped, AreRectilinear}
 use Rattle.polygon_overlay.specs.TileLaws.{AnswersStayRectilinear}
-use Rattle.polygon_overlay.proofs.AreaLaws.{all_mapped}
-use Rattle.polygon_overlay.proofs.ArrangementLaws.{redrawn_arrangement}
-use Rattle.polygon_overlay.proofs.ReturnLaws.{as_contour, pass_once, in_place_some}
+use Rattle.polygon_overlay.proofs.Answering.AreaLaws.{all_mapped}
+use Rattle.polygon_overlay.proofs.Answering.ArrangementLaws.{redrawn_arrangement}
+use Rattle.polygon_overlay.proofs.Returning.ReturnLaws.{as_contour, pass_once, in_place_some}
 use Rattle.polygon_overlay.proofs.Tiles.Steps.{rectilinear, is_horizontal, is_vertical, straight_back, straight_clamped}
 use Rattle.polygon_overlay.proofs.Tiles.ThinnedSteps.{thinned_steps}
 

@@ -30,7 +30,7 @@ use Rattle.polygon_overlay.specs.OverlayLaws.{overlay_of}
 use Rattle.polygon_overlay.specs.TileGrids.{AreTilesOf}
 use Rattle.polygon_overlay.specs.Tiles.{in_tile, IsTile, clamped, AreRectilinear}
 use Rattle.polygon_overlay.specs.TileLaws.{HoldTiles, answers_of, TilesUnite, TilesAnswerTheirRegion, AnswersStayRectilinear}
-use Rattle.polygon_overlay.proofs.ReturnLaws.{once_is_filled}
+use Rattle.polygon_overlay.proofs.Returning.ReturnLaws.{once_is_filled}
 use Rattle.polygon_overlay.proofs.Tiles.Contours.{off_tile}
 use Rattle.polygon_overlay.proofs.Tiles.Grids.{Any-cases}
 use Rattle.polygon_overlay.proofs.Tiles.Regions.{region_alike, answer_winds, tiles_answer_their_region}

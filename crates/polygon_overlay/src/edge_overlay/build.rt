@@ -20,7 +20,7 @@ use plane_base::int::OverlayInt;
 use segment_arrangement::builder::GraphBuilder;
 use segment_split::count::{ShapeCountBoolean, ShapeType};
 use segment_split::data::OverlayEdgeData;
-use segment_split::held::Held;
+use segment_split::given::held::Held;
 use segment_split::solver::Solver;
 use std::alloc::Global;
 

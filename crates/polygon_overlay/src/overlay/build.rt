@@ -17,7 +17,7 @@ use plane_base::point::IntPoint;
 use plane_base::resource::IntShapeResource;
 use segment_arrangement::builder::GraphBuilder;
 use segment_split::count::{ShapeCountBoolean, ShapeType};
-use segment_split::held::Held;
+use segment_split::given::held::Held;
 use segment_split::solver::Solver;
 use std::alloc::Global;
 

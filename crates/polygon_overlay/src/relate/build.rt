@@ -17,7 +17,7 @@ use plane_base::resource::IntShapeResource;
 use segment_arrangement::fill_rule::FillRule;
 use segment_arrangement::sweep::SweepRunner;
 use segment_split::count::ShapeType;
-use segment_split::held::Held;
+use segment_split::given::held::Held;
 use segment_split::solver::Solver;
 use std::alloc::Global;
 

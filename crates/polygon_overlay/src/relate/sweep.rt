@@ -16,7 +16,7 @@ use plane_base::int::OverlayInt;
 use segment_arrangement::fill_rule::FillRule;
 use segment_arrangement::sweep::SweepRunner;
 use segment_split::count::ShapeCountBoolean;
-use segment_split::held::Held;
+use segment_split::given::held::Held;
 use segment_split::solver::Solver;
 use std::sync::ledger::{Blank, Ledger};
 

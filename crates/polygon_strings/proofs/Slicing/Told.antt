@@ -14,8 +14,8 @@ use Rattle.contour_walk.specs.LinearWalks.{is_left, near_end, other_end}
 use Rattle.contour_walk.specs.NodeRings.{AreRound, place_after}
 use Rattle.contour_walk.specs.Turning.{is_met_before}
 use Rattle.contour_walk.specs.Walks.{far_end}
-use Rattle.contour_walk.specs.declared.spoke.Spoke.{Spoke}
-use Rattle.contour_walk.specs.declared.spokes.Spokes.{Spokes}
+use Rattle.contour_walk.specs.declared.walk.spoke.Spoke.{Spoke}
+use Rattle.contour_walk.specs.declared.walk.spokes.Spokes.{Spokes}
 use Rattle.contour_walk.proofs.Facts.Walks.Turns.{Turns, Has}
 use Rattle.contour_walk.proofs.RoundNodes.{after_inside, stands, found, follows}
 use Rattle.contour_walk.proofs.Walks.Members.{each_from_all, has_from_contains}

@@ -12,7 +12,7 @@ use contour_walk::options::IntOverlayOptions;
 use plane_base::int::OverlayInt;
 use segment_arrangement::builder::GraphBuilder;
 use segment_split::count::ShapeCountString;
-use segment_split::held::Held;
+use segment_split::given::held::Held;
 use std::alloc::Global;
 
 /// Takes the contours of a shape, and strings that run over it: lines, open paths and closed contours.

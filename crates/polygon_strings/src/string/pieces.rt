@@ -17,8 +17,8 @@ ghost use Rattle.contour_walk.specs.Walks.{Border, same_point};
 ghost use Rattle.polygon_strings.specs.Slices.{runs_left, is_outline, pieces};
 ghost use Rattle.polygon_strings.specs.SliceWalks.{AreApart, start_of, end_of};
 
-use contour_walk::join_holes::JoinHoles;
-use contour_walk::loop_laws::loops_keep_steps;
+use contour_walk::bind::join_holes::JoinHoles;
+use contour_walk::laws::loops::loops_keep_steps;
 use contour_walk::loops::split_loops;
 use plane_base::fault::Fault;
 use plane_base::int::OverlayInt;

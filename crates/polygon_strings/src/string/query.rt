@@ -24,7 +24,7 @@ use segment_arrangement::builder::GraphBuilder;
 use segment_arrangement::clip_rule::ClipRule;
 use segment_arrangement::fill_rule::FillRule;
 use segment_split::count::ShapeCountString;
-use segment_split::held::Held;
+use segment_split::given::held::Held;
 use segment_split::laws::{passes_rearrange, redrawing_comes_to_rest};
 use segment_split::solver::Solver;
 use std::alloc::Global;

@@ -16,7 +16,7 @@ ghost use Rattle.polygon_strings.specs.ClipWalks.{link_edges, IsWalkable};
 ghost use Rattle.polygon_strings.specs.NodeTurns.{half_state, half_states, AreTurns, IsTold};
 
 use crate::string::slice_walk::{end_of, has_halves};
-use contour_walk::spokes::Spokes;
+use contour_walk::walk::spokes::Spokes;
 use plane_base::fault::Fault;
 use plane_base::int::OverlayInt;
 use plane_base::point::IntPoint;

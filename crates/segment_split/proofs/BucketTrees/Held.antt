@@ -15,7 +15,7 @@ use Rattle.segment_split.specs.StepBounds.{y_range}
 use Rattle.segment_split.specs.MarkLists.{IsAt}
 use Rattle.segment_split.specs.Rows.{is_old}
 use Rattle.segment_split.specs.BucketTrees.{y_buckets, nth_edge, insertion_of, insertions_to, reaching, Holds, HoldAll}
-use Rattle.segment_split.specs.declared.roads.buckets.passed.Passed.{Passed}
+use Rattle.segment_split.specs.declared.pairs.buckets.passed.Passed.{Passed}
 use Rattle.plane_base.proofs.Facts.Points.AlongOrder.{up_through}
 
 -- ---- times

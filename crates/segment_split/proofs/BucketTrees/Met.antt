@@ -18,7 +18,7 @@ use Rattle.segment_split.specs.StepBounds.{x_range, y_range, share_point, share_
 use Rattle.segment_split.specs.MarkLists.{IsAt}
 use Rattle.segment_split.specs.Rows.{is_old}
 use Rattle.segment_split.specs.BucketTrees.{y_buckets, nth_edge, insertion_of, insertions_to, reaching, Holds, met_in, HasNumber, comes_to, met_before}
-use Rattle.segment_split.specs.declared.roads.buckets.passed.Passed.{Passed}
+use Rattle.segment_split.specs.declared.pairs.buckets.passed.Passed.{Passed}
 use Rattle.segment_split.proofs.Passes.PairCounts.{one_if}
 use Rattle.segment_split.proofs.Rows.Bounds.{at_most}
 

@@ -15,7 +15,7 @@ use Rattle.segment_split.specs.StepBounds.{x_range, y_range, share_point, share_
 use Rattle.segment_split.specs.MarkLists.{LaidMark, IsAt, SkipsOld}
 use Rattle.segment_split.specs.Rows.{Finds, is_old}
 use Rattle.segment_split.specs.BucketTrees.{y_buckets, nth_edge, HasNumber, comes_to, Meets, met_before}
-use Rattle.segment_split.specs.declared.roads.buckets.passed.Passed.{Passed}
+use Rattle.segment_split.specs.declared.pairs.buckets.passed.Passed.{Passed}
 use Rattle.plane_base.specs.declared.rounding.Rounding.{Rounding}
 use Rattle.plane_base.proofs.Facts.Crossings.Roundings.{unmarked_apart}
 use Rattle.segment_split.proofs.Passes.MarkLists.{at_same, at_contains, unmarked_past, old_none}

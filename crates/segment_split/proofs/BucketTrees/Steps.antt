@@ -12,7 +12,7 @@ use Rattle.segment_split.specs.StepBounds.{y_range, all_values}
 use Rattle.segment_split.specs.MarkLists.{IsAt}
 use Rattle.segment_split.specs.Rows.{is_old}
 use Rattle.segment_split.specs.BucketTrees.{y_buckets, nth_edge, insertion_of, Holds, HoldAll, met_in, HasNumber, comes_to, Meets, met_before}
-use Rattle.segment_split.specs.declared.roads.buckets.passed.Passed.{Passed}
+use Rattle.segment_split.specs.declared.pairs.buckets.passed.Passed.{Passed}
 use Rattle.segment_split.proofs.Passes.MarkLists.{at_contains, forward_x}
 use Rattle.segment_split.proofs.Passes.Columns.{LiesAmong, all_among}
 use Rattle.segment_split.proofs.Rows.Laws.{starts_near}

@@ -7,7 +7,7 @@ use Rattle.plane_base.specs.declared.fault.Fault.{Fault}
 use Rattle.segment_split.specs.Data.{without_data}
 use Rattle.segment_split.specs.Redraws.{Work, Listed, CanBeRedrawn, Redraws, Passes, IsBefore, IsPassedTo}
 use Rattle.segment_split.specs.SeenPasses.{IsPass}
-use Rattle.segment_split.specs.declared.split.Passed.{Passed}
+use Rattle.segment_split.specs.declared.pass.Passed.{Passed}
 use Rattle.segment_split.proofs.Passes.Skips.{none_old}
 use Rattle.segment_split.proofs.Redrawing.Looks.{none_before}
 use Rattle.segment_split.proofs.Redrawing.Loops.{next_within, next_normal, flag_early, not_raised}

@@ -8,7 +8,7 @@ use Rattle.std.proofs.lemmas.List.{get_or_past, get_or_append_left, get_or-set_s
 use Rattle.plane_base.specs.Plane.{Edge}
 use Rattle.segment_split.specs.MarkLists.{IsAt}
 use Rattle.segment_split.specs.Rows.{lowest_row, highest_row, is_old, extent_at, Covers, IsNear, AreExtentsTo, MeetsNew}
-use Rattle.segment_split.specs.declared.roads.rows.extents.Extent.{Extent}
+use Rattle.segment_split.specs.declared.pairs.rows.extents.Extent.{Extent}
 use Rattle.segment_split.proofs.Passes.MarkLists.{at_same}
 
 through : (x y z : ℤ) → x ≤ℤ y → y ≤ℤ z → x ≤ℤ z

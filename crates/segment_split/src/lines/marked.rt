@@ -18,7 +18,7 @@ use super::cut::is_cut;
 use super::ends::by_second_ends;
 use super::status::Key;
 use super::{lay_lines, lines_over};
-use crate::placing::SortRoom;
+use crate::sort::placing::SortRoom;
 use i_tree::Steps;
 use plane_base::fault::Fault;
 use plane_base::int::OverlayInt;

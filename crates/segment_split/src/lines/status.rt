@@ -23,8 +23,8 @@ ghost use Rattle.segment_split.specs.SecondEnds.{in_order, CanBeSwept, AreAllAt}
 use super::ends::{SecondEnd, last_at};
 use super::place_set::PlaceSet;
 use crate::count::{ShapeCountBoolean, WindingCount};
-use crate::cutting::lay_step;
-use crate::guesses::Guesses;
+use crate::lines::guesses::Guesses;
+use crate::maps::step::lay_step;
 use crate::segment::Segment;
 use plane_base::fault::Fault;
 use plane_base::int::OverlayInt;

@@ -4,10 +4,10 @@ use plane_base::fault::Fault;
 use plane_base::path::IntPath;
 use plane_base::point::IntPoint;
 use plane_base::range::all_in_range;
-use segment_split::build::{add_contour, add_edge, add_path, add_source};
 use segment_split::count::{
     STRING_BACK_CLIP, STRING_FORWARD_CLIP, ShapeCountBoolean, ShapeCountString, WindingCount,
 };
+use segment_split::given::build::{add_contour, add_edge, add_path, add_source};
 use segment_split::segment::Segment;
 use std::alloc::Global;
 use std::test::Fail;

@@ -9,7 +9,7 @@ use plane_base::path::IntPath;
 use plane_base::point::IntPoint;
 use plane_base::range::all_in_range;
 use segment_split::count::{ShapeCountBoolean, WindingCount};
-use segment_split::held::Held;
+use segment_split::given::held::Held;
 use segment_split::solver::Solver;
 use segment_split::split::can_be_split;
 use std::alloc::Global;

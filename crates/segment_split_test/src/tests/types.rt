@@ -8,7 +8,7 @@ use segment_split::count::{
     STRING_BACK_CLIP, STRING_FORWARD_CLIP, ShapeCountBoolean, ShapeCountString, WindingCount,
 };
 use segment_split::data::{EdgeDataMerge, EdgeDataSplit, OverlayEdgeData};
-use segment_split::guesses::Guesses;
+use segment_split::lines::guesses::Guesses;
 use segment_split::solver::{Precision, Solver, Strategy, precisions_are_these, solvers_are_these};
 use std::test::Fail;
 

@@ -8,8 +8,8 @@ use Rattle.segment_arrangement.specs.LinkViews.{link_edge_of}
 use Rattle.segment_arrangement.specs.declared.graph.VisitState.{VisitState}
 use Rattle.segment_arrangement.specs.declared.link.OverlayLink.{OverlayLink}
 use Rattle.segment_arrangement.specs.declared.node.OverlayNode.{OverlayNode}
-use Rattle.contour_walk.specs.declared.rings.Ring.{Ring}
-use Rattle.contour_walk.specs.declared.spoke.Spoke.{Spoke}
+use Rattle.contour_walk.specs.declared.walk.rings.Ring.{Ring}
+use Rattle.contour_walk.specs.declared.walk.spoke.Spoke.{Spoke}
 use Rattle.contour_walk.specs.LinearViews.{link_edges, IsWalkable, id_if_any}
 use Rattle.contour_walk.specs.LinearWalks.{spokes_from, top_of}
 use Rattle.contour_walk.specs.Nearest.{Numbered}

@@ -1,4 +1,4 @@
-use Rattle.polygon_overlay.proofs.GivenWindingLaws.{held_winds_as_given}
+use Rattle.polygon_overlay.proofs.Holding.GivenWindingLaws.{held_winds_as_given}
 use Rattle.polygon_overlay.proofs.given_laws.held_winds_as_given.Goals as goal
 
 pub returns : goal.returns

@@ -3,8 +3,8 @@ use Rattle.std.proofs.lemmas.Result.{err_from_is_err_and}
 use Rattle.segment_split.specs.Holdings.{holding}
 use Rattle.segment_split.proofs.Facts.Adding.Laws.{if_answered, if_refused}
 use Rattle.polygon_overlay.specs.Overlays.{IsSweepRefused, IsQueryRefused}
-use Rattle.polygon_overlay.proofs.HoldingLaws.{goes_through}
-use Rattle.polygon_overlay.proofs.QueryLaws.{not_swept}
+use Rattle.polygon_overlay.proofs.Holding.HoldingLaws.{goes_through}
+use Rattle.polygon_overlay.proofs.Answering.QueryLaws.{not_swept}
 use Rattle.polygon_overlay.proofs.hierarchies.find_hierarchy.Goals as goal
 
 pub returns-in_err-redraw-clause-refused : goal.returns-in_err-redraw-clause-refused

@@ -9,7 +9,7 @@ use Rattle.contour_walk.specs.HierarchyViews.{flat_shapes_of}
 use Rattle.contour_walk.specs.WalkLaws.{borders}
 use Rattle.polygon_overlay.specs.Builders.{IsHeld}
 use Rattle.polygon_overlay.specs.Overlays.{redrawn_of, IsSweepRefused}
-use Rattle.polygon_overlay.proofs.HeldLaws.{nothing_held}
+use Rattle.polygon_overlay.proofs.Holding.HeldLaws.{nothing_held}
 use Rattle.polygon_overlay.proofs.hierarchies.hierarchy_of_redrawn.Goals as goal
 
 pub hierarchy_of_arrangement-found-requires-clause-in_range : goal.hierarchy_of_arrangement-found-requires-clause-in_range

@@ -1,4 +1,4 @@
-use Rattle.polygon_overlay.proofs.AlikeLaws.{alike_rules_answer_alike}
+use Rattle.polygon_overlay.proofs.Exchanging.AlikeLaws.{alike_rules_answer_alike}
 use Rattle.polygon_overlay.proofs.laws.alike_rules_answer_alike.Goals as goal
 
 pub returns : goal.returns

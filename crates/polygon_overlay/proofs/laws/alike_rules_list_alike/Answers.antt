@@ -1,4 +1,4 @@
-use Rattle.polygon_overlay.proofs.AlikeLaws.{listed_alike}
+use Rattle.polygon_overlay.proofs.Exchanging.AlikeLaws.{listed_alike}
 use Rattle.polygon_overlay.proofs.laws.alike_rules_list_alike.Goals as goal
 
 pub returns : goal.returns

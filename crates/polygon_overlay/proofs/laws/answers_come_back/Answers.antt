@@ -1,5 +1,5 @@
 use Rattle.plane_base.specs.Counts.{boolean}
-use Rattle.polygon_overlay.proofs.ReturnLaws.{answers_come_back}
+use Rattle.polygon_overlay.proofs.Returning.ReturnLaws.{answers_come_back}
 use Rattle.polygon_overlay.proofs.laws.answers_come_back.Goals as goal
 
 pub returns : goal.returns

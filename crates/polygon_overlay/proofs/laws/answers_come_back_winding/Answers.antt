@@ -1,5 +1,5 @@
 use Rattle.plane_base.specs.Counts.{boolean}
-use Rattle.polygon_overlay.proofs.WindingAgainLaws.{answers_come_back_winding}
+use Rattle.polygon_overlay.proofs.Returning.WindingAgainLaws.{answers_come_back_winding}
 use Rattle.polygon_overlay.proofs.laws.answers_come_back_winding.Goals as goal
 
 pub returns : goal.returns

@@ -1,5 +1,5 @@
 use Rattle.plane_base.specs.Counts.{boolean}
-use Rattle.polygon_overlay.proofs.ContainLaws.{answers_contain}
+use Rattle.polygon_overlay.proofs.Nesting.ContainLaws.{answers_contain}
 use Rattle.polygon_overlay.proofs.laws.answers_contain.Goals as goal
 
 pub returns : goal.returns

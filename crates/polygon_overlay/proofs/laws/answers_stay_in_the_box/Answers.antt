@@ -1,5 +1,5 @@
 use Rattle.plane_base.specs.Counts.{boolean}
-use Rattle.polygon_overlay.proofs.BoxLaws.{answers_stay_in_the_box}
+use Rattle.polygon_overlay.proofs.Boxing.BoxLaws.{answers_stay_in_the_box}
 use Rattle.polygon_overlay.proofs.laws.answers_stay_in_the_box.Goals as goal
 
 pub returns : goal.returns

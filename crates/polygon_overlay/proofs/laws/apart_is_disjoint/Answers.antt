@@ -1,5 +1,5 @@
 use Rattle.plane_base.specs.Counts.{boolean}
-use Rattle.polygon_overlay.proofs.ApartLaws.{apart_is_disjoint}
+use Rattle.polygon_overlay.proofs.Relating.ApartLaws.{apart_is_disjoint}
 use Rattle.polygon_overlay.proofs.laws.apart_is_disjoint.Goals as goal
 
 pub returns : goal.returns

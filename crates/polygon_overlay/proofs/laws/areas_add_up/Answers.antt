@@ -1,5 +1,5 @@
 use Rattle.plane_base.specs.Counts.{boolean}
-use Rattle.polygon_overlay.proofs.AreaLaws.{areas_add_up}
+use Rattle.polygon_overlay.proofs.Answering.AreaLaws.{areas_add_up}
 use Rattle.polygon_overlay.proofs.laws.areas_add_up.Goals as goal
 
 pub returns : goal.returns

@@ -1,5 +1,5 @@
 use Rattle.plane_base.specs.Counts.{boolean}
-use Rattle.polygon_overlay.proofs.LoadLaws.{counts_never_leave_their_range}
+use Rattle.polygon_overlay.proofs.Holding.LoadLaws.{counts_never_leave_their_range}
 use Rattle.polygon_overlay.proofs.laws.counts_never_leave_their_range.Goals as goal
 
 pub returns : goal.returns

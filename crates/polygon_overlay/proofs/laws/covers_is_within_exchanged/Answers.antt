@@ -1,4 +1,4 @@
-use Rattle.polygon_overlay.proofs.RelationLaws.{covers_is_within_exchanged}
+use Rattle.polygon_overlay.proofs.Relating.RelationLaws.{covers_is_within_exchanged}
 use Rattle.polygon_overlay.proofs.laws.covers_is_within_exchanged.Goals as goal
 
 pub returns : goal.returns

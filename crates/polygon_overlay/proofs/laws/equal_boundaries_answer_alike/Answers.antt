@@ -1,4 +1,4 @@
-use Rattle.polygon_overlay.proofs.ReturnLaws.{equal_boundaries_answer_alike}
+use Rattle.polygon_overlay.proofs.Returning.ReturnLaws.{equal_boundaries_answer_alike}
 use Rattle.polygon_overlay.proofs.laws.equal_boundaries_answer_alike.Goals as goal
 
 pub returns : goal.returns

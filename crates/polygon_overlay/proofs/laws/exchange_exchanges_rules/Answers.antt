@@ -1,4 +1,4 @@
-use Rattle.polygon_overlay.proofs.ExchangeLaws.{exchange_exchanges_rules}
+use Rattle.polygon_overlay.proofs.Exchanging.ExchangeLaws.{exchange_exchanges_rules}
 use Rattle.polygon_overlay.proofs.laws.exchange_exchanges_rules.Goals as goal
 
 pub returns : goal.returns

@@ -1,5 +1,5 @@
 use Rattle.plane_base.specs.Counts.{boolean}
-use Rattle.polygon_overlay.proofs.GroupLaws.{overlaid_alone}
+use Rattle.polygon_overlay.proofs.Answering.GroupLaws.{overlaid_alone}
 use Rattle.polygon_overlay.proofs.laws.groups_are_overlaid_alone.Goals as goal
 
 pub returns : goal.returns

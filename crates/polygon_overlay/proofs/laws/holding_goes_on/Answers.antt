@@ -1,4 +1,4 @@
-use Rattle.polygon_overlay.proofs.GivenOrderLaws.{holding_goes_on}
+use Rattle.polygon_overlay.proofs.Holding.GivenOrderLaws.{holding_goes_on}
 use Rattle.polygon_overlay.proofs.laws.holding_goes_on.Goals as goal
 
 pub returns : goal.returns

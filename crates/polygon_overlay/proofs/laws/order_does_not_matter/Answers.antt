@@ -1,4 +1,4 @@
-use Rattle.polygon_overlay.proofs.GivenOrderLaws.{order_does_not_matter}
+use Rattle.polygon_overlay.proofs.Holding.GivenOrderLaws.{order_does_not_matter}
 use Rattle.polygon_overlay.proofs.laws.order_does_not_matter.Goals as goal
 
 pub returns : goal.returns

@@ -1,4 +1,4 @@
-use Rattle.polygon_overlay.proofs.PassLaws.{passes_never_cross}
+use Rattle.polygon_overlay.proofs.Nesting.PassLaws.{passes_never_cross}
 use Rattle.polygon_overlay.proofs.laws.passes_never_cross.Goals as goal
 
 pub returns : goal.returns

@@ -1,5 +1,5 @@
 use Rattle.plane_base.specs.Counts.{boolean}
-use Rattle.polygon_overlay.proofs.AgreementLaws.{predicates_agree_with_overlays}
+use Rattle.polygon_overlay.proofs.Relating.AgreementLaws.{predicates_agree_with_overlays}
 use Rattle.polygon_overlay.proofs.laws.predicates_agree_with_overlays.Goals as goal
 
 pub returns : goal.returns

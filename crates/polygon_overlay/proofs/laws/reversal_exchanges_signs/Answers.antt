@@ -1,4 +1,4 @@
-use Rattle.polygon_overlay.proofs.ExchangeLaws.{reversal_exchanges_signs}
+use Rattle.polygon_overlay.proofs.Exchanging.ExchangeLaws.{reversal_exchanges_signs}
 use Rattle.polygon_overlay.proofs.laws.reversal_exchanges_signs.Goals as goal
 
 pub returns : goal.returns

@@ -1,5 +1,5 @@
 use Rattle.segment_split.specs.Strings.{stringed}
-use Rattle.polygon_overlay.proofs.StringBoxLaws.{slices_stay_in_the_box}
+use Rattle.polygon_overlay.proofs.Boxing.StringBoxLaws.{slices_stay_in_the_box}
 use Rattle.polygon_overlay.proofs.laws.slices_stay_in_the_box.Goals as goal
 
 pub returns : goal.returns

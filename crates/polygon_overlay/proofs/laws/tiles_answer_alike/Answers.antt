@@ -1,5 +1,5 @@
 use Rattle.plane_base.specs.Counts.{boolean}
-use Rattle.polygon_overlay.proofs.GroupLaws.{tiles_answer_alike}
+use Rattle.polygon_overlay.proofs.Answering.GroupLaws.{tiles_answer_alike}
 use Rattle.polygon_overlay.proofs.laws.tiles_answer_alike.Goals as goal
 
 pub returns : goal.returns

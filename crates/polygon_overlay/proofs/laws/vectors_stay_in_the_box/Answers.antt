@@ -1,6 +1,6 @@
 use Rattle.plane_base.specs.Counts.{boolean}
 use Rattle.segment_split.specs.Data.{MayBeTurned}
-use Rattle.polygon_overlay.proofs.VectorBoxLaws.{vectors_stay_in_the_box}
+use Rattle.polygon_overlay.proofs.Boxing.VectorBoxLaws.{vectors_stay_in_the_box}
 use Rattle.polygon_overlay.proofs.laws.vectors_stay_in_the_box.Goals as goal
 
 pub returns : goal.returns

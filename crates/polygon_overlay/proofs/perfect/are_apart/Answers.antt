@@ -1,7 +1,7 @@
 use Rattle.std.proofs.Common.{◌≡◌, ◌⊎◌, ◌+◌, ◌<◌, ◌≤◌, true, false, length, map, get_or, refl, sym, ap, ◌∙◌, inl, inr, arith}
 use Rattle.std.proofs.lemmas.Bool.{false≢true}
 use Rattle.plane_base.specs.Views.{point_of, points_of}
-use Rattle.polygon_overlay.proofs.PerfectLaws.{differ_on, differ_all, same_beside, tells_same, tells_other}
+use Rattle.polygon_overlay.proofs.Simplifying.PerfectLaws.{differ_on, differ_all, same_beside, tells_same, tells_other}
 use Rattle.polygon_overlay.proofs.perfect.are_apart.Goals as goal
 
 pub returns-then-is_same_point : goal.returns-then-is_same_point

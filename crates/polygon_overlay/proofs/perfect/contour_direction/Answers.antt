@@ -4,7 +4,7 @@ use Rattle.plane_base.specs.Views.{points_of}
 use Rattle.segment_arrangement.specs.RuleViews.{fill_rule_of}
 use Rattle.contour_walk.specs.ShapeViews.{is_clockwise}
 use Rattle.polygon_overlay.specs.declared.perfect.ContourFillDirection.TheVariants.{Reverse, Correct, Empty}
-use Rattle.polygon_overlay.proofs.FastLaws.{runs_told, direction_by}
+use Rattle.polygon_overlay.proofs.Simplifying.FastLaws.{runs_told, direction_by}
 use Rattle.polygon_overlay.proofs.perfect.contour_direction.Goals as goal
 
 pub returns-then-not-fills_inside : goal.returns-then-not-fills_inside

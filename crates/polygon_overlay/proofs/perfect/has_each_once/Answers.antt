@@ -5,7 +5,7 @@ use Rattle.std.proofs.lemmas.List.Sorted.{IsPermutation-map, IsPermutation-sym}
 use Rattle.plane_base.specs.Plane.{point_order}
 use Rattle.plane_base.specs.Views.{point_of, points_of}
 use Rattle.polygon_overlay.specs.Simplified.{HasEachOnce}
-use Rattle.polygon_overlay.proofs.PerfectLaws.{sorted_rises, once_reordered}
+use Rattle.polygon_overlay.proofs.Simplifying.PerfectLaws.{sorted_rises, once_reordered}
 use Rattle.polygon_overlay.proofs.perfect.has_each_once.Goals as goal
 
 pub are_apart-requires : goal.are_apart-requires

@@ -7,8 +7,8 @@ use Rattle.segment_arrangement.specs.RuleViews.{fill_rule_of}
 use Rattle.contour_walk.specs.ShapeViews.{is_clockwise}
 use Rattle.polygon_overlay.specs.Simplified.{fill_direction}
 use Rattle.polygon_overlay.specs.declared.perfect.ContourFillDirection.TheVariants.{Reverse, Correct, Empty}
-use Rattle.polygon_overlay.proofs.FastLaws.{leaves_by, flat_single, flat_turned}
-use Rattle.polygon_overlay.proofs.SimplifiedLaws.{only}
+use Rattle.polygon_overlay.proofs.Simplifying.FastLaws.{leaves_by, flat_single, flat_turned}
+use Rattle.polygon_overlay.proofs.Simplifying.SimplifiedLaws.{only}
 use Rattle.polygon_overlay.proofs.perfect.leave_fast_answer.Goals as goal
 
 pub contour_direction-fate-requires : goal.contour_direction-fate-requires

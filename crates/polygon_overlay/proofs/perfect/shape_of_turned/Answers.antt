@@ -1,7 +1,7 @@
 use Rattle.std.proofs.Common.{[], ◌∷◌, ◌∙◌, reverse, ap}
 use Rattle.plane_base.specs.Views.{point_of, points_of}
 use Rattle.segment_split.proofs.Facts.Adding.Laws.{if_answered}
-use Rattle.polygon_overlay.proofs.FastLaws.{map_reversed}
+use Rattle.polygon_overlay.proofs.Simplifying.FastLaws.{map_reversed}
 use Rattle.polygon_overlay.proofs.perfect.shape_of_turned.Goals as goal
 
 pub returns-clause-is : goal.returns-clause-is

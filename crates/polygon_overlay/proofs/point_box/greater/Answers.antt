@@ -1,6 +1,6 @@
 use Rattle.std.proofs.Common.{◌∙◌, sym}
 use Rattle.segment_arrangement.proofs.Facts.ColumnPlaces.{lt_tells_not}
-use Rattle.polygon_overlay.proofs.PointBoxLaws.{at_most_itself, less_is_at_most}
+use Rattle.polygon_overlay.proofs.Boxing.PointBoxLaws.{at_most_itself, less_is_at_most}
 use Rattle.polygon_overlay.proofs.point_box.greater.Goals as goal
 
 pub returns-then-is_less-clause-first : goal.returns-then-is_less-clause-first

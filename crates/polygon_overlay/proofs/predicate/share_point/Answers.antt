@@ -3,7 +3,7 @@ use Rattle.std.proofs.lemmas.List.{drop_all, length-map}
 use Rattle.plane_base.specs.Plane.{point_order}
 use Rattle.plane_base.specs.Views.{point_of, points_of}
 use Rattle.polygon_overlay.specs.Predicates.{share_point}
-use Rattle.polygon_overlay.proofs.MergeLaws.{next_first, next_second, found, meets_none, at_place, mapped_within}
+use Rattle.polygon_overlay.proofs.Relating.MergeLaws.{next_first, next_second, found, meets_none, at_place, mapped_within}
 use Rattle.plane_base.proofs.Facts.Points.Orders.{point_total}
 use Rattle.polygon_overlay.proofs.predicate.share_point.Goals as goal
 

@@ -1,5 +1,5 @@
 use Rattle.plane_base.specs.Counts.{boolean}
-use Rattle.polygon_overlay.proofs.QueryLaws.{is_overlay}
+use Rattle.polygon_overlay.proofs.Answering.QueryLaws.{is_overlay}
 use Rattle.polygon_overlay.proofs.query.answers_are_overlays.Goals as goal
 
 pub returns : goal.returns

@@ -8,8 +8,8 @@ use Rattle.segment_arrangement.specs.Sweeps.{HasSideOutOfRange}
 use Rattle.segment_arrangement.specs.RuleViews.{fill_rule_of}
 use Rattle.polygon_overlay.specs.Builders.{IsHeld}
 use Rattle.polygon_overlay.specs.Overlays.{redrawn_of, IsQueryRefused}
-use Rattle.polygon_overlay.proofs.HeldLaws.{nothing_held}
-use Rattle.polygon_overlay.proofs.QueryLaws.{not_swept, none_left}
+use Rattle.polygon_overlay.proofs.Holding.HeldLaws.{nothing_held}
+use Rattle.polygon_overlay.proofs.Answering.QueryLaws.{not_swept, none_left}
 use Rattle.polygon_overlay.proofs.query.make_graph.Goals as goal
 
 -- ---- refused

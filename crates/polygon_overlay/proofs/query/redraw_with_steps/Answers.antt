@@ -3,9 +3,9 @@ use Rattle.plane_base.specs.Counts.{boolean}
 use Rattle.segment_split.specs.Holdings.{holding}
 use Rattle.segment_arrangement.specs.SideLaws.{IsArrangement}
 use Rattle.segment_split.proofs.Facts.Adding.Laws.{if_refused, on_answer}
-use Rattle.polygon_overlay.proofs.ArrangementLaws.{redrawn_arrangement, redrawn_held}
-use Rattle.polygon_overlay.proofs.HoldingLaws.{held_after_asking}
-use Rattle.polygon_overlay.proofs.QueryLaws.{not_redrawn}
+use Rattle.polygon_overlay.proofs.Answering.ArrangementLaws.{redrawn_arrangement, redrawn_held}
+use Rattle.polygon_overlay.proofs.Holding.HoldingLaws.{held_after_asking}
+use Rattle.polygon_overlay.proofs.Answering.QueryLaws.{not_redrawn}
 use Rattle.polygon_overlay.proofs.query.redraw_with_steps.Goals as goal
 
 pub returns-clause-arrangement : goal.returns-clause-arrangement

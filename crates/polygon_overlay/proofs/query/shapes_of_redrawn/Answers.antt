@@ -8,7 +8,7 @@ use Rattle.contour_walk.specs.ShapeViews.{shapes_of}
 use Rattle.contour_walk.specs.WalkLaws.{borders}
 use Rattle.polygon_overlay.specs.Builders.{IsHeld}
 use Rattle.polygon_overlay.specs.Overlays.{redrawn_of, IsSweepRefused}
-use Rattle.polygon_overlay.proofs.HeldLaws.{nothing_held}
+use Rattle.polygon_overlay.proofs.Holding.HeldLaws.{nothing_held}
 use Rattle.polygon_overlay.proofs.query.shapes_of_redrawn.Goals as goal
 
 pub shapes_of_arrangement-found-requires-clause-in_range : goal.shapes_of_arrangement-found-requires-clause-in_range

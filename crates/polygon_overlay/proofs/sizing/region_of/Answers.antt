@@ -6,7 +6,7 @@ use Rattle.segment_arrangement.specs.RuleViews.{fill_rule_of}
 use Rattle.contour_walk.specs.ShapeViews.{flat_of}
 use Rattle.polygon_overlay.specs.Builders.{default_options}
 use Rattle.polygon_overlay.specs.Calls.{contours_of}
-use Rattle.polygon_overlay.proofs.FastLaws.{parts_mapped}
+use Rattle.polygon_overlay.proofs.Simplifying.FastLaws.{parts_mapped}
 use Rattle.polygon_overlay.proofs.Sized.Calls.{region_is, region_refused}
 use Rattle.polygon_overlay.proofs.sizing.region_of.Goals as goal
 

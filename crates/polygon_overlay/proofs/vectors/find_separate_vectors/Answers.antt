@@ -3,7 +3,7 @@ use Rattle.segment_arrangement.specs.LentGraphs.{links_of}
 use Rattle.contour_walk.specs.Vectors.{vector_of}
 use Rattle.segment_split.proofs.Facts.Adding.Laws.{if_answered, if_refused}
 use Rattle.polygon_overlay.specs.VectorAnswers.{along}
-use Rattle.polygon_overlay.proofs.VectorLaws.{bare_listed}
+use Rattle.polygon_overlay.proofs.Answering.VectorLaws.{bare_listed}
 use Rattle.polygon_overlay.proofs.vectors.find_separate_vectors.Goals as goal
 
 pub returns-clause-is : goal.returns-clause-is

@@ -6,8 +6,8 @@ use Rattle.contour_walk.specs.Vectors.{edges_of_shapes}
 use Rattle.polygon_overlay.specs.Builders.{IsHeld}
 use Rattle.polygon_overlay.specs.Overlays.{IsSweepRefused, IsQueryRefused}
 use Rattle.polygon_overlay.specs.VectorAnswers.{AreDataShapes}
-use Rattle.polygon_overlay.proofs.HeldLaws.{nothing_held}
-use Rattle.polygon_overlay.proofs.QueryLaws.{not_swept}
+use Rattle.polygon_overlay.proofs.Holding.HeldLaws.{nothing_held}
+use Rattle.polygon_overlay.proofs.Answering.QueryLaws.{not_swept}
 use Rattle.polygon_overlay.proofs.vectors.find_vector_shapes.Goals as goal
 
 -- ---- refused

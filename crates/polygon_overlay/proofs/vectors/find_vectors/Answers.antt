@@ -7,9 +7,9 @@ use Rattle.segment_arrangement.specs.SideLaws.{IsArrangement}
 use Rattle.polygon_overlay.specs.Builders.{IsHeld}
 use Rattle.polygon_overlay.specs.Overlays.{IsSweepRefused, IsQueryRefused}
 use Rattle.polygon_overlay.specs.VectorAnswers.{boundary_vectors}
-use Rattle.polygon_overlay.proofs.HeldLaws.{nothing_held}
-use Rattle.polygon_overlay.proofs.QueryLaws.{not_swept}
-use Rattle.polygon_overlay.proofs.VectorLaws.{data_apart}
+use Rattle.polygon_overlay.proofs.Holding.HeldLaws.{nothing_held}
+use Rattle.polygon_overlay.proofs.Answering.QueryLaws.{not_swept}
+use Rattle.polygon_overlay.proofs.Answering.VectorLaws.{data_apart}
 use Rattle.polygon_overlay.proofs.vectors.find_vectors.Goals as goal
 
 pub returns-in_err-redraw-clause-answered : goal.returns-in_err-redraw-clause-answered

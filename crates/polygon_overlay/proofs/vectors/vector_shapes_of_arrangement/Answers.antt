@@ -9,7 +9,7 @@ use Rattle.segment_split.proofs.Facts.Adding.Laws.{answered, if_answered, if_ref
 use Rattle.contour_walk.specs.Vectors.{edges_of_shapes}
 use Rattle.polygon_overlay.specs.Overlays.{IsSweepRefused}
 use Rattle.polygon_overlay.specs.VectorAnswers.{AreDataShapes}
-use Rattle.polygon_overlay.proofs.VectorLaws.{data_apart, shapes_of_map}
+use Rattle.polygon_overlay.proofs.Answering.VectorLaws.{data_apart, shapes_of_map}
 use Rattle.polygon_overlay.proofs.vectors.vector_shapes_of_arrangement.Goals as goal
 
 pub build_boolean_overlay-requires-clause-in_range : goal.build_boolean_overlay-requires-clause-in_range

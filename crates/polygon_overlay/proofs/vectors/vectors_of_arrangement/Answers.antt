@@ -3,7 +3,7 @@ use Rattle.segment_arrangement.specs.LentGraphs.{links_of}
 use Rattle.segment_arrangement.specs.RuleViews.{fill_rule_of, overlay_rule_of}
 use Rattle.segment_split.proofs.Facts.Adding.Laws.{if_answered, if_refused}
 use Rattle.polygon_overlay.specs.VectorAnswers.{data_vectors_of}
-use Rattle.polygon_overlay.proofs.VectorLaws.{vectors_listed}
+use Rattle.polygon_overlay.proofs.Answering.VectorLaws.{vectors_listed}
 use Rattle.polygon_overlay.proofs.vectors.vectors_of_arrangement.Goals as goal
 
 pub returns-clause-is : goal.returns-clause-is

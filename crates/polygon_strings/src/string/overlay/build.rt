@@ -15,7 +15,7 @@ use plane_base::point::IntPoint;
 use plane_base::resource::IntShapeResource;
 use segment_arrangement::builder::GraphBuilder;
 use segment_split::count::{ShapeCountString, WindingCount};
-use segment_split::held::Held;
+use segment_split::given::held::Held;
 use std::alloc::Global;
 
 impl<I: OverlayInt> StringOverlay<I> {

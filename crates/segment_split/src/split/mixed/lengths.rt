@@ -6,8 +6,8 @@
 ghost use Rattle.std.specs.Prelude.{◌<◌, IsOkUnless};
 
 use crate::count::WindingCount;
-use crate::placing::shift_to;
 use crate::segment::Segment;
+use crate::sort::placing::shift_to;
 use plane_base::fault::Fault;
 use plane_base::int::OverlayInt;
 use plane_base::segment::XSegment;

@@ -10,7 +10,7 @@ use Rattle.segment_split.proofs.Facts.Adding.Paths.{equal_points, lays_nothing}
 use Rattle.polygon_overlay.specs.Builders.{count_of_type}
 use Rattle.polygon_overlay.specs.EdgeCalls.{laid_edge}
 use Rattle.polygon_overlay.specs.Tallies.{spare_of}
-use Rattle.polygon_overlay.proofs.EdgeLaws.{held_after}
+use Rattle.polygon_overlay.proofs.Holding.EdgeLaws.{held_after}
 use Rattle.polygon_overlay.proofs.edge_overlay.EdgeOverlay.add_edge.Goals as goal
 
 pub invariant_of-self : goal.invariant_of-self

@@ -7,7 +7,7 @@ use Rattle.std.proofs.lemmas.List.Elements.{All-pop}
 use Rattle.std.proofs.lemmas.Result.{err_from_is_err_and}
 use Rattle.segment_split.specs.Data.{MayBeTurned}
 use Rattle.polygon_overlay.specs.EdgeCalls.{IsInputWithin, IsGivenBy}
-use Rattle.polygon_overlay.proofs.AddingLaws.{adds_more, takes_until}
+use Rattle.polygon_overlay.proofs.Holding.AddingLaws.{adds_more, takes_until}
 use Rattle.polygon_overlay.proofs.edge_overlay.EdgeOverlay.add_edges.Goals as goal
 
 pub add_edge-requires : goal.add_edge-requires

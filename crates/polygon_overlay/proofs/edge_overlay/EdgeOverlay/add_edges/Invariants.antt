@@ -1,5 +1,5 @@
 use Rattle.segment_split.specs.Data.{MayBeTurned}
-use Rattle.polygon_overlay.proofs.AddingLaws.{IsAddedSoFar}
+use Rattle.polygon_overlay.proofs.Holding.AddingLaws.{IsAddedSoFar}
 use Rattle.polygon_overlay.proofs.edge_overlay.EdgeOverlay.add_edges.Given as goal
 
 -- What was given so far was added.

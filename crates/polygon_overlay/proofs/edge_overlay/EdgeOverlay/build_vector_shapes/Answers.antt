@@ -3,8 +3,8 @@ use Rattle.std.proofs.lemmas.Bool.{false≢true}
 use Rattle.segment_split.specs.Holdings.{holding}
 use Rattle.segment_split.proofs.Facts.Adding.Laws.{answered}
 use Rattle.polygon_overlay.specs.Tallies.{leavings_of, IsTallyOf}
-use Rattle.polygon_overlay.proofs.BalanceTally.{tally_of_balanced}
-use Rattle.polygon_overlay.proofs.HoldingLaws.{is_asked, leaves_redrawn}
+use Rattle.polygon_overlay.proofs.Holding.BalanceTally.{tally_of_balanced}
+use Rattle.polygon_overlay.proofs.Holding.HoldingLaws.{is_asked, leaves_redrawn}
 use Rattle.polygon_overlay.proofs.edge_overlay.EdgeOverlay.build_vector_shapes.Goals as goal
 
 pub find_vector_shapes-found-requires-clause-held : goal.find_vector_shapes-found-requires-clause-held

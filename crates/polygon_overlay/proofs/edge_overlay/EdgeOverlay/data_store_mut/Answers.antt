@@ -1,6 +1,6 @@
 use Rattle.std.proofs.Common.{refl}
 use Rattle.polygon_overlay.specs.EdgeCalls.{with_store}
-use Rattle.polygon_overlay.proofs.EdgeLaws.{one_held, one_tally}
+use Rattle.polygon_overlay.proofs.Holding.EdgeLaws.{one_held, one_tally}
 use Rattle.polygon_overlay.proofs.edge_overlay.EdgeOverlay.data_store_mut.Goals as goal
 
 pub returns : goal.returns

@@ -1,6 +1,6 @@
 use Rattle.std.proofs.lemmas.List.Sorted.{IsPermutation-map}
 use Rattle.polygon_overlay.specs.Tallies.{leaving_of, leavings_of}
-use Rattle.polygon_overlay.proofs.BalanceTally.{tally_in_any_order, level_tells}
+use Rattle.polygon_overlay.proofs.Holding.BalanceTally.{tally_in_any_order, level_tells}
 use Rattle.polygon_overlay.proofs.edge_overlay.EdgeOverlay.is_balanced.Goals as goal
 
 pub invariant_of-self : goal.invariant_of-self

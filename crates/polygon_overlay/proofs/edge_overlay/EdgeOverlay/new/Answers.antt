@@ -2,9 +2,9 @@ use Rattle.std.proofs.Common.{◌∙◌, sym, ap, subst, []}
 use Rattle.std.proofs.lemmas.Result.{err_from_is_err_and}
 use Rattle.polygon_overlay.specs.EdgeBuilders.{AreHeldEdges}
 use Rattle.polygon_overlay.specs.Tallies.{leavings_of, IsTallyOf}
-use Rattle.polygon_overlay.proofs.BalanceTally.{tally_of_balanced}
-use Rattle.polygon_overlay.proofs.EdgeLaws.{not_made}
-use Rattle.polygon_overlay.proofs.HeldLaws.{nothing_held}
+use Rattle.polygon_overlay.proofs.Holding.BalanceTally.{tally_of_balanced}
+use Rattle.polygon_overlay.proofs.Holding.EdgeLaws.{not_made}
+use Rattle.polygon_overlay.proofs.Holding.HeldLaws.{nothing_held}
 use Rattle.polygon_overlay.proofs.edge_overlay.EdgeOverlay.new.Goals as goal
 
 pub invariant_of-result : goal.invariant_of-result

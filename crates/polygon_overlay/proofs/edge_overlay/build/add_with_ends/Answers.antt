@@ -6,8 +6,8 @@ use Rattle.plane_base.specs.Views.{point_of}
 use Rattle.segment_split.specs.Adding.{LacksRoom}
 use Rattle.segment_split.specs.Holdings.{IsRefusedBy}
 use Rattle.polygon_overlay.specs.Tallies.{leavings_of, IsTallyOf, spare_of}
-use Rattle.polygon_overlay.proofs.BalanceTally.{both_ends, tally_more}
-use Rattle.polygon_overlay.proofs.EdgeLaws.{lay_one, ends_lack, ends_grow, ends_kept}
+use Rattle.polygon_overlay.proofs.Holding.BalanceTally.{both_ends, tally_more}
+use Rattle.polygon_overlay.proofs.Holding.EdgeLaws.{lay_one, ends_lack, ends_grow, ends_kept}
 use Rattle.polygon_overlay.proofs.edge_overlay.build.add_with_ends.Goals as goal
 
 -- ---- no room for the ends

@@ -6,7 +6,7 @@ use Rattle.std.proofs.lemmas.Int.{ints}
 use Rattle.std.proofs.lemmas.List.{take_all}
 use Rattle.plane_base.specs.Views.{point_of}
 use Rattle.polygon_overlay.specs.Tallies.{leaving_of, leavings_of, left_at, is_last, AreSorted}
-use Rattle.polygon_overlay.proofs.TallyLaws.{Walked, walked_none, walked_more, walked_all, all_walked, left_behind, one_more_taken, parts_taken}
+use Rattle.polygon_overlay.proofs.Holding.TallyLaws.{Walked, walked_none, walked_more, walked_all, all_walked, left_behind, one_more_taken, parts_taken}
 use Rattle.contour_walk.proofs.Facts.Contours.Rays.{an_element}
 use Rattle.polygon_overlay.proofs.edge_overlay.tally.are_level.Goals as goal
 use Rattle.polygon_overlay.proofs.edge_overlay.tally.are_level.Goals.{else-starts_point-via-then-starts_point+else-not-are_none, else-starts_point-via-else-starts_point}

@@ -1,6 +1,6 @@
 use Rattle.std.proofs.Common.{◌*◌, ◌^◌, take, pos, neg_ℤ, ◌≤ℤ◌}
 use Rattle.polygon_overlay.specs.Tallies.{leavings_of}
-use Rattle.polygon_overlay.proofs.TallyLaws.{Walked}
+use Rattle.polygon_overlay.proofs.Holding.TallyLaws.{Walked}
 use Rattle.polygon_overlay.proofs.edge_overlay.tally.are_level.Given as goal
 
 abbrev pub invariant-loop-place : goal.invariant-loop-place

@@ -7,7 +7,7 @@ use Rattle.std.proofs.lemmas.List.{get_or_read}
 use Rattle.plane_base.specs.Plane.{point_order}
 use Rattle.plane_base.specs.Views.{point_of}
 use Rattle.polygon_overlay.specs.Tallies.{is_last, leaving_of, leavings_of}
-use Rattle.polygon_overlay.proofs.TallyLaws.{last_of_taken, turned_round}
+use Rattle.polygon_overlay.proofs.Holding.TallyLaws.{last_of_taken, turned_round}
 use Rattle.polygon_overlay.proofs.edge_overlay.tally.starts_point.Goals as goal
 
 not_equal : (o : Ordering) → is_ne o ≡ not (is_eq o)

@@ -1,5 +1,5 @@
 use Rattle.plane_base.specs.Views.{points_of}
-use Rattle.polygon_overlay.proofs.HeldLaws.{held_after_contour}
+use Rattle.polygon_overlay.proofs.Holding.HeldLaws.{held_after_contour}
 use Rattle.polygon_overlay.proofs.overlay.Overlay.add_contour.Goals as goal
 
 pub invariant_of-self : goal.invariant_of-self

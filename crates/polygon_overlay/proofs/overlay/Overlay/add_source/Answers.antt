@@ -1,6 +1,6 @@
 use Rattle.std.proofs.Common.{map}
 use Rattle.plane_base.specs.Views.{points_of}
-use Rattle.polygon_overlay.proofs.HeldLaws.{held_after_taking}
+use Rattle.polygon_overlay.proofs.Holding.HeldLaws.{held_after_taking}
 use Rattle.polygon_overlay.proofs.overlay.Overlay.add_source.Goals as goal
 
 pub invariant_of-self : goal.invariant_of-self

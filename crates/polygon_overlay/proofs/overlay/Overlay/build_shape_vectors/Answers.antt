@@ -5,8 +5,8 @@ use Rattle.segment_split.specs.Holdings.{holding}
 use Rattle.segment_arrangement.specs.RuleViews.{fill_rule_of, overlay_rule_of}
 use Rattle.contour_walk.specs.Vectors.{edges_of_shapes}
 use Rattle.polygon_overlay.specs.Overlays.{redrawn_of}
-use Rattle.polygon_overlay.proofs.HoldingLaws.{is_asked, leaves_redrawn}
-use Rattle.polygon_overlay.proofs.VectorLaws.{found_apart}
+use Rattle.polygon_overlay.proofs.Holding.HoldingLaws.{is_asked, leaves_redrawn}
+use Rattle.polygon_overlay.proofs.Answering.VectorLaws.{found_apart}
 use Rattle.polygon_overlay.proofs.overlay.Overlay.build_shape_vectors.Goals as goal
 
 pub returns-clause-asked : goal.returns-clause-asked

@@ -9,8 +9,8 @@ use Rattle.contour_walk.specs.ShapeViews.{shapes_of, is_clockwise}
 use Rattle.polygon_overlay.specs.Asking.{IsAnswered}
 use Rattle.polygon_overlay.specs.Builders.{IsHeld}
 use Rattle.polygon_overlay.specs.Simplified.{IsSimplified, fast_answer, shapes_if_any}
-use Rattle.polygon_overlay.proofs.SimplifiedLaws.{one_perfect, simplified_fast, simplified_else}
-use Rattle.polygon_overlay.proofs.SimplifyLaws.{found_refused, refused_before, sweep_refused, overlaid_as, aside}
+use Rattle.polygon_overlay.proofs.Simplifying.SimplifiedLaws.{one_perfect, simplified_fast, simplified_else}
+use Rattle.polygon_overlay.proofs.Simplifying.SimplifyLaws.{found_refused, refused_before, sweep_refused, overlaid_as, aside}
 use Rattle.polygon_overlay.proofs.overlay.Overlay.contour_simplified.Goals as goal
 
 pub returns-in_err-is_perfect : goal.returns-in_err-is_perfect

@@ -8,8 +8,8 @@ use Rattle.contour_walk.specs.ShapeViews.{flat_of}
 use Rattle.contour_walk.specs.WalkLaws.{borders}
 use Rattle.polygon_overlay.specs.Builders.{IsHeld}
 use Rattle.polygon_overlay.specs.FlatCalls.{flat_overlay_of}
-use Rattle.polygon_overlay.proofs.FlatLaws.{on_as_if}
-use Rattle.polygon_overlay.proofs.SimplifyLaws.{refused_before, overlaid}
+use Rattle.polygon_overlay.proofs.Answering.FlatLaws.{on_as_if}
+use Rattle.polygon_overlay.proofs.Simplifying.SimplifyLaws.{refused_before, overlaid}
 use Rattle.polygon_overlay.proofs.overlay.Overlay.contours_of_source.Goals as goal
 
 pub returns-in_err-hold_redrawn : goal.returns-in_err-hold_redrawn

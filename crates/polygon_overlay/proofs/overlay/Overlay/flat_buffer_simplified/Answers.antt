@@ -18,10 +18,10 @@ use Rattle.polygon_overlay.specs.Builders.{IsHeld}
 use Rattle.polygon_overlay.specs.FlatCalls.{flat_overlay_of}
 use Rattle.polygon_overlay.specs.Simplified.{IsFlatSimplified, IsOnePerfect, fast_shapes}
 use Rattle.polygon_overlay.specs.SimplifyCalls.{FindsSimplified}
-use Rattle.polygon_overlay.proofs.FastLaws.{parts_mapped, flat_single}
-use Rattle.polygon_overlay.proofs.FlatLaws.{flat_either, on_as_if}
-use Rattle.polygon_overlay.proofs.SimplifiedLaws.{flat_fast, flat_else, one_perfect, one_length}
-use Rattle.polygon_overlay.proofs.SimplifyLaws.{refused_before, overlaid, aside}
+use Rattle.polygon_overlay.proofs.Simplifying.FastLaws.{parts_mapped, flat_single}
+use Rattle.polygon_overlay.proofs.Answering.FlatLaws.{flat_either, on_as_if}
+use Rattle.polygon_overlay.proofs.Simplifying.SimplifiedLaws.{flat_fast, flat_else, one_perfect, one_length}
+use Rattle.polygon_overlay.proofs.Simplifying.SimplifyLaws.{refused_before, overlaid, aside}
 use Rattle.polygon_overlay.proofs.overlay.Overlay.flat_buffer_simplified.Goals as goal
 
 -- ---- several contours, or none

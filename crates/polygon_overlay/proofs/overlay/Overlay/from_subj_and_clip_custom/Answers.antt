@@ -3,7 +3,7 @@ use Rattle.std.proofs.lemmas.Result.{err_from_is_err_and}
 use Rattle.plane_base.specs.Counts.{one_subject, one_clip}
 use Rattle.plane_base.specs.Views.{points_of}
 use Rattle.polygon_overlay.specs.Builders.{IsNotMade}
-use Rattle.polygon_overlay.proofs.BuilderLaws.{all_added, part_added}
+use Rattle.polygon_overlay.proofs.Holding.BuilderLaws.{all_added, part_added}
 use Rattle.polygon_overlay.proofs.overlay.Overlay.from_subj_and_clip_custom.Goals as goal
 
 pub returns-in_err-overlay : goal.returns-in_err-overlay

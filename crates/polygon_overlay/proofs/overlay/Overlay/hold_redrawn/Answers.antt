@@ -2,8 +2,8 @@ use Rattle.std.proofs.Common.{[], map, inl, inr, ap, ◌∙◌}
 use Rattle.std.proofs.lemmas.Result.{err_from_is_err_and}
 use Rattle.plane_base.specs.Counts.{one_subject}
 use Rattle.plane_base.specs.Views.{points_of}
-use Rattle.polygon_overlay.proofs.BuilderLaws.{all_added, part_added}
-use Rattle.polygon_overlay.proofs.SimplifyLaws.{found_refused, redrawing_refused, holds_redrawn, kept_some}
+use Rattle.polygon_overlay.proofs.Holding.BuilderLaws.{all_added, part_added}
+use Rattle.polygon_overlay.proofs.Simplifying.SimplifyLaws.{found_refused, redrawing_refused, holds_redrawn, kept_some}
 use Rattle.polygon_overlay.proofs.overlay.Overlay.hold_redrawn.Goals as goal
 
 pub returns-in_err-add_source : goal.returns-in_err-add_source

@@ -7,9 +7,9 @@ use Rattle.plane_base.specs.Views.{point_of, points_of}
 use Rattle.segment_split.specs.Redrawing.{IsChanged}
 use Rattle.segment_split.proofs.Facts.Adding.Laws.{answered, if_answered}
 use Rattle.polygon_overlay.specs.Builders.{IsHeld}
-use Rattle.polygon_overlay.proofs.BuilderLaws.{contour_added, contour_refused}
-use Rattle.polygon_overlay.proofs.PerfectLaws.{not_perfect_if_changed, not_perfect_if_cut, perfect_if, taken_alone}
-use Rattle.polygon_overlay.proofs.SimplifyLaws.{found_refused, redrawing_refused, holds_redrawn, aside, kept_some}
+use Rattle.polygon_overlay.proofs.Holding.BuilderLaws.{contour_added, contour_refused}
+use Rattle.polygon_overlay.proofs.Simplifying.PerfectLaws.{not_perfect_if_changed, not_perfect_if_cut, perfect_if, taken_alone}
+use Rattle.polygon_overlay.proofs.Simplifying.SimplifyLaws.{found_refused, redrawing_refused, holds_redrawn, aside, kept_some}
 use Rattle.polygon_overlay.proofs.overlay.Overlay.is_perfect.Goals as goal
 
 pub returns-in_err-add_contour : goal.returns-in_err-add_contour

@@ -1,7 +1,7 @@
 use Rattle.std.proofs.Common.{refl, sym, ◌∙◌}
 use Rattle.std.proofs.lemmas.Bool.{false≢true}
 use Rattle.segment_split.specs.Holdings.{holding}
-use Rattle.polygon_overlay.proofs.HoldingLaws.{is_asked, leaves_redrawn}
+use Rattle.polygon_overlay.proofs.Holding.HoldingLaws.{is_asked, leaves_redrawn}
 use Rattle.polygon_overlay.proofs.overlay.Overlay.make_graph.Goals as goal
 
 pub returns-clause-asked : goal.returns-clause-asked

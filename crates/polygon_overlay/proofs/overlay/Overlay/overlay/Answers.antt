@@ -5,7 +5,7 @@ use Rattle.segment_split.specs.Holdings.{holding}
 use Rattle.segment_arrangement.specs.RuleViews.{fill_rule_of, overlay_rule_of}
 use Rattle.contour_walk.specs.Answering.{answering_of}
 use Rattle.polygon_overlay.specs.GroupLaws.{AreEachAlone}
-use Rattle.polygon_overlay.proofs.HoldingLaws.{is_asked, leaves_redrawn}
+use Rattle.polygon_overlay.proofs.Holding.HoldingLaws.{is_asked, leaves_redrawn}
 use Rattle.polygon_overlay.proofs.overlay.Overlay.overlay.Goals as goal
 
 pub returns-clause-alone : goal.returns-clause-alone

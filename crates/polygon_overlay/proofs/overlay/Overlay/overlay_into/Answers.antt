@@ -2,8 +2,8 @@ use Rattle.std.proofs.Common.{refl, sym, ◌∙◌}
 use Rattle.std.proofs.lemmas.Bool.{false≢true}
 use Rattle.segment_split.proofs.Facts.Adding.Laws.{answered}
 use Rattle.segment_split.specs.Holdings.{holding}
-use Rattle.polygon_overlay.proofs.FlatLaws.{emptied_flat}
-use Rattle.polygon_overlay.proofs.HoldingLaws.{is_asked, leaves_redrawn}
+use Rattle.polygon_overlay.proofs.Answering.FlatLaws.{emptied_flat}
+use Rattle.polygon_overlay.proofs.Holding.HoldingLaws.{is_asked, leaves_redrawn}
 use Rattle.polygon_overlay.proofs.overlay.Overlay.overlay_into.Goals as goal
 
 pub returns-then-has_failed-clause-laid : goal.returns-then-has_failed-clause-laid

@@ -6,7 +6,7 @@ use Rattle.segment_arrangement.specs.RuleViews.{fill_rule_of}
 use Rattle.contour_walk.specs.ShapeViews.{shapes_of}
 use Rattle.polygon_overlay.specs.Asking.{IsAnswered}
 use Rattle.polygon_overlay.specs.Builders.{IsHeld}
-use Rattle.polygon_overlay.proofs.SimplifyLaws.{refused_before, overlaid}
+use Rattle.polygon_overlay.proofs.Simplifying.SimplifyLaws.{refused_before, overlaid}
 use Rattle.polygon_overlay.proofs.overlay.Overlay.overlay_of_source.Goals as goal
 
 pub returns-in_err-hold_redrawn : goal.returns-in_err-hold_redrawn

@@ -5,8 +5,8 @@ use Rattle.segment_arrangement.specs.RuleViews.{fill_rule_of}
 use Rattle.segment_split.proofs.Facts.Adding.Laws.{if_answered}
 use Rattle.contour_walk.specs.ShapeViews.{shapes_of}
 use Rattle.polygon_overlay.specs.Simplified.{IsSimplified, shapes_if_any}
-use Rattle.polygon_overlay.proofs.SimplifiedLaws.{source_of_contour, source_of_itself}
-use Rattle.polygon_overlay.proofs.SimplifyLaws.{refused_before, aside}
+use Rattle.polygon_overlay.proofs.Simplifying.SimplifiedLaws.{source_of_contour, source_of_itself}
+use Rattle.polygon_overlay.proofs.Simplifying.SimplifyLaws.{refused_before, aside}
 use Rattle.polygon_overlay.proofs.overlay.Overlay.path_simplified.Goals as goal
 
 pub returns-in_err-shapes : goal.returns-in_err-shapes

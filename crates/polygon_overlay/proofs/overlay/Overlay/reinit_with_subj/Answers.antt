@@ -2,7 +2,7 @@ use Rattle.std.proofs.Common.{[], map, ap, ◌∙◌}
 use Rattle.plane_base.specs.Counts.{one_subject}
 use Rattle.plane_base.specs.Views.{points_of}
 use Rattle.segment_split.proofs.Facts.Adding.Laws.{on_answer, if_refused}
-use Rattle.polygon_overlay.proofs.BuilderLaws.{all_added, part_added}
+use Rattle.polygon_overlay.proofs.Holding.BuilderLaws.{all_added, part_added}
 use Rattle.polygon_overlay.proofs.overlay.Overlay.reinit_with_subj.Goals as goal
 
 pub returns : goal.returns

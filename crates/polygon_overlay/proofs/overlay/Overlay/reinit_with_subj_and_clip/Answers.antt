@@ -4,7 +4,7 @@ use Rattle.plane_base.specs.Counts.{one_subject, one_clip}
 use Rattle.plane_base.specs.Views.{points_of}
 use Rattle.polygon_overlay.specs.Builders.{HoldsUntil}
 use Rattle.segment_split.proofs.Facts.Adding.Laws.{on_answer, if_refused}
-use Rattle.polygon_overlay.proofs.BuilderLaws.{all_added, part_added}
+use Rattle.polygon_overlay.proofs.Holding.BuilderLaws.{all_added, part_added}
 use Rattle.polygon_overlay.proofs.overlay.Overlay.reinit_with_subj_and_clip.Goals as goal
 
 pub returns-in_err-add_source : goal.returns-in_err-add_source

@@ -6,7 +6,7 @@ use Rattle.segment_arrangement.specs.RuleViews.{fill_rule_of}
 use Rattle.contour_walk.specs.ShapeViews.{flat_of}
 use Rattle.polygon_overlay.specs.Simplified.{IsFlatSimplified, IsNotSimplified}
 use Rattle.polygon_overlay.specs.SimplifyCalls.{Simplifies}
-use Rattle.polygon_overlay.proofs.FastLaws.{parts_mapped}
+use Rattle.polygon_overlay.proofs.Simplifying.FastLaws.{parts_mapped}
 use Rattle.polygon_overlay.proofs.overlay.Overlay.simplify_flat_buffer.Goals as goal
 
 pub flat_buffer_simplified-requires-clause-in_range : goal.flat_buffer_simplified-requires-clause-in_range

@@ -7,7 +7,7 @@ use Rattle.segment_arrangement.specs.RuleViews.{fill_rule_of}
 use Rattle.contour_walk.specs.ShapeViews.{shapes_of}
 use Rattle.polygon_overlay.specs.Simplified.{IsSimplified, shapes_if_any}
 use Rattle.polygon_overlay.specs.SimplifyCalls.{Simplifies}
-use Rattle.polygon_overlay.proofs.SimplifiedLaws.{simplified_else, one_only, one_length}
+use Rattle.polygon_overlay.proofs.Simplifying.SimplifiedLaws.{simplified_else, one_only, one_length}
 use Rattle.polygon_overlay.proofs.overlay.Overlay.simplify_shape.Goals as goal
 
 pub simplify_contour-requires : goal.simplify_contour-requires

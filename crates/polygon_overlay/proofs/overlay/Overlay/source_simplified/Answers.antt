@@ -7,8 +7,8 @@ use Rattle.segment_arrangement.specs.RuleViews.{fill_rule_of}
 use Rattle.contour_walk.specs.ShapeViews.{shapes_of}
 use Rattle.polygon_overlay.specs.Simplified.{IsSourceSimplified}
 use Rattle.polygon_overlay.specs.SimplifyCalls.{FindsSimplified}
-use Rattle.polygon_overlay.proofs.SimplifiedLaws.{source_else, one_only, one_length}
-use Rattle.polygon_overlay.proofs.SimplifyLaws.{answered_for}
+use Rattle.polygon_overlay.proofs.Simplifying.SimplifiedLaws.{source_else, one_only, one_length}
+use Rattle.polygon_overlay.proofs.Simplifying.SimplifyLaws.{answered_for}
 use Rattle.polygon_overlay.proofs.overlay.Overlay.source_simplified.Goals as goal
 
 pub path_simplified-requires-clause-in_range : goal.path_simplified-requires-clause-in_range

@@ -8,8 +8,8 @@ use Rattle.segment_arrangement.specs.RuleViews.{fill_rule_of}
 use Rattle.polygon_overlay.specs.Overlays.{IsQueryRefused}
 use Rattle.polygon_overlay.specs.VectorAnswers.{all_vectors}
 use Rattle.polygon_overlay.specs.Builders.{IsHeld}
-use Rattle.polygon_overlay.proofs.HeldLaws.{nothing_held}
-use Rattle.polygon_overlay.proofs.QueryLaws.{not_swept}
+use Rattle.polygon_overlay.proofs.Holding.HeldLaws.{nothing_held}
+use Rattle.polygon_overlay.proofs.Answering.QueryLaws.{not_swept}
 use Rattle.polygon_overlay.proofs.overlay.vectors.list_vectors.Goals as goal
 
 -- ---- refused

@@ -1,5 +1,5 @@
 use Rattle.polygon_overlay.specs.PointBoxes.{bounds_of}
-use Rattle.polygon_overlay.proofs.PointBoxLaws.{widened}
+use Rattle.polygon_overlay.proofs.Boxing.PointBoxLaws.{widened}
 use Rattle.polygon_overlay.proofs.point_box.PointBox.with.Goals as goal
 
 pub returns-clause-kept : goal.returns-clause-kept

@@ -6,7 +6,7 @@ use Rattle.plane_base.specs.Plane.{Point, IsWithin}
 use Rattle.plane_base.specs.Views.{points_of}
 use Rattle.segment_arrangement.specs.FanLaws.{whole}
 use Rattle.polygon_overlay.specs.Location.{in_shape}
-use Rattle.polygon_overlay.proofs.LocationLaws.{located_from}
+use Rattle.polygon_overlay.proofs.Locating.LocationLaws.{located_from}
 use Rattle.polygon_overlay.proofs.point_location.IntShapeIntPointContainment.contains_points.Goals as goal
 
 pub shape_located-requires-clause-in_range : goal.shape_located-requires-clause-in_range

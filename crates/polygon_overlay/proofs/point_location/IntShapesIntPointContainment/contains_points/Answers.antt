@@ -7,7 +7,7 @@ use Rattle.segment_arrangement.specs.FanLaws.{whole}
 use Rattle.contour_walk.specs.BindingLaws.{all_contours}
 use Rattle.contour_walk.specs.ShapeViews.{shapes_of}
 use Rattle.polygon_overlay.specs.Location.{in_shapes}
-use Rattle.polygon_overlay.proofs.LocationLaws.{all_in_shapes, located_from}
+use Rattle.polygon_overlay.proofs.Locating.LocationLaws.{all_in_shapes, located_from}
 use Rattle.polygon_overlay.proofs.point_location.IntShapesIntPointContainment.contains_points.Goals as goal
 
 pub shapes_located-requires-clause-in_range : goal.shapes_located-requires-clause-in_range

@@ -2,7 +2,7 @@ use Rattle.std.proofs.Common.{◌∙◌, false, sym, subst}
 use Rattle.plane_base.specs.Views.{point_of, points_of}
 use Rattle.polygon_overlay.specs.PointBoxes.{bounds_of}
 use Rattle.polygon_overlay.specs.Stretches.{AreStretches, edge_ends}
-use Rattle.polygon_overlay.proofs.BorderLaws.{contour_outside, on_contour}
+use Rattle.polygon_overlay.proofs.Locating.BorderLaws.{contour_outside, on_contour}
 use Rattle.polygon_overlay.proofs.point_location.borders.borders_contour.Goals as goal
 
 pub returns-then-is_outside : goal.returns-then-is_outside

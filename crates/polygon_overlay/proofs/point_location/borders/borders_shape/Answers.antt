@@ -8,8 +8,8 @@ use Rattle.plane_base.proofs.Facts.Lists.Views.{All-mapped}
 use Rattle.segment_arrangement.specs.FanLaws.{whole}
 use Rattle.polygon_overlay.specs.Location.{is_on_edge}
 use Rattle.polygon_overlay.specs.Stretches.{IsOutlined}
-use Rattle.polygon_overlay.proofs.IndexLaws.{zip_length, contour_outlined}
-use Rattle.polygon_overlay.proofs.LocationLaws.{any_mapped, none_more, one_found, none_at_all, on_each}
+use Rattle.polygon_overlay.proofs.Locating.IndexLaws.{zip_length, contour_outlined}
+use Rattle.polygon_overlay.proofs.Locating.LocationLaws.{any_mapped, none_more, one_found, none_at_all, on_each}
 use Rattle.polygon_overlay.proofs.point_location.borders.borders_shape.Goals as goal
 
 pub bounds-outlines-place : goal.bounds-outlines-place

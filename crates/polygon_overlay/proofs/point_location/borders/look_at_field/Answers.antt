@@ -3,7 +3,7 @@ use Rattle.std.proofs.lemmas.Bool.{false≢true}
 use Rattle.plane_base.specs.Views.{point_of}
 use Rattle.contour_walk.specs.ShapeViews.{shapes_of}
 use Rattle.polygon_overlay.specs.PointBoxes.{bounds_of}
-use Rattle.polygon_overlay.proofs.BorderLaws.{field_outside}
+use Rattle.polygon_overlay.proofs.Locating.BorderLaws.{field_outside}
 use Rattle.polygon_overlay.proofs.point_location.borders.look_at_field.Goals as goal
 
 pub returns-then-is_outside-clause-fewer : goal.returns-then-is_outside-clause-fewer

@@ -3,7 +3,7 @@ use Rattle.std.proofs.lemmas.Bool.{false≢true}
 use Rattle.std.proofs.lemmas.List.{length-map}
 use Rattle.plane_base.specs.Views.{point_of, points_of}
 use Rattle.polygon_overlay.specs.PointBoxes.{bounds_of}
-use Rattle.polygon_overlay.proofs.BorderLaws.{run_outside}
+use Rattle.polygon_overlay.proofs.Locating.BorderLaws.{run_outside}
 use Rattle.polygon_overlay.proofs.point_location.borders.look_at_stretch.Goals as goal
 
 pub returns-then-is_outside-clause-fewer : goal.returns-then-is_outside-clause-fewer

@@ -9,9 +9,9 @@ use Rattle.contour_walk.specs.ShapeViews.{shapes_of}
 use Rattle.polygon_overlay.specs.Location.{is_on_edge}
 use Rattle.polygon_overlay.specs.Stretches.{end_before, IsStretch, points_by, NoneBorders}
 use Rattle.polygon_overlay.specs.declared.point_location.shape_index.Placed.{Placed}
-use Rattle.polygon_overlay.proofs.BorderLaws.{none_borders}
-use Rattle.polygon_overlay.proofs.NoneLaws.{none_through}
-use Rattle.polygon_overlay.proofs.StretchLaws.{own_stretch, looked_past}
+use Rattle.polygon_overlay.proofs.Locating.BorderLaws.{none_borders}
+use Rattle.polygon_overlay.proofs.Locating.NoneLaws.{none_through}
+use Rattle.polygon_overlay.proofs.Locating.StretchLaws.{own_stretch, looked_past}
 use Rattle.polygon_overlay.proofs.point_location.borders.on_fields.Given.{Over}
 use Rattle.polygon_overlay.proofs.point_location.borders.on_fields.Goals.{After-index-fields-left}
 use Rattle.polygon_overlay.proofs.point_location.borders.on_fields.Goals as goal

@@ -5,10 +5,10 @@ use Rattle.plane_base.specs.Views.{point_of, points_of}
 use Rattle.segment_arrangement.specs.FanLaws.{whole}
 use Rattle.contour_walk.specs.Walks.{contour_edges}
 use Rattle.polygon_overlay.specs.Stretches.{end_before, IsStretch, NoneBetween, ends_of, edge_ends}
-use Rattle.polygon_overlay.proofs.BorderLaws.{on_contour}
-use Rattle.polygon_overlay.proofs.LocationLaws.{length-contour_edges}
-use Rattle.polygon_overlay.proofs.NoneLaws.{none_through, none_of_all}
-use Rattle.polygon_overlay.proofs.StretchLaws.{own_stretch, looked_past}
+use Rattle.polygon_overlay.proofs.Locating.BorderLaws.{on_contour}
+use Rattle.polygon_overlay.proofs.Locating.LocationLaws.{length-contour_edges}
+use Rattle.polygon_overlay.proofs.Locating.NoneLaws.{none_through, none_of_all}
+use Rattle.polygon_overlay.proofs.Locating.StretchLaws.{own_stretch, looked_past}
 use Rattle.polygon_overlay.proofs.point_location.borders.on_stretches.Given.{Over}
 use Rattle.polygon_overlay.proofs.point_location.borders.on_stretches.Goals.{After-index-stretches-left}
 use Rattle.polygon_overlay.proofs.point_location.borders.on_stretches.Goals as goal

@@ -13,9 +13,9 @@ use Rattle.contour_walk.specs.ShapeViews.{shapes_of}
 use Rattle.polygon_overlay.specs.Location.{is_on_edge}
 use Rattle.polygon_overlay.specs.Stretches.{IsOutlined}
 use Rattle.polygon_overlay.specs.declared.point_location.shape_index.Placed.{Placed}
-use Rattle.polygon_overlay.proofs.BorderLaws.{one_borders}
-use Rattle.polygon_overlay.proofs.IndexLaws.{zip_length, shape_at, outlined_at, number_inside, none_with_number}
-use Rattle.polygon_overlay.proofs.NoneLaws.{none_at_first}
+use Rattle.polygon_overlay.proofs.Locating.BorderLaws.{one_borders}
+use Rattle.polygon_overlay.proofs.Locating.IndexLaws.{zip_length, shape_at, outlined_at, number_inside, none_with_number}
+use Rattle.polygon_overlay.proofs.Locating.NoneLaws.{none_at_first}
 use Rattle.polygon_overlay.proofs.point_location.borders.some_borders.Given.{Over}
 use Rattle.polygon_overlay.proofs.point_location.borders.some_borders.Goals.{After-number_at-number}
 use Rattle.polygon_overlay.proofs.point_location.borders.some_borders.Goals as goal

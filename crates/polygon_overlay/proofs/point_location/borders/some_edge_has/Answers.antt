@@ -6,9 +6,9 @@ use Rattle.plane_base.specs.SegmentViews.{edge_of}
 use Rattle.plane_base.specs.Views.{point_of, points_of}
 use Rattle.segment_arrangement.specs.FanLaws.{whole}
 use Rattle.contour_walk.specs.Walks.{contour_edges}
-use Rattle.polygon_overlay.proofs.BorderLaws.{edge_found}
-use Rattle.polygon_overlay.proofs.LocationLaws.{length-contour_edges}
-use Rattle.polygon_overlay.proofs.NoneLaws.{none_at_first, none_with_one}
+use Rattle.polygon_overlay.proofs.Locating.BorderLaws.{edge_found}
+use Rattle.polygon_overlay.proofs.Locating.LocationLaws.{length-contour_edges}
+use Rattle.polygon_overlay.proofs.Locating.NoneLaws.{none_at_first, none_with_one}
 use Rattle.polygon_overlay.proofs.point_location.borders.some_edge_has.Goals as goal
 
 pub loop-place-init : goal.loop-place-init

@@ -1,7 +1,7 @@
 use Rattle.std.proofs.Common.{◌≡◌, false, ◌∷◌, [], All, sym, subst}
 use Rattle.plane_base.specs.Views.{points_of}
 use Rattle.polygon_overlay.specs.Location.{in_contour}
-use Rattle.polygon_overlay.proofs.LocationLaws.{IsUnderWay, all_even, begun, goes_on, alone, all_found}
+use Rattle.polygon_overlay.proofs.Locating.LocationLaws.{IsUnderWay, all_even, begun, goes_on, alone, all_found}
 use Rattle.polygon_overlay.proofs.point_location.columns.contour_by_columns.Goals as goal
 
 pub locate_in_contour-requires-clause-even : goal.locate_in_contour-requires-clause-even

@@ -1,7 +1,7 @@
 use Rattle.std.proofs.Common.{◌≡◌, false, All, refl, sym, subst}
 use Rattle.plane_base.specs.GivenViews.{contours_of}
 use Rattle.polygon_overlay.specs.Location.{in_shape}
-use Rattle.polygon_overlay.proofs.LocationLaws.{IsUnderWay, all_even, begun, goes_on, all_found}
+use Rattle.polygon_overlay.proofs.Locating.LocationLaws.{IsUnderWay, all_even, begun, goes_on, all_found}
 use Rattle.polygon_overlay.proofs.point_location.columns.shape_by_columns.Goals as goal
 
 pub locate_in_shape-requires-clause-even : goal.locate_in_shape-requires-clause-even

@@ -7,7 +7,7 @@ use Rattle.plane_base.proofs.Facts.Lists.Views.{All-mapped}
 use Rattle.contour_walk.specs.ShapeViews.{shapes_of}
 use Rattle.polygon_overlay.specs.Location.{in_shapes}
 use Rattle.polygon_overlay.specs.LocationViews.{located, AreReady, AnswerEach}
-use Rattle.polygon_overlay.proofs.LocationLaws.{AreFound, all_even, begun, goes_on, in_shapes_more, all_found}
+use Rattle.polygon_overlay.proofs.Locating.LocationLaws.{AreFound, all_even, begun, goes_on, in_shapes_more, all_found}
 use Rattle.polygon_overlay.proofs.point_location.columns.shapes_by_columns.Goals as goal
 
 pub loop-shape-init : goal.loop-shape-init

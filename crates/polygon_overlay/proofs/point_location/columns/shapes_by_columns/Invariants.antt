@@ -1,7 +1,7 @@
 use Rattle.std.proofs.Common.{take}
 use Rattle.contour_walk.specs.ShapeViews.{shapes_of}
 use Rattle.polygon_overlay.specs.Location.{in_shapes}
-use Rattle.polygon_overlay.proofs.LocationLaws.{IsUnderWay}
+use Rattle.polygon_overlay.proofs.Locating.LocationLaws.{IsUnderWay}
 use Rattle.polygon_overlay.proofs.point_location.columns.shapes_by_columns.Given as goal
 
 -- What lies inside of the shapes before this one is found.

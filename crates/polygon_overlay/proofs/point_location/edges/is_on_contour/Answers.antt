@@ -6,7 +6,7 @@ use Rattle.plane_base.specs.SegmentViews.{edge_of}
 use Rattle.plane_base.specs.Views.{point_of, points_of}
 use Rattle.segment_arrangement.specs.FanLaws.{whole}
 use Rattle.contour_walk.specs.Walks.{contour_edges}
-use Rattle.polygon_overlay.proofs.LocationLaws.{length-contour_edges, none_more, one_found, none_at_all}
+use Rattle.polygon_overlay.proofs.Locating.LocationLaws.{length-contour_edges, none_more, one_found, none_at_all}
 use Rattle.polygon_overlay.proofs.point_location.edges.is_on_contour.Goals as goal
 
 pub lies_on-requires-clause-in_range : goal.lies_on-requires-clause-in_range

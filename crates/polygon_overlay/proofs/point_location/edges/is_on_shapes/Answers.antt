@@ -8,7 +8,7 @@ use Rattle.plane_base.proofs.Facts.Lists.Views.{All-mapped}
 use Rattle.segment_arrangement.specs.FanLaws.{whole}
 use Rattle.contour_walk.specs.ShapeViews.{shapes_of}
 use Rattle.polygon_overlay.specs.Location.{is_on_edge}
-use Rattle.polygon_overlay.proofs.LocationLaws.{any_mapped, none_more, one_found, none_at_all, on_each_shape, all_in_shapes}
+use Rattle.polygon_overlay.proofs.Locating.LocationLaws.{any_mapped, none_more, one_found, none_at_all, on_each_shape, all_in_shapes}
 use Rattle.polygon_overlay.proofs.point_location.edges.is_on_shapes.Goals as goal
 
 pub is_on_contours-requires-clause-in_range : goal.is_on_contours-requires-clause-in_range

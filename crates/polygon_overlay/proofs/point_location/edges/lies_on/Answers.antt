@@ -1,6 +1,6 @@
 use Rattle.plane_base.specs.SegmentViews.{edge_of}
 use Rattle.plane_base.specs.Views.{point_of}
-use Rattle.polygon_overlay.proofs.LocationLaws.{beside_line, from_first, before_first}
+use Rattle.polygon_overlay.proofs.Locating.LocationLaws.{beside_line, from_first, before_first}
 use Rattle.polygon_overlay.proofs.point_location.edges.lies_on.Goals as goal
 
 pub returns-then-not-is_eq : goal.returns-then-not-is_eq

@@ -7,9 +7,9 @@ use Rattle.contour_walk.specs.Walks.{contour_edges}
 use Rattle.polygon_overlay.specs.Location.{in_contour}
 use Rattle.polygon_overlay.specs.LocationViews.{are_odd_below}
 use Rattle.polygon_overlay.specs.Stretches.{end_before, IsStretch, ends_of, edge_ends, IsParityBetween}
-use Rattle.polygon_overlay.proofs.LocationLaws.{false_differ, length-contour_edges}
-use Rattle.polygon_overlay.proofs.OutlineLaws.{parity_before, inside_by_all}
-use Rattle.polygon_overlay.proofs.StretchLaws.{end_within, own_stretch, looked_past}
+use Rattle.polygon_overlay.proofs.Locating.LocationLaws.{false_differ, length-contour_edges}
+use Rattle.polygon_overlay.proofs.Locating.OutlineLaws.{parity_before, inside_by_all}
+use Rattle.polygon_overlay.proofs.Locating.StretchLaws.{end_within, own_stretch, looked_past}
 use Rattle.polygon_overlay.proofs.point_location.outline.all_are_odd.Given.{Over}
 use Rattle.polygon_overlay.proofs.point_location.outline.all_are_odd.Goals.{After-index-stretches-left}
 use Rattle.polygon_overlay.proofs.point_location.outline.all_are_odd.Goals as goal

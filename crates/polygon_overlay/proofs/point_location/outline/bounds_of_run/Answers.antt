@@ -2,7 +2,7 @@ use Rattle.std.proofs.Common.{arith}
 use Rattle.plane_base.specs.Views.{points_of}
 use Rattle.polygon_overlay.specs.PointBoxes.{bounds_of}
 use Rattle.polygon_overlay.specs.Stretches.{edge_ends}
-use Rattle.polygon_overlay.proofs.OutlineLaws.{boxed_more}
+use Rattle.polygon_overlay.proofs.Locating.OutlineLaws.{boxed_more}
 use Rattle.polygon_overlay.proofs.point_location.outline.bounds_of_run.Goals as goal
 
 pub loop-place-init : goal.loop-place-init

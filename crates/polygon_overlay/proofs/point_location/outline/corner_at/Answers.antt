@@ -1,6 +1,6 @@
 use Rattle.std.proofs.Common.{arith}
 use Rattle.plane_base.specs.Views.{point_of}
-use Rattle.polygon_overlay.proofs.OutlineLaws.{corner_within, corner_again}
+use Rattle.polygon_overlay.proofs.Locating.OutlineLaws.{corner_within, corner_again}
 use Rattle.polygon_overlay.proofs.point_location.outline.corner_at.Goals as goal
 
 pub returns-then-place-points : goal.returns-then-place-points

@@ -6,8 +6,8 @@ use Rattle.segment_arrangement.specs.EdgeSides.{differ}
 use Rattle.segment_arrangement.specs.FanLaws.{whole}
 use Rattle.contour_walk.specs.Walks.{contour_edges}
 use Rattle.polygon_overlay.specs.Stretches.{IsParityBetween}
-use Rattle.polygon_overlay.proofs.LocationLaws.{length-contour_edges}
-use Rattle.polygon_overlay.proofs.OutlineLaws.{parity_none, parity_more}
+use Rattle.polygon_overlay.proofs.Locating.LocationLaws.{length-contour_edges}
+use Rattle.polygon_overlay.proofs.Locating.OutlineLaws.{parity_none, parity_more}
 use Rattle.polygon_overlay.proofs.point_location.outline.edges_are_odd.Goals as goal
 
 pub loop-place-init : goal.loop-place-init

@@ -2,7 +2,7 @@ use Rattle.std.proofs.Common.{◌∙◌, sym, subst}
 use Rattle.plane_base.specs.Views.{point_of, points_of}
 use Rattle.polygon_overlay.specs.PointBoxes.{bounds_of}
 use Rattle.polygon_overlay.specs.Stretches.{AreStretches, edge_ends}
-use Rattle.polygon_overlay.proofs.OutlineLaws.{contour_off}
+use Rattle.polygon_overlay.proofs.Locating.OutlineLaws.{contour_off}
 use Rattle.polygon_overlay.proofs.point_location.outline.is_inside.Goals as goal
 
 pub returns-then-is_off : goal.returns-then-is_off

@@ -5,7 +5,7 @@ use Rattle.segment_arrangement.specs.FanLaws.{whole}
 use Rattle.contour_walk.specs.Walks.{contour_edges}
 use Rattle.polygon_overlay.specs.PointBoxes.{bounds_of}
 use Rattle.polygon_overlay.specs.Stretches.{IsParityBetween}
-use Rattle.polygon_overlay.proofs.OutlineLaws.{run_clear, run_under}
+use Rattle.polygon_overlay.proofs.Locating.OutlineLaws.{run_clear, run_under}
 use Rattle.polygon_overlay.proofs.point_location.outline.look_at.Goals as goal
 
 pub returns-then-is_clear-clause-fewer : goal.returns-then-is_clear-clause-fewer

@@ -1,7 +1,7 @@
 use Rattle.std.proofs.Common.{◌∙◌, sym}
 use Rattle.plane_base.specs.SegmentViews.{edge_of}
 use Rattle.plane_base.specs.Views.{point_of}
-use Rattle.polygon_overlay.proofs.OutlineLaws.{left_told, right_told, turn_told}
+use Rattle.polygon_overlay.proofs.Locating.OutlineLaws.{left_told, right_told, turn_told}
 use Rattle.polygon_overlay.proofs.point_location.outline.passes_below.Goals as goal
 
 pub returns-then-is_left_of : goal.returns-then-is_left_of

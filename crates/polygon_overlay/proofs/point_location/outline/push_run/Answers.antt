@@ -3,8 +3,8 @@ use Rattle.std.proofs.lemmas.List.{length-map}
 use Rattle.plane_base.specs.Views.{point_of, points_of}
 use Rattle.contour_walk.specs.Walks.{contour_edges}
 use Rattle.polygon_overlay.specs.Stretches.{end_before, AreStretches, ends_of, edge_ends}
-use Rattle.polygon_overlay.proofs.LocationLaws.{length-contour_edges}
-use Rattle.polygon_overlay.proofs.StretchLaws.{end_at_last, stretches_push, run_is_stretch}
+use Rattle.polygon_overlay.proofs.Locating.LocationLaws.{length-contour_edges}
+use Rattle.polygon_overlay.proofs.Locating.StretchLaws.{end_at_last, stretches_push, run_is_stretch}
 use Rattle.polygon_overlay.proofs.point_location.outline.push_run.Goals as goal
 
 pub returns-clause-pushed : goal.returns-clause-pushed

@@ -1,7 +1,7 @@
 use Rattle.std.proofs.Common.{◌∙◌, refl, arith}
 use Rattle.plane_base.specs.Views.{points_of}
 use Rattle.polygon_overlay.specs.Stretches.{edge_ends}
-use Rattle.polygon_overlay.proofs.StretchLaws.{none_yet}
+use Rattle.polygon_overlay.proofs.Locating.StretchLaws.{none_yet}
 use Rattle.polygon_overlay.proofs.point_location.outline.stretches_of.Goals as goal
 
 pub loop-run-init : goal.loop-run-init

@@ -3,7 +3,7 @@ use Rattle.std.proofs.lemmas.List.{length-map}
 use Rattle.plane_base.specs.SegmentViews.{edge_of}
 use Rattle.plane_base.specs.Views.{point_of, points_of}
 use Rattle.polygon_overlay.specs.PointBoxes.{bounds_of}
-use Rattle.polygon_overlay.proofs.OutlineLaws.{ends_added}
+use Rattle.polygon_overlay.proofs.Locating.OutlineLaws.{ends_added}
 use Rattle.polygon_overlay.proofs.point_location.outline.with_edge.Goals as goal
 
 pub returns-clause-kept : goal.returns-clause-kept

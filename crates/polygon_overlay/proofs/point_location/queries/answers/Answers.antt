@@ -1,6 +1,6 @@
 use Rattle.std.proofs.Common.{◌∙◌, ◌<◌, length, subst, sym, arith}
 use Rattle.std.proofs.lemmas.List.{length-set}
-use Rattle.polygon_overlay.proofs.LocationLaws.{own_index, told_more, all_told}
+use Rattle.polygon_overlay.proofs.Locating.LocationLaws.{own_index, told_more, all_told}
 use Rattle.polygon_overlay.proofs.point_location.queries.answers.Goals as goal
 
 pub index_mut-requires : goal.index_mut-requires

@@ -1,6 +1,6 @@
 use Rattle.std.proofs.Common.{[], arith, get_or}
 use Rattle.polygon_overlay.specs.LocationViews.{located}
-use Rattle.polygon_overlay.proofs.LocationLaws.{mapped_more, mapped_apart, ended_even}
+use Rattle.polygon_overlay.proofs.Locating.LocationLaws.{mapped_more, mapped_apart, ended_even}
 use Rattle.polygon_overlay.proofs.point_location.queries.end_shape.Goals as goal
 
 pub returns : goal.returns

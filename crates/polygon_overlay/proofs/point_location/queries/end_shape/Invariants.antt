@@ -1,6 +1,6 @@
 use Rattle.std.proofs.Common.{[]}
 use Rattle.polygon_overlay.specs.LocationViews.{located}
-use Rattle.polygon_overlay.proofs.LocationLaws.{IsMapped}
+use Rattle.polygon_overlay.proofs.Locating.LocationLaws.{IsMapped}
 use Rattle.polygon_overlay.proofs.point_location.queries.end_shape.Given as goal
 
 -- What is odd is found, of the run up to this query.

@@ -1,6 +1,6 @@
 use Rattle.std.proofs.Common.{rules, int_lt, arith, get_or}
 use Rattle.std.proofs.lemmas.List.Sorted.{IsPartitionPoint-from_clause}
-use Rattle.polygon_overlay.proofs.LocationLaws.{parted_by_column, lt_tells}
+use Rattle.polygon_overlay.proofs.Locating.LocationLaws.{parted_by_column, lt_tells}
 use Rattle.segment_arrangement.proofs.Facts.ColumnPlaces.{lt_tells_not}
 use Rattle.polygon_overlay.proofs.point_location.queries.first_from.Goals as goal
 

@@ -3,7 +3,7 @@ use Rattle.std.proofs.lemmas.List.{append-nil}
 use Rattle.plane_base.specs.Views.{points_of}
 use Rattle.contour_walk.specs.Walks.{contour_edges}
 use Rattle.polygon_overlay.specs.LocationViews.{passed, located}
-use Rattle.polygon_overlay.proofs.LocationLaws.{ended}
+use Rattle.polygon_overlay.proofs.Locating.LocationLaws.{ended}
 use Rattle.polygon_overlay.proofs.point_location.queries.locate_in_contour.Goals as goal
 
 pub returns : goal.returns

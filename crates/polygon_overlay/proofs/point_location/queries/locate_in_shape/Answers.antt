@@ -7,7 +7,7 @@ use Rattle.plane_base.specs.declared.path.IntPath.{IntPath}
 use Rattle.plane_base.proofs.Facts.Lists.Views.{All-mapped}
 use Rattle.contour_walk.specs.Walks.{contour_edges}
 use Rattle.polygon_overlay.specs.LocationViews.{passed, located, AreReady}
-use Rattle.polygon_overlay.proofs.LocationLaws.{all_passed_nothing, all_passed_twice, ready_passed, edges_more, ended}
+use Rattle.polygon_overlay.proofs.Locating.LocationLaws.{all_passed_nothing, all_passed_twice, ready_passed, edges_more, ended}
 use Rattle.polygon_overlay.proofs.point_location.queries.locate_in_shape.Goals as goal
 
 pub loop-contour-init : goal.loop-contour-init

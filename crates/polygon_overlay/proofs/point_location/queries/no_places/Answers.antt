@@ -1,5 +1,5 @@
 use Rattle.std.proofs.Common.{length}
-use Rattle.polygon_overlay.proofs.LocationLaws.{none_odd}
+use Rattle.polygon_overlay.proofs.Locating.LocationLaws.{none_odd}
 use Rattle.polygon_overlay.proofs.point_location.queries.no_places.Goals as goal
 
 pub returns : goal.returns

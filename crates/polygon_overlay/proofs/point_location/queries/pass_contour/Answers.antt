@@ -4,7 +4,7 @@ use Rattle.plane_base.specs.SegmentViews.{edge_of}
 use Rattle.plane_base.specs.Views.{point_of, points_of}
 use Rattle.contour_walk.specs.Walks.{contour_edges}
 use Rattle.polygon_overlay.specs.LocationViews.{passed, AreReady}
-use Rattle.polygon_overlay.proofs.LocationLaws.{length-contour_edges, all_passed_nothing, all_passed_twice, ready_passed}
+use Rattle.polygon_overlay.proofs.Locating.LocationLaws.{length-contour_edges, all_passed_nothing, all_passed_twice, ready_passed}
 use Rattle.polygon_overlay.proofs.point_location.queries.pass_contour.Goals as goal
 
 pub loop-place-init : goal.loop-place-init

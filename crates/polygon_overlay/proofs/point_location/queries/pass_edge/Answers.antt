@@ -1,7 +1,7 @@
 use Rattle.std.proofs.Common.{◌≡◌, ◌<◌, ◌≤◌, ℕ, [], ◌∷◌, arith, length, get_or}
 use Rattle.plane_base.specs.SegmentViews.{edge_of}
 use Rattle.polygon_overlay.specs.LocationViews.{passed}
-use Rattle.polygon_overlay.proofs.LocationLaws.{mapped_more, mapped_apart, odd_within, left_of, right_of}
+use Rattle.polygon_overlay.proofs.Locating.LocationLaws.{mapped_more, mapped_apart, odd_within, left_of, right_of}
 use Rattle.polygon_overlay.proofs.point_location.queries.pass_edge.Goals as goal
 
 pub loop-place-preserved : goal.loop-place-preserved

@@ -1,7 +1,7 @@
 use Rattle.std.proofs.Common.{[], ◌∷◌}
 use Rattle.plane_base.specs.SegmentViews.{edge_of}
 use Rattle.polygon_overlay.specs.LocationViews.{passed}
-use Rattle.polygon_overlay.proofs.LocationLaws.{IsMapped}
+use Rattle.polygon_overlay.proofs.Locating.LocationLaws.{IsMapped}
 use Rattle.polygon_overlay.proofs.point_location.queries.pass_edge.Given as goal
 
 -- The queries in the edge's column up to this one are turned.

@@ -3,7 +3,7 @@ use Rattle.std.proofs.lemmas.Fn.{always_returns_same}
 use Rattle.std.proofs.lemmas.List.Sorted.{sorted_far, All-permutation}
 use Rattle.plane_base.specs.Plane.{IsWithin}
 use Rattle.plane_base.specs.Views.{point_of}
-use Rattle.polygon_overlay.proofs.LocationLaws.{by_column, by_cmp, rises}
+use Rattle.polygon_overlay.proofs.Locating.LocationLaws.{by_column, by_cmp, rises}
 use Rattle.polygon_overlay.proofs.point_location.queries.sort_by_column.Goals as goal
 
 pub returns-clause-ready : goal.returns-clause-ready

@@ -4,7 +4,7 @@ use Rattle.std.proofs.lemmas.List.Sorted.{length_permutation}
 use Rattle.plane_base.specs.Plane.{IsWithin}
 use Rattle.plane_base.specs.Views.{point_of}
 use Rattle.polygon_overlay.specs.LocationViews.{all_asked, asked, AreReady}
-use Rattle.polygon_overlay.proofs.LocationLaws.{asked_more, asked_within, written_back}
+use Rattle.polygon_overlay.proofs.Locating.LocationLaws.{asked_more, asked_within, written_back}
 use Rattle.polygon_overlay.proofs.point_location.queries.sorted_queries.Goals as goal
 
 pub loop-index-preserved : goal.loop-index-preserved

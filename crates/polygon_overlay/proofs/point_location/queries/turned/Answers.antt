@@ -1,5 +1,5 @@
 use Rattle.plane_base.specs.SegmentViews.{edge_of}
-use Rattle.polygon_overlay.proofs.LocationLaws.{not_turned, turned}
+use Rattle.polygon_overlay.proofs.Locating.LocationLaws.{not_turned, turned}
 use Rattle.polygon_overlay.proofs.point_location.queries.turned.Goals as goal
 
 pub returns-then-is_le : goal.returns-then-is_le

@@ -1,7 +1,7 @@
 use Rattle.std.proofs.Common.{◌∙◌, sym}
 use Rattle.plane_base.specs.SegmentViews.{edge_of}
 use Rattle.plane_base.proofs.Facts.Points.Orders.{edge_total, edge_equal, edge_itself, less_from_greater}
-use Rattle.polygon_overlay.proofs.LocationLaws.{resolved_by, resolved_by_swapped, never_resolved}
+use Rattle.polygon_overlay.proofs.Locating.LocationLaws.{resolved_by, resolved_by_swapped, never_resolved}
 use Rattle.polygon_overlay.proofs.point_location.resolved.are_resolved.Goals as goal
 
 pub cross_late-requires-in-Greater-clause-not_greater : goal.cross_late-requires-in-Greater-clause-not_greater

@@ -8,7 +8,7 @@ use Rattle.plane_base.proofs.Facts.Lists.Views.{All-mapped}
 use Rattle.plane_base.proofs.Facts.Lists.Taken.{All-taken_more}
 use Rattle.contour_walk.specs.ShapeViews.{shapes_of}
 use Rattle.polygon_overlay.specs.Location.{IsResolved}
-use Rattle.polygon_overlay.proofs.LocationLaws.{all_from_shapes, all_in_shapes}
+use Rattle.polygon_overlay.proofs.Locating.LocationLaws.{all_from_shapes, all_in_shapes}
 use Rattle.polygon_overlay.proofs.point_location.resolved.are_shapes_resolved.Goals as goal
 
 pub are_contours_resolved-requires : goal.are_contours_resolved-requires

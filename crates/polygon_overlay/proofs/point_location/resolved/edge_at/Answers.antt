@@ -2,7 +2,7 @@ use Rattle.std.proofs.Common.{◌∙◌, ◌+◌, arith}
 use Rattle.plane_base.specs.Plane.{IsWithin}
 use Rattle.plane_base.specs.Views.{point_of}
 use Rattle.plane_base.proofs.Facts.Lists.Views.{All-mapped}
-use Rattle.polygon_overlay.proofs.LocationLaws.{edge_within, edge_behind}
+use Rattle.polygon_overlay.proofs.Locating.LocationLaws.{edge_within, edge_behind}
 use Rattle.polygon_overlay.proofs.point_location.resolved.edge_at.Goals as goal
 
 pub returns-then-place-points-clause-is : goal.returns-then-place-points-clause-is

@@ -3,7 +3,7 @@ use Rattle.std.proofs.lemmas.Bool.{false≢true}
 use Rattle.std.proofs.lemmas.List.{length-map}
 use Rattle.plane_base.specs.Views.{point_of, points_of}
 use Rattle.contour_walk.specs.Walks.{contour_edges}
-use Rattle.polygon_overlay.proofs.LocationLaws.{length-contour_edges, pairs_more}
+use Rattle.polygon_overlay.proofs.Locating.LocationLaws.{length-contour_edges, pairs_more}
 use Rattle.polygon_overlay.proofs.point_location.resolved.is_contour_resolved.Goals as goal
 
 pub returns-then-not-is_resolved_before : goal.returns-then-not-is_resolved_before

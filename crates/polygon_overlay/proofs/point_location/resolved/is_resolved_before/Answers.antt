@@ -4,7 +4,7 @@ use Rattle.plane_base.specs.SegmentViews.{edge_of}
 use Rattle.plane_base.specs.Views.{points_of}
 use Rattle.contour_walk.specs.Walks.{contour_edges}
 use Rattle.polygon_overlay.specs.Location.{AreResolved}
-use Rattle.polygon_overlay.proofs.LocationLaws.{one_holds_more}
+use Rattle.polygon_overlay.proofs.Locating.LocationLaws.{one_holds_more}
 use Rattle.polygon_overlay.proofs.point_location.resolved.is_resolved_before.Goals as goal
 
 pub returns-then-not-are_resolved : goal.returns-then-not-are_resolved

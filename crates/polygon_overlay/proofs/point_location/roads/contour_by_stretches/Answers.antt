@@ -5,7 +5,7 @@ use Rattle.plane_base.specs.Views.{point_of, points_of}
 use Rattle.plane_base.proofs.Facts.Lists.Views.{All-mapped}
 use Rattle.segment_arrangement.specs.FanLaws.{whole}
 use Rattle.polygon_overlay.specs.Location.{in_contour}
-use Rattle.polygon_overlay.proofs.IndexLaws.{located_more}
+use Rattle.polygon_overlay.proofs.Locating.IndexLaws.{located_more}
 use Rattle.polygon_overlay.proofs.point_location.roads.contour_by_stretches.Goals as goal
 
 pub is_inside-is_in-requires-clause-point_in_range : goal.is_inside-is_in-requires-clause-point_in_range

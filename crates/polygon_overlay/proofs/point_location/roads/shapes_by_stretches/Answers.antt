@@ -6,7 +6,7 @@ use Rattle.plane_base.proofs.Facts.Lists.Views.{All-mapped}
 use Rattle.segment_arrangement.specs.FanLaws.{whole}
 use Rattle.contour_walk.specs.ShapeViews.{shapes_of}
 use Rattle.polygon_overlay.specs.Location.{in_shapes}
-use Rattle.polygon_overlay.proofs.IndexLaws.{located_more}
+use Rattle.polygon_overlay.proofs.Locating.IndexLaws.{located_more}
 use Rattle.polygon_overlay.proofs.point_location.roads.shapes_by_stretches.Goals as goal
 
 pub is_in_shapes-is_in-requires-clause-point_in_range : goal.is_in_shapes-is_in-requires-clause-point_in_range

@@ -3,8 +3,8 @@ use Rattle.std.proofs.lemmas.Grind.{common_steps}
 use Rattle.segment_split.specs.Groups.{LiesWithin}
 use Rattle.polygon_overlay.specs.PointBoxes.{bounds_of}
 use Rattle.polygon_overlay.specs.Stretches.{points_by}
-use Rattle.polygon_overlay.proofs.IndexLaws.{number_inside, points_numbered, outlined_at}
-use Rattle.polygon_overlay.proofs.OutlineLaws.{boxed_more}
+use Rattle.polygon_overlay.proofs.Locating.IndexLaws.{number_inside, points_numbered, outlined_at}
+use Rattle.polygon_overlay.proofs.Locating.OutlineLaws.{boxed_more}
 use Rattle.polygon_overlay.proofs.point_location.shape_index.bounds_of_field.Given.{Over}
 use Rattle.polygon_overlay.proofs.point_location.shape_index.bounds_of_field.Goals.{After-number_at-number}
 use Rattle.polygon_overlay.proofs.point_location.shape_index.bounds_of_field.Goals as goal

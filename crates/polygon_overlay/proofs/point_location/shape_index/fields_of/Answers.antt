@@ -1,6 +1,6 @@
 use Rattle.std.proofs.Common.{◌∙◌, refl, arith}
 use Rattle.polygon_overlay.specs.Stretches.{points_by}
-use Rattle.polygon_overlay.proofs.StretchLaws.{none_yet}
+use Rattle.polygon_overlay.proofs.Locating.StretchLaws.{none_yet}
 use Rattle.polygon_overlay.proofs.point_location.shape_index.fields_of.Goals as goal
 
 pub loop-run-init : goal.loop-run-init

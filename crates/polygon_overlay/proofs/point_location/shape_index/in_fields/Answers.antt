@@ -8,8 +8,8 @@ use Rattle.segment_arrangement.specs.FanLaws.{whole}
 use Rattle.contour_walk.specs.ShapeViews.{shapes_of}
 use Rattle.polygon_overlay.specs.Stretches.{end_before, IsStretch, points_by, NoneContains}
 use Rattle.polygon_overlay.specs.declared.point_location.shape_index.Placed.{Placed}
-use Rattle.polygon_overlay.proofs.IndexLaws.{none_contains_through, none_contains}
-use Rattle.polygon_overlay.proofs.StretchLaws.{own_stretch, looked_past}
+use Rattle.polygon_overlay.proofs.Locating.IndexLaws.{none_contains_through, none_contains}
+use Rattle.polygon_overlay.proofs.Locating.StretchLaws.{own_stretch, looked_past}
 use Rattle.polygon_overlay.proofs.point_location.shape_index.in_fields.Given.{Over}
 use Rattle.polygon_overlay.proofs.point_location.shape_index.in_fields.Goals.{After-index-fields-left}
 use Rattle.polygon_overlay.proofs.point_location.shape_index.in_fields.Goals as goal

@@ -3,7 +3,7 @@ use Rattle.std.specs.List.{AllZip}
 use Rattle.contour_walk.specs.ShapeViews.{shapes_of}
 use Rattle.polygon_overlay.specs.Stretches.{IsOutlined, AreOutlined, AreStretches, number_of, points_by}
 use Rattle.polygon_overlay.specs.declared.point_location.shape_index.Placed.{Placed}
-use Rattle.polygon_overlay.proofs.IndexLaws.{zip_length}
+use Rattle.polygon_overlay.proofs.Locating.IndexLaws.{zip_length}
 use Rattle.polygon_overlay.proofs.point_location.shape_index.index_of.Goals as goal
 
 pub fields_of-requires : goal.fields_of-requires

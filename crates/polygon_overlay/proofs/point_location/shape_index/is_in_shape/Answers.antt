@@ -9,8 +9,8 @@ use Rattle.segment_arrangement.specs.EdgeSides.{differ}
 use Rattle.segment_arrangement.specs.FanLaws.{whole}
 use Rattle.polygon_overlay.specs.Location.{in_contour, in_shape}
 use Rattle.polygon_overlay.specs.Stretches.{IsOutlined}
-use Rattle.polygon_overlay.proofs.IndexLaws.{zip_length, contours_more, contour_outlined}
-use Rattle.polygon_overlay.proofs.OutlineLaws.{in_shape_more}
+use Rattle.polygon_overlay.proofs.Locating.IndexLaws.{zip_length, contours_more, contour_outlined}
+use Rattle.polygon_overlay.proofs.Locating.OutlineLaws.{in_shape_more}
 use Rattle.polygon_overlay.proofs.point_location.shape_index.is_in_shape.Goals as goal
 
 pub loop-place-init : goal.loop-place-init

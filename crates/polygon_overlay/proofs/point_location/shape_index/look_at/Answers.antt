@@ -3,7 +3,7 @@ use Rattle.std.proofs.lemmas.Bool.{false≢true}
 use Rattle.plane_base.specs.Views.{point_of}
 use Rattle.contour_walk.specs.ShapeViews.{shapes_of}
 use Rattle.polygon_overlay.specs.PointBoxes.{bounds_of}
-use Rattle.polygon_overlay.proofs.IndexLaws.{field_off}
+use Rattle.polygon_overlay.proofs.Locating.IndexLaws.{field_off}
 use Rattle.polygon_overlay.proofs.point_location.shape_index.look_at.Goals as goal
 
 pub returns-then-is_off-clause-fewer : goal.returns-then-is_off-clause-fewer

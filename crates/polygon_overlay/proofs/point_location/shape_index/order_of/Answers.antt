@@ -2,8 +2,8 @@ use Rattle.std.proofs.Common.{◌≡◌, ◌+◌, ◌<◌, ℕ, length, map, All
 use Rattle.std.proofs.lemmas.List.Sorted.{length_permutation}
 use Rattle.polygon_overlay.specs.Stretches.{number_of}
 use Rattle.polygon_overlay.specs.declared.point_location.shape_index.Placed.{Placed}
-use Rattle.polygon_overlay.proofs.IndexLaws.{AreNumbered, none_numbered, one_numbered_more, all_inside, each_stands}
-use Rattle.polygon_overlay.proofs.LocationLaws.{written_back}
+use Rattle.polygon_overlay.proofs.Locating.IndexLaws.{AreNumbered, none_numbered, one_numbered_more, all_inside, each_stands}
+use Rattle.polygon_overlay.proofs.Locating.LocationLaws.{written_back}
 use Rattle.polygon_overlay.proofs.point_location.shape_index.order_of.Goals as goal
 
 pub loop-number-init : goal.loop-number-init

@@ -1,4 +1,4 @@
-use Rattle.polygon_overlay.proofs.IndexLaws.{AreNumbered}
+use Rattle.polygon_overlay.proofs.Locating.IndexLaws.{AreNumbered}
 use Rattle.polygon_overlay.proofs.point_location.shape_index.order_of.Given as goal
 
 -- The shapes before this one stand by their numbers.

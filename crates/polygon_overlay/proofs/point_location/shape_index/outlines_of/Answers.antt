@@ -4,7 +4,7 @@ use Rattle.std.proofs.lemmas.List.{take_all}
 use Rattle.plane_base.specs.GivenViews.{contours_of}
 use Rattle.plane_base.specs.Views.{points_of}
 use Rattle.polygon_overlay.specs.Stretches.{IsOutlined}
-use Rattle.polygon_overlay.proofs.IndexLaws.{zip_push, contours_more}
+use Rattle.polygon_overlay.proofs.Locating.IndexLaws.{zip_push, contours_more}
 use Rattle.polygon_overlay.proofs.point_location.shape_index.outlines_of.Goals as goal
 
 pub loop-contour-preserved : goal.loop-contour-preserved

@@ -4,7 +4,7 @@ use Rattle.std.proofs.lemmas.List.{take_all}
 use Rattle.plane_base.specs.GivenViews.{contours_of}
 use Rattle.contour_walk.specs.ShapeViews.{shapes_of}
 use Rattle.polygon_overlay.specs.Stretches.{IsOutlined, AreOutlined}
-use Rattle.polygon_overlay.proofs.IndexLaws.{zip_push, shapes_more}
+use Rattle.polygon_overlay.proofs.Locating.IndexLaws.{zip_push, shapes_more}
 use Rattle.polygon_overlay.proofs.point_location.shape_index.outlines_of_shapes.Goals as goal
 
 pub loop-shape-preserved : goal.loop-shape-preserved

@@ -3,7 +3,7 @@ use Rattle.std.specs.Prelude.{slice_index_or}
 use Rattle.std.proofs.lemmas.List.{length-map}
 use Rattle.polygon_overlay.specs.Stretches.{end_before, AreStretches, points_by}
 use Rattle.polygon_overlay.specs.declared.point_location.shape_index.Placed.{Placed}
-use Rattle.polygon_overlay.proofs.StretchLaws.{end_at_last, stretches_push, run_is_stretch}
+use Rattle.polygon_overlay.proofs.Locating.StretchLaws.{end_at_last, stretches_push, run_is_stretch}
 use Rattle.polygon_overlay.proofs.point_location.shape_index.push_field.Goals as goal
 
 pub returns-clause-pushed : goal.returns-clause-pushed

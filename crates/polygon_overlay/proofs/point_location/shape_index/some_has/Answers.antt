@@ -12,7 +12,7 @@ use Rattle.segment_arrangement.specs.FanLaws.{whole}
 use Rattle.contour_walk.specs.ShapeViews.{shapes_of}
 use Rattle.polygon_overlay.specs.Location.{in_shape}
 use Rattle.polygon_overlay.specs.Stretches.{IsOutlined}
-use Rattle.polygon_overlay.proofs.IndexLaws.{zip_length, shape_at, outlined_at, number_inside, none_with_number, none_between, one_contains}
+use Rattle.polygon_overlay.proofs.Locating.IndexLaws.{zip_length, shape_at, outlined_at, number_inside, none_with_number, none_between, one_contains}
 use Rattle.polygon_overlay.proofs.point_location.shape_index.some_has.Given.{Over}
 use Rattle.polygon_overlay.proofs.point_location.shape_index.some_has.Goals.{After-number_at-number}
 use Rattle.polygon_overlay.proofs.point_location.shape_index.some_has.Goals as goal

@@ -1,7 +1,7 @@
 use Rattle.std.proofs.Common.{◌≡◌, ◌+◌, ◌++◌, ◌∷◌, [], All, take, sym, ap, ◌∙◌, subst, arith}
 use Rattle.std.proofs.lemmas.List.{take_more, take_all}
 use Rattle.std.proofs.lemmas.List.Elements.{All-nil, All-push, All-weaker}
-use Rattle.polygon_overlay.proofs.IndexLaws.{HasBox, shape_boxed}
+use Rattle.polygon_overlay.proofs.Locating.IndexLaws.{HasBox, shape_boxed}
 use Rattle.polygon_overlay.proofs.point_location.shape_index.with_outlines.Goals as goal
 
 pub loop-outline-init : goal.loop-outline-init

@@ -3,7 +3,7 @@ use Rattle.std.specs.Prelude.{All}
 use Rattle.plane_base.specs.Plane.{Point}
 use Rattle.segment_split.specs.Groups.{LiesWithin}
 use Rattle.polygon_overlay.specs.PointBoxes.{bounds_of}
-use Rattle.polygon_overlay.proofs.IndexLaws.{HasBox}
+use Rattle.polygon_overlay.proofs.Locating.IndexLaws.{HasBox}
 use Rattle.polygon_overlay.proofs.point_location.shape_index.with_outlines.Given as goal
 
 -- The box has all that it had, and the boxes of the outlines before this one.

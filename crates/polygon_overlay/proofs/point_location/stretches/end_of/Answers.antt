@@ -1,6 +1,6 @@
 use Rattle.std.proofs.Common.{◌≡◌, ◌∙◌, ◌-◌, ◌<◌, suc, length, sym, ap, arith}
 use Rattle.polygon_overlay.specs.Stretches.{end_before}
-use Rattle.polygon_overlay.proofs.StretchLaws.{end_at}
+use Rattle.polygon_overlay.proofs.Locating.StretchLaws.{end_at}
 use Rattle.polygon_overlay.proofs.point_location.stretches.end_of.Goals as goal
 
 pub returns-then-count-eq0 : goal.returns-then-count-eq0

@@ -1,5 +1,5 @@
 use Rattle.std.proofs.Common.{arith}
-use Rattle.polygon_overlay.proofs.StretchLaws.{joins_itself, joins_through}
+use Rattle.polygon_overlay.proofs.Locating.StretchLaws.{joins_itself, joins_through}
 use Rattle.polygon_overlay.proofs.point_location.stretches.join_equals.Goals as goal
 
 pub loop-rest-init : goal.loop-rest-init

@@ -1,6 +1,6 @@
 use Rattle.std.proofs.Common.{◌≡◌, ◌-◌, ◌<◌, suc, length, refl, sym, subst, arith}
 use Rattle.polygon_overlay.specs.Stretches.{JoinsOn}
-use Rattle.polygon_overlay.proofs.StretchLaws.{joins_itself, joins_two}
+use Rattle.polygon_overlay.proofs.Locating.StretchLaws.{joins_itself, joins_two}
 use Rattle.polygon_overlay.proofs.point_location.stretches.join_two.Goals as goal
 
 pub returns-then-count-eq0-clause-joined : goal.returns-then-count-eq0-clause-joined

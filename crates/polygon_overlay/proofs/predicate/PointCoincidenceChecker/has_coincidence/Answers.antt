@@ -5,7 +5,7 @@ use Rattle.std.proofs.lemmas.List.Sorted.{IsPermutation-map}
 use Rattle.plane_base.specs.Plane.{point_order}
 use Rattle.plane_base.specs.Views.{point_of, points_of}
 use Rattle.polygon_overlay.specs.Predicates.{share_point}
-use Rattle.polygon_overlay.proofs.MergeLaws.{meets_moved, mapped_sorted}
+use Rattle.polygon_overlay.proofs.Relating.MergeLaws.{meets_moved, mapped_sorted}
 use Rattle.polygon_overlay.proofs.predicate.PointCoincidenceChecker.has_coincidence.Goals as goal
 
 pub share_point-requires-clause-subjects : goal.share_point-requires-clause-subjects

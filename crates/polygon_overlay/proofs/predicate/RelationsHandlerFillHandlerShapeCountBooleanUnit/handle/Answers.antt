@@ -1,6 +1,6 @@
 use Rattle.plane_base.specs.Views.{points_of}
 use Rattle.polygon_overlay.specs.Telling.{link_told}
-use Rattle.polygon_overlay.proofs.TellingLaws.{relations_told}
+use Rattle.polygon_overlay.proofs.Relating.TellingLaws.{relations_told}
 use Rattle.polygon_overlay.proofs.predicate.RelationsHandlerFillHandlerShapeCountBooleanUnit.handle.Goals as goal
 
 pub returns : goal.returns

@@ -7,9 +7,9 @@ use Rattle.contour_walk.specs.Answering.{answering_of, flat_answer}
 use Rattle.contour_walk.specs.WalkLaws.{borders}
 use Rattle.polygon_overlay.specs.FlatCalls.{LaysFlat}
 use Rattle.polygon_overlay.specs.Overlays.{IsSweepRefused, IsQueryRefused}
-use Rattle.polygon_overlay.proofs.FlatLaws.{emptied_flat}
-use Rattle.polygon_overlay.proofs.HoldingLaws.{goes_through}
-use Rattle.polygon_overlay.proofs.QueryLaws.{not_swept}
+use Rattle.polygon_overlay.proofs.Answering.FlatLaws.{emptied_flat}
+use Rattle.polygon_overlay.proofs.Holding.HoldingLaws.{goes_through}
+use Rattle.polygon_overlay.proofs.Answering.QueryLaws.{not_swept}
 use Rattle.polygon_overlay.proofs.query.flat.find_contours_into.Goals as goal
 
 -- ---- refused by the redrawing

@@ -1,6 +1,6 @@
 use Rattle.polygon_overlay.specs.PredicateCalls.{links_of}
 use Rattle.polygon_overlay.specs.Telling.{intersects_with}
-use Rattle.polygon_overlay.proofs.TellingLaws.{none_met}
+use Rattle.polygon_overlay.proofs.Relating.TellingLaws.{none_met}
 use Rattle.polygon_overlay.proofs.relate.PredicateOverlay.intersects.Goals as goal
 
 pub returns-clause-is : goal.returns-clause-is

@@ -1,7 +1,7 @@
 use Rattle.std.proofs.Common.{◌∙◌, sym, ap, subst}
 use Rattle.std.proofs.lemmas.Result.{err_from_is_err_and}
 use Rattle.polygon_overlay.specs.Builders.{IsHeld}
-use Rattle.polygon_overlay.proofs.HeldLaws.{nothing_held}
+use Rattle.polygon_overlay.proofs.Holding.HeldLaws.{nothing_held}
 use Rattle.polygon_overlay.proofs.relate.PredicateOverlay.new.Goals as goal
 
 pub returns-in_err-held : goal.returns-in_err-held

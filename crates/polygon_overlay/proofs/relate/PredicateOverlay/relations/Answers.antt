@@ -3,7 +3,7 @@ use Rattle.std.proofs.Common.{◌≡◌, subst}
 use Rattle.plane_base.specs.Views.{points_of}
 use Rattle.polygon_overlay.specs.PredicateCalls.{links_of}
 use Rattle.polygon_overlay.specs.Telling.{none_seen, relations_with}
-use Rattle.polygon_overlay.proofs.TellingLaws.{none_met}
+use Rattle.polygon_overlay.proofs.Relating.TellingLaws.{none_met}
 use Rattle.polygon_overlay.proofs.relate.PredicateOverlay.relations.Goals as goal
 
 pub returns-clause-is : goal.returns-clause-is

@@ -1,7 +1,7 @@
 use Rattle.std.proofs.Common.{false}
 use Rattle.polygon_overlay.specs.PredicateCalls.{links_of}
 use Rattle.polygon_overlay.specs.Telling.{touches_with}
-use Rattle.polygon_overlay.proofs.TellingLaws.{none_met}
+use Rattle.polygon_overlay.proofs.Relating.TellingLaws.{none_met}
 use Rattle.polygon_overlay.proofs.relate.PredicateOverlay.touches.Goals as goal
 
 pub returns-clause-is : goal.returns-clause-is

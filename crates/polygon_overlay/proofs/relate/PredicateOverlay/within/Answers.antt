@@ -5,7 +5,7 @@ use Rattle.polygon_overlay.specs.OverlayLaws.{overlay_of}
 use Rattle.polygon_overlay.specs.PredicateCalls.{links_of}
 use Rattle.polygon_overlay.specs.Predicates.{within}
 use Rattle.polygon_overlay.specs.RelationLaws.{has_contour}
-use Rattle.polygon_overlay.proofs.AgreementLaws.{is_told}
+use Rattle.polygon_overlay.proofs.Relating.AgreementLaws.{is_told}
 use Rattle.polygon_overlay.proofs.relate.PredicateOverlay.within.Goals as goal
 
 pub returns-clause-agrees : goal.returns-clause-agrees

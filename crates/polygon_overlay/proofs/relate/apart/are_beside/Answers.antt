@@ -1,6 +1,6 @@
 use Rattle.std.proofs.Common.{◌∙◌, sym, map}
 use Rattle.plane_base.specs.Views.{points_of}
-use Rattle.polygon_overlay.proofs.ReachLaws.{beside, lie_apart_swapped}
+use Rattle.polygon_overlay.proofs.Relating.ReachLaws.{beside, lie_apart_swapped}
 use Rattle.polygon_overlay.proofs.relate.apart.are_beside.Goals as goal
 
 pub returns-then-way-lt0 : goal.returns-then-way-lt0

@@ -2,7 +2,7 @@ use Rattle.std.proofs.Common.{map}
 use Rattle.plane_base.specs.Views.{points_of}
 use Rattle.polygon_overlay.specs.RelationLaws.{LieApart}
 use Rattle.polygon_overlay.specs.Singles.{AreDisjoint}
-use Rattle.polygon_overlay.proofs.ApartLaws.{apart_related}
+use Rattle.polygon_overlay.proofs.Relating.ApartLaws.{apart_related}
 use Rattle.polygon_overlay.proofs.relate.apart.lie_apart.Given.{Over}
 use Rattle.polygon_overlay.proofs.relate.apart.lie_apart.Goals.{After-holding_goes_on}
 use Rattle.polygon_overlay.proofs.relate.apart.lie_apart.Goals as goal

@@ -9,9 +9,9 @@ use Rattle.segment_arrangement.specs.RuleViews.{fill_rule_of}
 use Rattle.polygon_overlay.specs.Builders.{IsHeld}
 use Rattle.polygon_overlay.specs.Overlays.{redrawn_of, IsQueryRefused}
 use Rattle.polygon_overlay.specs.Telling.{link_told}
-use Rattle.polygon_overlay.proofs.HeldLaws.{nothing_held}
-use Rattle.polygon_overlay.proofs.QueryLaws.{not_swept}
-use Rattle.polygon_overlay.proofs.TellingLaws.{told, told_refused, links_told}
+use Rattle.polygon_overlay.proofs.Holding.HeldLaws.{nothing_held}
+use Rattle.polygon_overlay.proofs.Answering.QueryLaws.{not_swept}
+use Rattle.polygon_overlay.proofs.Relating.TellingLaws.{told, told_refused, links_told}
 use Rattle.polygon_overlay.proofs.relate.sweep.sweep_held.Goals as goal
 
 -- ---- not redrawn

@@ -2,7 +2,7 @@ use Rattle.std.proofs.Common.{map}
 use Rattle.plane_base.specs.Views.{points_of}
 use Rattle.segment_arrangement.specs.RuleViews.{fill_rule_of, overlay_rule_of}
 use Rattle.contour_walk.specs.ShapeViews.{shapes_of}
-use Rattle.polygon_overlay.proofs.SingleLaws.{single_overlay, single_refused}
+use Rattle.polygon_overlay.proofs.Answering.SingleLaws.{single_overlay, single_refused}
 use Rattle.polygon_overlay.proofs.single.AnySingleIntOverlay.overlay.Goals as goal
 
 pub returns-clause-answered : goal.returns-clause-answered

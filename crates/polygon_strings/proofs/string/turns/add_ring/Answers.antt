@@ -4,7 +4,7 @@ use Rattle.std.proofs.lemmas.List.Elements.{All-push}
 use Rattle.plane_base.specs.Views.{point_of}
 use Rattle.segment_arrangement.specs.LentGraphs.{string_links_of}
 use Rattle.contour_walk.specs.NodeRings.{AreRound}
-use Rattle.contour_walk.specs.declared.spokes.Spokes.{Spokes}
+use Rattle.contour_walk.specs.declared.walk.spokes.Spokes.{Spokes}
 use Rattle.polygon_strings.specs.ClipWalks.{link_edges}
 use Rattle.polygon_strings.specs.NodeTurns.{half_states}
 use Rattle.polygon_strings.proofs.Clips.Links.{node_places}

@@ -2,7 +2,7 @@ use Rattle.std.proofs.Common.{◌≡◌, ◌<◌, not, length, get_or, sym, ap, 
 use Rattle.std.proofs.lemmas.List.{get_or_default}
 use Rattle.plane_base.specs.Views.{point_of}
 use Rattle.contour_walk.specs.NodeRings.{place_after}
-use Rattle.contour_walk.specs.declared.spokes.Spokes.{Spokes}
+use Rattle.contour_walk.specs.declared.walk.spokes.Spokes.{Spokes}
 use Rattle.contour_walk.proofs.RoundNodes.{after_inside}
 use Rattle.polygon_strings.proofs.string.turns.turn_at.Goals as goal
 

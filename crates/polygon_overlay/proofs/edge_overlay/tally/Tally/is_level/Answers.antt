@@ -1,7 +1,7 @@
 use Rattle.std.specs.Ordering.{ordering_then}
 use Rattle.std.proofs.Common.{sym, subst}
 use Rattle.polygon_overlay.specs.Tallies.{leaving_of, leavings_of, AreSorted}
-use Rattle.polygon_overlay.proofs.TallyLaws.{sorted_ends}
+use Rattle.polygon_overlay.proofs.Holding.TallyLaws.{sorted_ends}
 use Rattle.polygon_overlay.proofs.edge_overlay.tally.Tally.is_level.Goals as goal
 
 pub are_level-requires : goal.are_level-requires

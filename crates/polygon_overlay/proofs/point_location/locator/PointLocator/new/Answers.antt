@@ -2,8 +2,8 @@ use Rattle.std.proofs.Common.{◌≡◌, All, sym, subst}
 use Rattle.plane_base.specs.Plane.{IsWithin}
 use Rattle.contour_walk.specs.ShapeViews.{shapes_of}
 use Rattle.polygon_overlay.specs.Stretches.{IsIndexed}
-use Rattle.polygon_overlay.proofs.IndexLaws.{shapes_cloned}
-use Rattle.polygon_overlay.proofs.LocationLaws.{all_in_shapes}
+use Rattle.polygon_overlay.proofs.Locating.IndexLaws.{shapes_cloned}
+use Rattle.polygon_overlay.proofs.Locating.LocationLaws.{all_in_shapes}
 use Rattle.polygon_overlay.proofs.point_location.locator.PointLocator.new.Goals as goal
 
 pub invariant_of-result : goal.invariant_of-result

@@ -1,4 +1,4 @@
-use Rattle.polygon_overlay.proofs.PointBoxLaws.{through}
+use Rattle.polygon_overlay.proofs.Boxing.PointBoxLaws.{through}
 use Rattle.polygon_overlay.proofs.relate.reach.ToLeftSide.farther.Goals as goal
 
 pub returns-clause-kept : goal.returns-clause-kept

@@ -1,8 +1,8 @@
 use Rattle.std.proofs.Common.{map, refl}
 use Rattle.plane_base.specs.Views.{points_of}
 use Rattle.polygon_overlay.specs.Predicates.{interiors_intersect}
-use Rattle.polygon_overlay.proofs.ApartLaws.{disjoint_related}
-use Rattle.polygon_overlay.proofs.SingleLaws.{asked_related, asked_refused}
+use Rattle.polygon_overlay.proofs.Relating.ApartLaws.{disjoint_related}
+use Rattle.polygon_overlay.proofs.Answering.SingleLaws.{asked_related, asked_refused}
 use Rattle.polygon_overlay.proofs.relate.single.AnyIntRelate.interiors_intersect.Goals as goal
 
 pub returns-then-lie_apart-clause-is : goal.returns-then-lie_apart-clause-is

@@ -1,5 +1,0 @@
-use Rattle.contour_walk.proofs.AnswerPointLaws.{answers_are_short}
-use Rattle.contour_walk.proofs.answer_laws.answers_are_short.Goals as goal
-
-pub returns : goal.returns
-returns c = answers_are_short

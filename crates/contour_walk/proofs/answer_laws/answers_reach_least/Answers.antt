@@ -1,5 +1,0 @@
-use Rattle.contour_walk.proofs.AnswerWindLaws.{those_left}
-use Rattle.contour_walk.proofs.answer_laws.answers_reach_least.Goals as goal
-
-pub returns : goal.returns
-returns c = those_left

@@ -1,5 +1,0 @@
-use Rattle.contour_walk.proofs.AnswerPointLaws.{answers_stand_on_ends}
-use Rattle.contour_walk.proofs.answer_laws.answers_stand_on_ends.Goals as goal
-
-pub returns : goal.returns
-returns c = answers_stand_on_ends

@@ -1,5 +1,0 @@
-use Rattle.contour_walk.proofs.AnswerWindLaws.{answers_wind}
-use Rattle.contour_walk.proofs.answer_laws.answers_wind.Goals as goal
-
-pub returns : goal.returns
-returns c = answers_wind c.finished_passing_winds.ensures

@@ -1,5 +1,0 @@
-use Rattle.contour_walk.proofs.Binding.Walks.{answer_has_all_walks}
-use Rattle.contour_walk.proofs.binding_laws.answer_has_all_walks.Goals as goal
-
-pub returns : goal.returns
-returns c = answer_has_all_walks c.all_are_walked.ensures c.anchors_are_sided.ensures

@@ -1,5 +1,0 @@
-use Rattle.contour_walk.proofs.Straight.Cycles.{corners_stay}
-use Rattle.contour_walk.proofs.binding_laws.corners_stay.Goals as goal
-
-pub returns : goal.returns
-returns c = corners_stay

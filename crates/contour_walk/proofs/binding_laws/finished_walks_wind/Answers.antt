@@ -1,5 +1,0 @@
-use Rattle.contour_walk.proofs.Binding.Walks.{finished_walks_wind}
-use Rattle.contour_walk.proofs.binding_laws.finished_walks_wind.Goals as goal
-
-pub returns : goal.returns
-returns c = finished_walks_wind c.all_are_walked.ensures c.finished_passing_winds.ensures

@@ -1,5 +1,0 @@
-use Rattle.contour_walk.proofs.Binding.Answers.{nothing_is_lost}
-use Rattle.contour_walk.proofs.binding_laws.nothing_is_lost.Goals as goal
-
-pub returns : goal.returns
-returns c = nothing_is_lost

@@ -1,5 +1,0 @@
-use Rattle.contour_walk.proofs.Binding.Walks.{shapes_are_answer}
-use Rattle.contour_walk.proofs.binding_laws.shapes_are_answer.Goals as goal
-
-pub returns : goal.returns
-returns c = shapes_are_answer c.shapes_wind.ensures

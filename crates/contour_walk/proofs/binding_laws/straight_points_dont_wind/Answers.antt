@@ -1,5 +1,0 @@
-use Rattle.contour_walk.proofs.Straight.Laws.{straight_points_dont_wind}
-use Rattle.contour_walk.proofs.binding_laws.straight_points_dont_wind.Goals as goal
-
-pub returns : goal.returns
-returns c = straight_points_dont_wind

@@ -1,5 +1,0 @@
-use Rattle.contour_walk.proofs.Binding.Highest.{under_is_earlier}
-use Rattle.contour_walk.proofs.binding_laws.under_is_earlier.Goals as goal
-
-pub returns : goal.returns
-returns c = under_is_earlier

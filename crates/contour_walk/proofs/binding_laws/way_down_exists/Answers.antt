@@ -1,5 +1,0 @@
-use Rattle.contour_walk.proofs.Binding.Owners.{way_down_exists}
-use Rattle.contour_walk.proofs.binding_laws.way_down_exists.Goals as goal
-
-pub returns : goal.returns
-returns c = way_down_exists

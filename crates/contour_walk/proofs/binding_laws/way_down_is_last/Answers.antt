@@ -1,5 +1,0 @@
-use Rattle.contour_walk.proofs.Binding.Highest.{way_down_is_last}
-use Rattle.contour_walk.proofs.binding_laws.way_down_is_last.Goals as goal
-
-pub returns : goal.returns
-returns c = way_down_is_last

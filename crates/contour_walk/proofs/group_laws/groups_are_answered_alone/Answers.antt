@@ -1,5 +1,0 @@
-use Rattle.contour_walk.proofs.Groups.Boxes.{groups_are_answered_alone}
-use Rattle.contour_walk.proofs.group_laws.groups_are_answered_alone.Goals as goal
-
-pub returns : goal.returns
-returns c = groups_are_answered_alone c.groups_fill_alone.ensures

@@ -1,5 +1,0 @@
-use Rattle.contour_walk.proofs.Binder.ChildOnce.{each_shape_is_a_child_once}
-use Rattle.contour_walk.proofs.hierarchy_laws.each_shape_is_a_child_once.Goals as goal
-
-pub returns : goal.returns
-returns c = each_shape_is_a_child_once

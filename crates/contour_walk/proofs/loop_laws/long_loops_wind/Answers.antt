@@ -1,5 +1,0 @@
-use Rattle.contour_walk.proofs.Cutting.Winds.{long_loops_wind}
-use Rattle.contour_walk.proofs.loop_laws.long_loops_wind.Goals as goal
-
-pub returns : goal.returns
-returns c = long_loops_wind

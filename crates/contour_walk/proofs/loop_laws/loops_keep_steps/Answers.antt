@@ -1,5 +1,0 @@
-use Rattle.contour_walk.proofs.Cutting.Winds.{loops_keep_steps}
-use Rattle.contour_walk.proofs.loop_laws.loops_keep_steps.Goals as goal
-
-pub returns : goal.returns
-returns c = loops_keep_steps

@@ -1,5 +1,0 @@
-use Rattle.contour_walk.proofs.Cutting.Points.{loops_repeat_no_point}
-use Rattle.contour_walk.proofs.loop_laws.loops_repeat_no_point.Goals as goal
-
-pub returns : goal.returns
-returns c = loops_repeat_no_point

@@ -1,0 +1,4 @@
+-- Answers handed back.
+pub mod RunLaws
+pub mod ReturnLaws
+pub mod WindingAgainLaws

@@ -1,5 +1,0 @@
-use Rattle.segment_split.proofs.DataMaps.Rests.{data_come_to_rest}
-use Rattle.segment_split.proofs.data_laws.data_come_to_rest.Goals as goal
-
-pub returns : goal.returns
-returns g c = λ kind join precision laws. data_come_to_rest laws join precision

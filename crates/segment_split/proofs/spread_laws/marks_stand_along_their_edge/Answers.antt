@@ -1,5 +1,0 @@
-use Rattle.segment_split.proofs.Spread.StaircaseMembers.{marks_stand_along}
-use Rattle.segment_split.proofs.spread_laws.marks_stand_along_their_edge.Goals as goal
-
-pub returns : goal.returns
-returns c = marks_stand_along

@@ -1,5 +1,0 @@
-use Rattle.segment_split.proofs.Whole.Redrawing.{whole_meetings_keep_windings}
-use Rattle.segment_split.proofs.spread_laws.whole_meetings_keep_windings.Goals as goal
-
-pub returns : goal.returns
-returns c = whole_meetings_keep_windings
