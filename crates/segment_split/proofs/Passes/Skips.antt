@@ -1,7 +1,7 @@
 -- Which edges are old, told by the next new one of each.
 use Rattle.std.specs.Prelude.{◌≡◌, ◌⊎◌, ℕ, zero, suc, ◌+◌, ◌<◌, ◌≤◌, List, [], ◌∷◌, ◌++◌, length, slice_index_or, Contains, All}
 use Rattle.std.proofs.Common.{refl, sym, ap, ◌∙◌, subst, inl, inr, ⊎_elim, append_assoc, append-nil, arith}
-use Rattle.std.proofs.lemmas.List.{get_or_at, get_or_append_left, get_or_push, length-append}
+use Rattle.std.proofs.lemmas.List.{get_or_at, get_or_past, length-append}
 use Rattle.std.proofs.lemmas.Bool.{cases_lt, cases_order}
 use Rattle.std.proofs.lemmas.List.Elements.{All-head, All-tail, All-contains}
 use Rattle.plane_base.specs.Plane.{Edge}
@@ -29,28 +29,6 @@ none_old es = record {
   passed = λ j n t l m. absurd (omega (arith, l, m));
 }
 
--- ---- lists that are filled
-
-pub filled_none : (number : ℕ) (ns : List ℕ) → IsFilled number ns ns
-filled_none number ns = record { kept = λ n d l. refl; filled = λ n d l m. absurd (omega (arith, l, m)); longer = omega arith }
-
-pub filled_more : (number : ℕ) (old now more : List ℕ) → more ≡ now ++ number ∷ [] → IsFilled number old now → IsFilled number old more
-filled_more number old now more is h = record {
-  kept = λ n d l. ap (λ ns. slice_index_or ns n d) is ∙ (get_or_append_left now (number ∷ []) d n (omega (arith, l, h.longer)) ∙ h.kept n d l);
-  filled = λ n d l m. ap (λ ns. slice_index_or ns n d) is ∙ by n d l (omega (arith, m, more_by)) (read_pushed now number n d) (cases_lt n (length now));
-  longer = let l = h.longer in omega (arith, l, more_by);
-}
-  where
-    more_by : length more ≡ length now + 1
-    more_by = ap length is ∙ length_pushed now number
-
-    by : (n d : ℕ) → length old ≤ n → n < length now + 1
-        → (slice_index_or (now ++ number ∷ []) n d ≡ slice_index_or now n d) ⊎ ((n ≡ length now) × (slice_index_or (now ++ number ∷ []) n d ≡ number))
-        → (n < length now) ⊎ (length now ≤ n) → slice_index_or (now ++ number ∷ []) n d ≡ number
-    by n d l m (inr e) side = e.1
-    by n d l m (inl e) (inl c) = e ∙ h.filled n d l c
-    by n d l m (inl e) (inr c) = get_or_push now number d n (omega (arith, m, c))
-
 -- edges that a pass left unmarked
 pub unmarked_parted : (precision : Precision) (k : ℕ) (es kept : List Edge) → AreUnmarked (marks_in precision k) es kept → AllParted kept
 unmarked_parted precision k es kept h s t at there =
@@ -66,21 +44,18 @@ module _ (es old : List Edge) where
     short = omega arith;
   }
 
-  -- the number is told of one more
-  pub skips_filled : (next : List ℕ) (i : ℕ) → length next < i → (more : List ℕ) → more ≡ next ++ i ∷ [] → SkipsTo es old next i → SkipsTo es old more i
-  skips_filled next i room more e h = record {
-    passed = λ j n t l m at. by j n t l (subst (λ ns. n < slice_index_or ns j j) e m) at (read_pushed next i j j);
-    left = λ n t l m at. h.left n t (omega (arith, l, longer)) m at;
-    short = omega (arith, longer, room);
+  -- the number is told of all before it
+  pub skips_filled : (next full : List ℕ) (i : ℕ) → length full ≤ i → IsFilled i next full → SkipsTo es old next i → SkipsTo es old full i
+  skips_filled next full i short filled h = record {
+    passed = λ j n t l m at. by j n t l m at (cases_lt j (length next)) (cases_lt j (length full));
+    left = λ n t l m at. let longer = filled.longer in h.left n t (omega (arith, l, longer)) m at;
+    short = short;
   }
     where
-      longer : length more ≡ length next + 1
-      longer = ap length e ∙ length_pushed next i
-
-      by : (j n : ℕ) (t : Edge) → j ≤ n → n < slice_index_or (next ++ i ∷ []) j j → IsAt es n t
-          → (slice_index_or (next ++ i ∷ []) j j ≡ slice_index_or next j j) ⊎ ((j ≡ length next) × (slice_index_or (next ++ i ∷ []) j j ≡ i)) → Contains old t
-      by j n t l m at (inl e) = h.passed j n t l (omega (arith, m, e)) at
-      by j n t l m at (inr e) = h.left n t (omega (arith, l, e.0)) (omega (arith, m, e.1)) at
+      by : (j n : ℕ) (t : Edge) → j ≤ n → n < slice_index_or full j j → IsAt es n t → (j < length next) ⊎ (length next ≤ j) → (j < length full) ⊎ (length full ≤ j) → Contains old t
+      by j n t l m at (inl c) side = h.passed j n t l (subst (λ k. n < k) (filled.kept j j c) m) at
+      by j n t l m at (inr c) (inl d) = h.left n t (omega (arith, l, c)) (subst (λ k. n < k) (filled.filled j j c d) m) at
+      by j n t l m at (inr c) (inr d) = let past = get_or_past full j j d in absurd (omega (arith, l, m, past))
 
   -- the edge i is new
   pub skips_new : (next : List ℕ) (i : ℕ) → length next ≡ i → (more : List ℕ) → more ≡ next ++ i ∷ [] → SkipsTo es old next i → SkipsTo es old more (i + 1)

@@ -32,8 +32,8 @@ pub(crate) fn fill(next_new: &mut Vec<usize>, number: usize) -> Result<(), Fault
     ensures is { OnOk result (IsFilled number next_new.old.items next_new.new.items) }
     ensures memory { IsOkUnless result Fault.Memory }
 {
-    while next_new.len() < number {
-        next_new.push(number)?;
+    if next_new.len() < number {
+        next_new.resize(number, number)?;
     }
     Ok(())
 }
