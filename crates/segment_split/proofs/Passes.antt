@@ -9,6 +9,7 @@ pub mod Last
 pub mod Parts
 pub mod Merges
 pub mod MarkLists
+pub mod Places
 pub mod Skips
 pub mod PairCounts
 pub mod Columns

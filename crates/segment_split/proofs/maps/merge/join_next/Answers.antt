@@ -13,6 +13,7 @@ use Rattle.segment_split.proofs.DataMaps.Joins.{old_dropped}
 use Rattle.segment_split.proofs.Seen.{seen_all, seen_map, seen_pass}
 use Rattle.segment_split.specs.SegmentViews.{entry_of, entries_of}
 use Rattle.segment_split.proofs.Passes.Merges.{parted_at, back_map, same_first, clash_behind, all_in_front, all_behind}
+use Rattle.segment_split.proofs.Passes.Places.{map_sorted}
 use Rattle.segment_split.proofs.Passes.Skips.{told_run}
 use Rattle.segment_split.proofs.Redrawing.Refusals.{handed_on}
 use Rattle.segment_split.proofs.maps.merge.join_next.Goals as goal
@@ -104,3 +105,6 @@ returns-in_err-taken-clause-refused g c =
     (λ clash. subst (λ l. Clashes kind fits l pieces) (sym parts)
     (clash_behind kind fits run left [] pieces (subst (IsMap kind) parts (seen_map value joins counting join kept c.requires.kept_map)) c.requires.pieces_map (subst (λ l. Clashes kind fits (seen_entries_of value joins l) pieces) c.split_at.ensures.back clash)))
     (λ e. e) c.in_err-taken.ensures.refused)
+
+pub place_of-n-requires : goal.place_of-n-requires
+place_of-n-requires g c = map_sorted c.requires.kept_map

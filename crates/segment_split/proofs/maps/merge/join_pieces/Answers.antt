@@ -16,6 +16,7 @@ use Rattle.segment_split.proofs.Seen.{carrying_counting, seen_all, seen_map}
 use Rattle.segment_split.specs.SegmentViews.{entry_of, entries_of}
 use Rattle.segment_split.proofs.Passes.MarkLists.{no_items}
 use Rattle.segment_split.proofs.Passes.Merges.{parted_at, below_first, told_kept, some_before, first_clash}
+use Rattle.segment_split.proofs.Passes.Places.{map_sorted, sorted_without}
 use Rattle.segment_split.proofs.Rows.Extents.{is_zero}
 use Rattle.segment_split.proofs.Redrawing.Refusals.{handed_on}
 use Rattle.plane_base.proofs.Facts.Points.Orders.{is_equal}
@@ -144,3 +145,6 @@ returns-clause-taken g c =
 
 pub returns-clause-told : goal.returns-clause-told
 returns-clause-told g c = λ old all told. c.in_ok-add_new-2.ensures.told old told
+
+pub place_of-n-requires : goal.place_of-n-requires
+place_of-n-requires g c = sorted_without g.I.OverlayInt.value g.D.OverlayEdgeData.JOINS c.args.pieces.now (map_sorted c.requires.pieces_map)
