@@ -6,6 +6,7 @@ pub mod Changes
 pub mod Loops
 pub mod Neighbours
 pub mod Runs
+pub mod Cutting
 pub mod Refusals
 pub mod Looks
 pub mod Lengths

@@ -241,6 +241,10 @@ module _ {C X : Type 0} (f : X → Entry C) (xs : List X) where
   pub edges_length : length (edges_of (map f xs)) ≡ length xs
   edges_length = length-map (map f xs) (λ e. e.edge) ∙ length-map xs f
 
+  -- all marks are of elements of the list
+  pub marks_within : (stride least greatest : ℤ) (marks : Edge → Edge → Marks) (laid : List LaidMark) → AreMarks stride least greatest marks (edges_of (map f xs)) laid → All (λ m. m.segment < length xs) laid
+  marks_within stride least greatest marks laid h i d l = let inside : (get_or laid i d).segment < length (edges_of (map f xs)) = (h.only i d l).at.0 in omega (arith, inside, edges_length)
+
   pub edge_at : (i : ℕ) (x : X) → i < length xs → x ≡ get_or xs i x → IsAt (edges_of (map f xs)) i (f x).edge
   edge_at i x h e = (
     omega (arith, h, edges_length),

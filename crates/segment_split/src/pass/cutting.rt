@@ -1,7 +1,8 @@
-//! Segments cut at their marks, which stand in one sorted list: one merge of the two. Runs of segments without marks are copied
-//! together. Degenerate cases: a mark that stands twice lays no step the second time. It takes linear time.
+//! Segments cut at their marks, which stand in one sorted list: it goes over the runs of marks, and the segments between one run and
+//! the next, which have none, are copied together. Degenerate cases: a mark that stands twice lays no step the second time. It takes
+//! linear time.
 
-ghost use Rattle.std.specs.Prelude.{◌≡◌, ◌≢◌, ◌≤◌, ◌<◌, ◌++◌, ◌∷◌, ◌+◌, [], List, All, length, take, drop, map, IfOk, OnOk, IsOkUnless};
+ghost use Rattle.std.specs.Prelude.{◌≡◌, ◌≢◌, ◌≤◌, ◌<◌, ◌++◌, ◌∷◌, [], List, All, length, take, drop, map, IfOk, OnOk, IsOkUnless};
 ghost use Rattle.plane_base.specs.Counts.{IsNormal, lay};
 ghost use Rattle.plane_base.specs.Given.{laid_path};
 ghost use Rattle.plane_base.specs.Views.{point_of};
@@ -18,7 +19,6 @@ use crate::segment::Segment;
 use plane_base::fault::Fault;
 use plane_base::int::OverlayInt;
 use plane_base::segment::XSegment;
-use std::ops::Range;
 
 // Cuts each segment at its marks. Those that have none are kept apart, in their order.
 pub(crate) fn cut_all<C: WindingCount, I: OverlayInt, D: OverlayEdgeData<C>>(
@@ -30,6 +30,7 @@ pub(crate) fn cut_all<C: WindingCount, I: OverlayInt, D: OverlayEdgeData<C>>(
 ) -> Result<(), Fault>
     requires normal { IsNormal C.counting (entries_of I.value segments.now) }
     requires in_place { AreInPlace (laid_marks I.value I.Wide.number marks.now) }
+    requires within { All (λ m. m.segment < length segments.now) (laid_marks I.value I.Wide.number marks.now) }
     ensures cut { OnOk result (IsCut I.stride I.least I.greatest C.counting (laid_marks I.value I.Wide.number marks.now) (entries_of I.value segments.now)
         (entries_of I.value kept.new.items) (entries_of I.value pieces.new.items)) }
     ensures data { OnOk result (IsCut I.stride I.least I.greatest (carrying C.counting D.JOINS D.join) (laid_marks I.value I.Wide.number marks.now)
@@ -40,47 +41,17 @@ pub(crate) fn cut_all<C: WindingCount, I: OverlayInt, D: OverlayEdgeData<C>>(
     pieces.clear();
     let mut left = marks;
     let mut from = 0;
-    for i in 0..segments.len() {
+    while !left.is_empty() {
+        let i = left[0].segment;
         let n = run_length(left, i);
         let (run, rest) = left.split_at(n);
-        from = cut_one(kept, pieces, segments, segments[i], run, from..i, store)?;
+        keep_all(kept, &segments[..i][from..])?;
+        lay_run(pieces, segments[i], run, store)?;
+        from = i + 1;
         left = rest;
     }
     kept.extend_from_slice(&segments[from..])?;
     Ok(())
-}
-
-// Lays the steps of a segment that has marks, and keeps the run of segments without marks that ends before it, together. Answers where
-// the next such run starts: where this one does, or else past the segment.
-fn cut_one<C: WindingCount, I: OverlayInt, D: OverlayEdgeData<C>>(
-    kept: &mut Vec<Segment<C, I, D>>,
-    pieces: &mut Vec<Segment<C, I, D>>,
-    segments: &[Segment<C, I, D>],
-    segment: Segment<C, I, D>,
-    run: &[Mark<I, I::Wide>],
-    bare: Range<usize>,
-    store: &mut D::Store,
-) -> Result<usize, Fault>
-    requires within { bare.end < length segments.now }
-    requires from { bare.start ≤ bare.end }
-    ensures kept { IfOk result (λ next. length run.now ≡ 0 → (next ≡ bare.start) × (kept.new.items ≡ kept.old.items) × (pieces.new.items ≡ pieces.old.items)) }
-    ensures cut { IfOk result (λ next. 0 < length run.now →
-        (next ≡ bare.end + 1) × (kept.new.items ≡ kept.old.items ++ drop bare.start (take bare.end segments.now)) ×
-        (entries_of I.value pieces.new.items ≡
-        entries_of I.value pieces.old.items ++ laid_path C.counting segment.count
-        (point_of I.value segment.x_segment.a ∷ (map (λ m. m.point) (laid_marks I.value I.Wide.number run.now) ++ (point_of I.value segment.x_segment.b ∷ []))))) }
-    ensures data { IfOk result (λ next. 0 < length run.now → seen_entries_of I.value D.JOINS pieces.new.items ≡
-        seen_entries_of I.value D.JOINS pieces.old.items ++
-        laid_path (carrying C.counting D.JOINS D.join) (segment.count, seen D.JOINS segment.datum)
-        (point_of I.value segment.x_segment.a ∷ (map (λ m. m.point) (laid_marks I.value I.Wide.number run.now) ++ (point_of I.value segment.x_segment.b ∷ [])))) }
-    ensures memory { IsOkUnless result Fault.Memory }
-{
-    if run.is_empty() {
-        return Ok(bare.start);
-    }
-    keep_all(kept, &segments[..bare.end][bare.start..])?;
-    lay_run(pieces, segment, run, store)?;
-    Ok(bare.end + 1)
 }
 
 // Keeps segments, where there are any.

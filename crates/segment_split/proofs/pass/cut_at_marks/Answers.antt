@@ -4,7 +4,7 @@ use contract.BorrowLft.{⊑_static}
 use Rattle.std.proofs.Common.{◌≡◌, ◌∙◌, ◌<◌, ◌≤◌, ◌^◌, ◌++◌, length, refl, sym, ap, subst, arith, []}
 use Rattle.std.specs.Prelude.{IsPermutation}
 use Rattle.std.proofs.lemmas.List.{length-map, length-append}
-use Rattle.std.proofs.lemmas.List.Sorted.{IsPermutation-map, length_permutation}
+use Rattle.std.proofs.lemmas.List.Sorted.{IsPermutation-map, All-permutation, length_permutation}
 use Rattle.std.proofs.lemmas.Result.{err_from_is_err_and}
 use Rattle.plane_base.proofs.Facts.Maps.Normal.{normal_permutation}
 use Rattle.plane_base.proofs.Facts.Lists.Views.{some_first, none_first}
@@ -22,7 +22,7 @@ use Rattle.segment_split.specs.MarkLists.{laid_of, laid_marks, AreMarks, AllPart
 use Rattle.segment_split.specs.Cutting.{AreParts, IsCut}
 use Rattle.segment_split.proofs.Passes.Skips.{unmarked_parted}
 use Rattle.plane_base.proofs.Facts.Crossings.Tests.{not_true}
-use Rattle.segment_split.proofs.Passes.MarkLists.{edges_rising, unmarked_by_none, marked_by_some, no_items, marks_permuted}
+use Rattle.segment_split.proofs.Passes.MarkLists.{edges_rising, unmarked_by_none, marked_by_some, no_items, marks_permuted, marks_within}
 use Rattle.segment_split.proofs.Redrawing.Neighbours.{overfull_before}
 use Rattle.segment_split.proofs.Redrawing.Redraws.{work_of, pass_refused, pass_without_memory}
 use Rattle.segment_split.proofs.Redrawing.Refusals.{handed_on}
@@ -87,6 +87,17 @@ returns-in_err-put_in_order g c = λ before after own.
 pub cut_all-requires-clause-in_place : goal.cut_all-requires-clause-in_place
 cut_all-requires-clause-in_place g c =
     rw c.deref-2.ensures.value c.in_ok-put_in_order.ensures.in_place
+
+pub cut_all-requires-clause-within : goal.cut_all-requires-clause-within
+cut_all-requires-clause-within g c =
+    let value = g.I.OverlayInt.value in
+    let number = g.I.Wide.WideIntNumber.number in
+    let segments = c.args.segments.now.items in
+    let found = c.args.room.now.marks.items in
+    let ordered = c.put_in_order.new.marks.items in
+    rw (c.deref.ensures.value, c.deref-2.ensures.value) (All-permutation (λ m. m.segment < length segments) (laid_marks value number found) (laid_marks value number ordered)
+    (IsPermutation-map (laid_of value number) found ordered c.in_ok-put_in_order.ensures.same)
+    (marks_within (entry_of value) segments g.I.OverlayInt.stride g.I.OverlayInt.least g.I.OverlayInt.greatest (marks_in c.args.this.solver.precision c.args.this.number) (laid_marks value number found) c.requires.found))
 
 pub cut_all-requires-clause-normal : goal.cut_all-requires-clause-normal
 cut_all-requires-clause-normal g c = rw c.deref.ensures.value c.requires.can.normal

@@ -1,183 +1,160 @@
-use Rattle.std.proofs.Common.{◌≡◌, ◌∙◌, ◌+◌, ◌++◌, ◌∷◌, [], ◌<◌, length, sym, ap, ap₂, subst, refl, take, drop, map, flat_map, nat_lt, true, false, arith}
-use Rattle.std.specs.Prelude.{All, IsPermutation}
-use Rattle.std.proofs.lemmas.List.{map-append, length-map, take-append-drop, take_all, take_rest}
-use Rattle.plane_base.proofs.Facts.Thinning.Indexes.{taken_to}
-use Rattle.plane_base.specs.Given.{laid_path}
-use Rattle.segment_split.specs.Passes.{edges_of, marks_in, cut}
+use Rattle.std.proofs.Common.{◌≡◌, ◌∙◌, ◌≤◌, ◌<◌, ◌++◌, ℕ, [], length, map, get_or, refl, sym, ap, subst, take, drop, arith}
+use Rattle.std.specs.Prelude.{All}
+use Rattle.std.proofs.lemmas.Grind.{common_steps}
+use Rattle.std.proofs.lemmas.List.{length-map, length-take-le, take_rest}
+use Rattle.plane_base.proofs.Facts.Lists.Views.{some_first}
+use Rattle.segment_split.specs.MarkLists.{LaidMark, laid_of, laid_marks}
 use Rattle.segment_split.specs.SegmentViews.{entry_of, entries_of}
-use Rattle.segment_split.specs.Merging.{IsMap}
-use Rattle.segment_split.specs.Seen.{carrying, seen_entry_of, seen_entries_of}
-use Rattle.segment_split.proofs.Seen.{seen_edges, seen_normal}
-use Rattle.segment_split.specs.MarkLists.{laid_of, laid_marks, IsAt, AreMarks, AreUnmarked}
-use Rattle.segment_split.specs.SpreadLaws.{is_marked}
-use Rattle.segment_split.proofs.Passes.MarkLists.{edge_at, edges_rising, no_items}
-use Rattle.segment_split.proofs.Passes.Parts.{none_or_some, unmarked_of, pieces_of, unmarked_kept, unmarked_uncut, marked_left_out, marked_cut, steps_permuted, unmarked_map, unmarked_are, kept_on, kept_all}
-use Rattle.segment_split.proofs.Redrawing.Runs.{all_left, run_passed, cut_by_run, none_by_run, marked_by_run}
+use Rattle.segment_split.specs.Seen.{seen_entry_of, seen_entries_of}
+use Rattle.segment_split.specs.declared.mark.Mark.{Mark}
+use Rattle.segment_split.proofs.Passes.MarkLists.{no_items}
+use Rattle.segment_split.proofs.Redrawing.Cutting.{turned, cut_to_end}
+use Rattle.segment_split.proofs.Redrawing.Runs.{IsLeft, all_left, run_passed, split_laid, first_behind, first_within, left_to_first, first_in_run}
+use Rattle.segment_split.proofs.Rows.Extents.{is_zero}
+use Rattle.segment_split.proofs.Seen.{seen_normal}
+use Rattle.segment_split.proofs.pass.cutting.cut_all.Given.{Over}
+use Rattle.segment_split.proofs.pass.cutting.cut_all.Goals.{After-split_at, In_ok-extend_from_slice}
 use Rattle.segment_split.proofs.pass.cutting.cut_all.Goals as goal
 
-pub loop-i-init : goal.loop-i-init
-loop-i-init g c = (
-  all_left (laid_marks g.I.OverlayInt.value g.I.Wide.WideIntNumber.number c.args.marks.now),
-  λ precision k marked. ap (λ l. entries_of g.I.OverlayInt.value (l ++ [])) c.clear.ensures.items,
-  λ precision k marked. ap (entries_of g.I.OverlayInt.value) c.clear-2.ensures.items,
-  omega arith,
-  λ precision k marked. ap (λ l. seen_entries_of g.I.OverlayInt.value g.D.OverlayEdgeData.JOINS (l ++ [])) c.clear.ensures.items,
-  λ precision k marked. ap (seen_entries_of g.I.OverlayInt.value g.D.OverlayEdgeData.JOINS) c.clear-2.ensures.items,
-)
-
-pub loop-i-preserved : goal.loop-i-preserved
-loop-i-preserved g c =
+pub loop-left-init : goal.loop-left-init
+loop-left-init g c =
     let value = g.I.OverlayInt.value in
-    let f = entry_of value in
-    let kind = g.C.WindingCount.counting in
-    let least = g.I.OverlayInt.least in
-    let greatest = g.I.OverlayInt.greatest in
-    let segments = c.args.segments.now in
-    let edges = edges_of (entries_of value segments) in
-    let rising = edges_rising (entries_of value segments) c.requires.normal in
-    let i = c.loop-i.i in
-    let segment = c.index-segments-i.result in
-    let e = f segment in
-    let marks = c.split_at.result.0.now in
-    let all = laid_marks value g.I.Wide.WideIntNumber.number c.args.marks.now in
-    let rest = laid_marks value g.I.Wide.WideIntNumber.number c.loop-i.left.now in
-    let run = laid_marks value g.I.Wide.WideIntNumber.number marks in
-    let more = laid_marks value g.I.Wide.WideIntNumber.number c.split_at.result.1.now in
-    let parts : rest ≡ run ++ more =
-    ap (laid_marks value g.I.Wide.WideIntNumber.number) (sym (take-append-drop c.run_length-n.result c.loop-i.left.now) ∙ ap₂ (λ l m. l ++ m) (sym c.split_at.ensures.front) (sym c.split_at.ensures.back))
-    ∙ map-append (laid_of value g.I.Wide.WideIntNumber.number) marks c.split_at.result.1.now in
-    let own : All (λ m. m.segment ≡ i) run = rw (← c.split_at.ensures.front) at c.run_length-n.ensures.own in
-    let apart = rw (← c.split_at.ensures.back) at c.run_length-n.ensures.apart in
-    let left = c.loop-i.invariant.0 in
-    let at : IsAt edges i e.edge = edge_at f segments i segment (omega (arith, c.loop-i-test.true)) c.index-segments-i.is in
-    let before = entries_of value (take i segments) in
-    let within : i < length segments = omega (arith, c.loop-i-test.true) in
-    let step : take (i + 1) segments ≡ take i segments ++ segment ∷ [] = taken_to segments i (i + 1) segment refl (omega (arith, c.loop-i-test.true)) c.index-segments-i.is in
-    let next : entries_of value (take (i + 1) segments) ≡ before ++ e ∷ [] = ap (entries_of value) step ∙ map-append f (take i segments) (segment ∷ []) in
-    let joins = g.D.OverlayEdgeData.JOINS in
-    let kind_seen = carrying kind joins g.D.OverlayEdgeData.join in
-    let f_seen = seen_entry_of value joins in
-    let e_seen = f_seen segment in
-    let seen_before = seen_entries_of value joins (take i segments) in
-    let seen_next : seen_entries_of value joins (take (i + 1) segments) ≡ seen_before ++ e_seen ∷ [] = ap (seen_entries_of value joins) step ∙ map-append f_seen (take i segments) (segment ∷ []) in
-    let told = c.in_ok-from.ensures in
-    let kept = c.loop-i.kept.items in
-    let from = c.loop-i.from in
-    let behind = c.loop-i.invariant.3 in (
-      run_passed all rest run more i c.requires.in_place left parts own apart,
-      λ precision k marked.
-          let lays = marks_in precision k in
-          let so_far = c.loop-i.invariant.1 precision k marked in
-          none_or_some (length marks)
-          (λ none.
-          let bare : is_marked lays edges e.edge ≡ false =
-          ap (λ ps. nat_lt 0 (length ps)) (none_by_run all rest run more i c.requires.in_place left parts own apart g.I.OverlayInt.stride least greatest g.I.OverlayInt.span g.met.I.OverlayInt.strides g.met.I.OverlayInt.reach precision k edges rising marked e.edge at (ap (laid_marks value g.I.Wide.WideIntNumber.number) (no_items marks (length marks) refl none))) in
-          let stays = told.kept none in
-          ap₂ (λ n l. entries_of value (l ++ drop n (take (i + 1) segments))) stays.0 stays.1
-          ∙ (kept_on f segments kept from i segment within step behind ∙ (ap (λ l. l ++ e ∷ []) so_far ∙ (sym (unmarked_kept lays edges kind before e bare) ∙ ap (unmarked_of lays edges) (sym next)))))
-          (λ some.
-          let some_laid : 0 < length run = omega (arith, some, length-map marks (laid_of value g.I.Wide.WideIntNumber.number)) in
-          let hit : is_marked lays edges e.edge ≡ true =
-          marked_by_run all rest run more i c.requires.in_place left parts own apart g.I.OverlayInt.stride least greatest g.I.OverlayInt.span g.met.I.OverlayInt.strides g.met.I.OverlayInt.reach precision k edges rising marked e.edge at some_laid in
-          let goes = told.cut some in
-          ap₂ (λ n l. entries_of value (l ++ drop n (take (i + 1) segments))) goes.0 goes.1
-          ∙ (kept_all f segments kept from i segment within step behind ∙ (so_far ∙ (sym (marked_left_out lays edges kind before e hit) ∙ ap (unmarked_of lays edges) (sym next))))),
-      λ precision k marked.
-          let lays = marks_in precision k in
-          let so_far = c.loop-i.invariant.2 precision k marked in
-          none_or_some (length marks)
-          (λ none.
-          let bare : is_marked lays edges e.edge ≡ false =
-          ap (λ ps. nat_lt 0 (length ps)) (none_by_run all rest run more i c.requires.in_place left parts own apart g.I.OverlayInt.stride least greatest g.I.OverlayInt.span g.met.I.OverlayInt.strides g.met.I.OverlayInt.reach precision k edges rising marked e.edge at (ap (laid_marks value g.I.Wide.WideIntNumber.number) (no_items marks (length marks) refl none))) in
-          ap (entries_of value) (told.kept none).2 ∙ (so_far ∙ (sym (unmarked_uncut lays edges kind before e bare) ∙ ap (pieces_of lays edges kind) (sym next))))
-          (λ some.
-          let some_laid : 0 < length run = omega (arith, some, length-map marks (laid_of value g.I.Wide.WideIntNumber.number)) in
-          let hit : is_marked lays edges e.edge ≡ true =
-          marked_by_run all rest run more i c.requires.in_place left parts own apart g.I.OverlayInt.stride least greatest g.I.OverlayInt.span g.met.I.OverlayInt.strides g.met.I.OverlayInt.reach precision k edges rising marked e.edge at some_laid in
-          let by_run : laid_path kind e.count (e.edge.a ∷ (map (λ m. m.point) run ++ (e.edge.b ∷ []))) ≡ cut kind lays edges e =
-          cut_by_run all rest run more i c.requires.in_place left parts own apart g.I.OverlayInt.stride least greatest g.I.OverlayInt.span g.met.I.OverlayInt.strides g.met.I.OverlayInt.reach precision k edges rising marked e.edge at kind e.count in
-          (told.cut some).2
-          ∙ (ap₂ (λ l m. l ++ m) so_far by_run ∙ (sym (marked_cut lays edges kind before e hit) ∙ ap (pieces_of lays edges kind) (sym next)))),
-      none_or_some (length marks) (λ none. let is = (told.kept none).0 in omega (arith, is, behind)) (λ some. let is = (told.cut some).0 in omega (arith, is)),
-      λ precision k marked.
-          let lays = marks_in precision k in
-          let so_far = c.loop-i.invariant.4 precision k marked in
-          none_or_some (length marks)
-          (λ none.
-          let bare : is_marked lays edges e.edge ≡ false =
-          ap (λ ps. nat_lt 0 (length ps)) (none_by_run all rest run more i c.requires.in_place left parts own apart g.I.OverlayInt.stride least greatest g.I.OverlayInt.span g.met.I.OverlayInt.strides g.met.I.OverlayInt.reach precision k edges rising marked e.edge at (ap (laid_marks value g.I.Wide.WideIntNumber.number) (no_items marks (length marks) refl none))) in
-          let stays = told.kept none in
-          ap₂ (λ n l. seen_entries_of value joins (l ++ drop n (take (i + 1) segments))) stays.0 stays.1
-          ∙ (kept_on f_seen segments kept from i segment within step behind ∙ (ap (λ l. l ++ e_seen ∷ []) so_far ∙ (sym (unmarked_kept lays edges kind_seen seen_before e_seen bare) ∙ ap (unmarked_of lays edges) (sym seen_next)))))
-          (λ some.
-          let some_laid : 0 < length run = omega (arith, some, length-map marks (laid_of value g.I.Wide.WideIntNumber.number)) in
-          let hit : is_marked lays edges e.edge ≡ true =
-          marked_by_run all rest run more i c.requires.in_place left parts own apart g.I.OverlayInt.stride least greatest g.I.OverlayInt.span g.met.I.OverlayInt.strides g.met.I.OverlayInt.reach precision k edges rising marked e.edge at some_laid in
-          let goes = told.cut some in
-          ap₂ (λ n l. seen_entries_of value joins (l ++ drop n (take (i + 1) segments))) goes.0 goes.1
-          ∙ (kept_all f_seen segments kept from i segment within step behind ∙ (so_far ∙ (sym (marked_left_out lays edges kind_seen seen_before e_seen hit) ∙ ap (unmarked_of lays edges) (sym seen_next))))),
-      λ precision k marked.
-          let lays = marks_in precision k in
-          let so_far = c.loop-i.invariant.5 precision k marked in
-          none_or_some (length marks)
-          (λ none.
-          let bare : is_marked lays edges e.edge ≡ false =
-          ap (λ ps. nat_lt 0 (length ps)) (none_by_run all rest run more i c.requires.in_place left parts own apart g.I.OverlayInt.stride least greatest g.I.OverlayInt.span g.met.I.OverlayInt.strides g.met.I.OverlayInt.reach precision k edges rising marked e.edge at (ap (laid_marks value g.I.Wide.WideIntNumber.number) (no_items marks (length marks) refl none))) in
-          ap (seen_entries_of value joins) (told.kept none).2 ∙ (so_far ∙ (sym (unmarked_uncut lays edges kind_seen seen_before e_seen bare) ∙ ap (pieces_of lays edges kind_seen) (sym seen_next))))
-          (λ some.
-          let some_laid : 0 < length run = omega (arith, some, length-map marks (laid_of value g.I.Wide.WideIntNumber.number)) in
-          let hit : is_marked lays edges e.edge ≡ true =
-          marked_by_run all rest run more i c.requires.in_place left parts own apart g.I.OverlayInt.stride least greatest g.I.OverlayInt.span g.met.I.OverlayInt.strides g.met.I.OverlayInt.reach precision k edges rising marked e.edge at some_laid in
-          let by_run : laid_path kind_seen e_seen.count (e.edge.a ∷ (map (λ m. m.point) run ++ (e.edge.b ∷ []))) ≡ cut kind_seen lays edges e_seen =
-          cut_by_run all rest run more i c.requires.in_place left parts own apart g.I.OverlayInt.stride least greatest g.I.OverlayInt.span g.met.I.OverlayInt.strides g.met.I.OverlayInt.reach precision k edges rising marked e.edge at kind_seen e_seen.count in
-          told.«data» some
-          ∙ (ap₂ (λ l m. l ++ m) so_far by_run ∙ (sym (marked_cut lays edges kind_seen seen_before e_seen hit) ∙ ap (pieces_of lays edges kind_seen) (sym seen_next)))),
+    let seen = seen_entries_of value g.D.OverlayEdgeData.JOINS in (
+      all_left (laid_marks value g.I.Wide.WideIntNumber.number c.args.marks.now),
+      omega arith,
+      λ precision k marked. (ap (entries_of value) c.clear.ensures.items, ap (entries_of value) c.clear-2.ensures.items),
+      λ precision k marked. (ap seen c.clear.ensures.items, ap seen c.clear-2.ensures.items),
     )
 
-pub returns-clause-cut : goal.returns-clause-cut
-returns-clause-cut g c = λ precision k marked.
+-- ---- the segment of the first mark that is left
+
+abbrev view : (g : Over) → Mark g.row.I.Denot g.row.I-Wide.Denot → LaidMark
+view g = laid_of g.I.OverlayInt.value g.I.Wide.WideIntNumber.number
+
+abbrev next : (g : Over) (c : After-split_at g) → ℕ
+next g c = (get_or c.loop-left.left.now 0 c.index-left-0.result).segment
+
+some : (g : Over) (c : After-split_at g) → 0 < length c.loop-left.left.now
+some g c = some_first (length c.loop-left.left.now) c.is_empty.ensures c.loop-left-test.true
+
+-- is still to come
+to_come : (g : Over) (c : After-split_at g) → (c.loop-left.from ≤ next g c) × (next g c < length c.args.segments.now)
+to_come g c =
+    let all = map (view g) c.args.marks.now in
+    let marks = c.loop-left.left.now in
+    let from = c.loop-left.from in
+    let left = c.loop-left.invariant.0 in
+    let d = c.index-left-0.result in
+    (first_behind (view g) all marks from left (some g c) d, first_within (view g) all marks from left (some g c) d (length c.args.segments.now) c.requires.within)
+
+bare_bounds : (g : Over) (c : After-split_at g) → c.loop-left.from ≤ length (take (next g c) c.args.segments.now)
+bare_bounds g c = let l = to_come g c in omega (arith, l.0, l.1, length-take-le (next g c) c.args.segments.now (omega (arith, l.1)))
+
+pub slice_bounds-keep_all-end : goal.slice_bounds-keep_all-end
+slice_bounds-keep_all-end g c =
+    let at = (goal.at.slice_bounds-keep_all-end g c).After-split_at in
+    let l = to_come g at in
+    sym (length-take-le (next g at) c.args.segments.now (omega (arith, l.1)))
+
+pub offset_bounds-segments-from : goal.offset_bounds-segments-from
+offset_bounds-segments-from g c = bare_bounds g (goal.at.offset_bounds-segments-from g c).After-split_at
+
+pub slice_bounds-keep_all-count : goal.slice_bounds-keep_all-count
+slice_bounds-keep_all-count g c = bare_bounds g (goal.at.slice_bounds-keep_all-count g c).After-split_at
+
+pub slice_bounds-keep_all-start : goal.slice_bounds-keep_all-start
+slice_bounds-keep_all-start g c = bare_bounds g (goal.at.slice_bounds-keep_all-start g c).After-split_at
+
+pub offset_bounds-segments-i : goal.offset_bounds-segments-i
+offset_bounds-segments-i g c = let l = to_come g (goal.at.offset_bounds-segments-i g c).After-split_at in omega (arith, l.1)
+
+pub bounds-segments-i : goal.bounds-segments-i
+bounds-segments-i g c = (to_come g (goal.at.bounds-segments-i g c).After-split_at).1
+
+pub overflow_add-from : goal.overflow_add-from
+overflow_add-from g c =
+    let at = (goal.at.overflow_add-from g c).After-split_at in
+    let inside : next g at < length c.args.segments.now = (to_come g at).1 in
+    grind (arith, common_steps)
+
+-- ---- its run
+
+in_two : (g : Over) (c : After-split_at g) → map (view g) c.loop-left.left.now ≡ map (view g) c.split_at.result.0.now ++ map (view g) c.split_at.result.1.now
+in_two g c = split_laid (view g) c.loop-left.left.now c.split_at.result.0.now c.split_at.result.1.now c.run_length-n.result c.split_at.ensures.front c.split_at.ensures.back
+
+some_own : (g : Over) (c : After-split_at g) → 0 < length (map (view g) c.split_at.result.0.now)
+some_own g c =
+    first_in_run (view g) (map (view g) c.args.marks.now) c.loop-left.left.now c.loop-left.from c.loop-left.invariant.0 (some g c) c.index-left-0.result
+    (map (view g) c.split_at.result.0.now) (map (view g) c.split_at.result.1.now) (in_two g c) (rw (← c.split_at.ensures.back) at c.run_length-n.ensures.apart)
+
+pub loop-left-smaller : goal.loop-left-smaller
+loop-left-smaller g c =
+    let some = some_own g (goal.at.loop-left-smaller g c).After-split_at in
+    omega (arith, some, length-map c.split_at.result.0.now (view g), c.split_at.ensures.front_len, c.split_at.ensures.back_len, c.run_length-n.ensures.within)
+
+pub loop-left-preserved : goal.loop-left-preserved
+loop-left-preserved g c =
+    let at = (goal.at.loop-left-preserved g c).After-split_at in
     let value = g.I.OverlayInt.value in
-    let kind = g.C.WindingCount.counting in
+    let stride = g.I.OverlayInt.stride in
+    let least = g.I.OverlayInt.least in
+    let greatest = g.I.OverlayInt.greatest in
+    let span = g.I.OverlayInt.span in
+    let joins = g.D.OverlayEdgeData.JOINS in
     let segments = c.args.segments.now in
-    let es = entries_of value segments in
-    let lays = marks_in precision k in
-    let edges = edges_of es in
-    let all : take c.loop-i.i segments ≡ segments = take_all c.loop-i.i segments (omega (arith, c.loop-i-test.false)) in
-    let waits = c.loop-i.kept.items in
-    let from = c.loop-i.from in
-    let kept : entries_of value c.extend_from_slice.new.self.items ≡ unmarked_of lays edges es =
-    ap (entries_of value) (c.in_ok-extend_from_slice.ensures.items ∙ (ap (λ l. waits ++ l) (take_rest segments from) ∙ ap (λ l. waits ++ drop from l) (sym all)))
-    ∙ (c.loop-i.invariant.1 precision k marked ∙ ap (λ l. unmarked_of lays edges (entries_of value l)) all) in
-    let pieces = c.loop-i.invariant.2 precision k marked ∙ ap (λ l. pieces_of lays edges kind (entries_of value l)) all in
-    record {
-      steps = subst (IsPermutation (flat_map (cut kind lays edges) es)) (sym (ap₂ (λ l m. l ++ m) kept pieces)) (steps_permuted lays edges kind es c.requires.normal.directed);
-      unmarked = subst (λ l. AreUnmarked lays edges (edges_of l)) (sym kept) (unmarked_are lays es);
-      map = subst (IsMap kind) (sym kept) (unmarked_map lays es c.requires.normal);
-    }
+    let segment = c.index-segments-i.result in
+    let all = map (view g) c.args.marks.now in
+    let rest = map (view g) c.loop-left.left.now in
+    let run = map (view g) c.split_at.result.0.now in
+    let more = map (view g) c.split_at.result.1.now in
+    let from = c.loop-left.from in
+    let i = next g at in
+    let l = to_come g at in
+    let parts = in_two g at in
+    let own : All (λ m. m.segment ≡ i) run = rw (← c.split_at.ensures.front) at c.run_length-n.ensures.own in
+    let apart = rw (← c.split_at.ensures.back) at c.run_length-n.ensures.apart in
+    let in_place = c.requires.in_place in
+    let left = c.loop-left.invariant.0 in
+    let now = left_to_first (view g) all c.loop-left.left.now from left (some g at) c.index-left-0.result in_place in
+    let kept = c.loop-left.kept.items in
+    let kept_now = c.keep_all.new.kept.items in
+    let bare : kept_now ≡ kept ++ drop from (take i segments) = c.in_ok-keep_all.ensures.kept ∙ ap (λ l. kept ++ l) (take_rest (take i segments) from) in (
+      run_passed all rest run more i in_place now parts own apart,
+      omega (arith, l.1),
+      turned (entry_of value) segments c.requires.normal stride least greatest span g.met.I.OverlayInt.strides g.met.I.OverlayInt.reach all in_place
+          rest run more from i left l.0 now parts own apart (some_own g at) segment l.1 c.index-segments-i.is kept kept_now
+          (entries_of value c.loop-left.pieces.items) (entries_of value c.lay_run.new.pieces.items) bare c.in_ok-lay_run.ensures.laid c.loop-left.invariant.2,
+      turned (seen_entry_of value joins) segments (seen_normal value joins g.C.WindingCount.counting g.D.OverlayEdgeData.join segments c.requires.normal)
+          stride least greatest span g.met.I.OverlayInt.strides g.met.I.OverlayInt.reach all in_place
+          rest run more from i left l.0 now parts own apart (some_own g at) segment l.1 c.index-segments-i.is kept kept_now
+          (seen_entries_of value joins c.loop-left.pieces.items) (seen_entries_of value joins c.lay_run.new.pieces.items) bare c.in_ok-lay_run.ensures.«data» c.loop-left.invariant.3,
+    )
+
+-- ---- none is left
+
+none_left : (g : Over) (c : In_ok-extend_from_slice g) → IsLeft (map (view g) c.args.marks.now) [] c.loop-left.from
+none_left g c =
+    let left = c.loop-left.left.now in
+    subst (λ l. IsLeft (map (view g) c.args.marks.now) (map (view g) l) c.loop-left.from) (no_items left (length left) refl (is_zero (length left) (sym c.is_empty.ensures ∙ c.loop-left-test.false))) c.loop-left.invariant.0
+
+pub returns-clause-cut : goal.returns-clause-cut
+returns-clause-cut g c =
+    let value = g.I.OverlayInt.value in
+    let segments = c.args.segments.now in
+    let kept = c.loop-left.kept.items in
+    cut_to_end (entry_of value) segments c.requires.normal g.I.OverlayInt.stride g.I.OverlayInt.least g.I.OverlayInt.greatest g.I.OverlayInt.span
+    g.met.I.OverlayInt.strides g.met.I.OverlayInt.reach (map (view g) c.args.marks.now) c.requires.in_place c.loop-left.from (none_left g c) c.loop-left.invariant.1
+    kept c.extend_from_slice.new.self.items (entries_of value c.loop-left.pieces.items)
+    (c.in_ok-extend_from_slice.ensures.items ∙ ap (λ l. kept ++ l) (take_rest segments c.loop-left.from)) c.loop-left.invariant.2
 
 pub returns-clause-data : goal.returns-clause-data
-returns-clause-data g c = λ precision k found.
+returns-clause-data g c =
     let value = g.I.OverlayInt.value in
     let joins = g.D.OverlayEdgeData.JOINS in
-    let join = g.D.OverlayEdgeData.join in
-    let kind = carrying g.C.WindingCount.counting joins join in
     let segments = c.args.segments.now in
-    let es = seen_entries_of value joins segments in
-    let lays = marks_in precision k in
-    let edges = edges_of es in
-    let same : edges ≡ edges_of (entries_of value segments) = seen_edges value joins segments in
-    let marked = subst (λ l. AreMarks g.I.OverlayInt.stride g.I.OverlayInt.least g.I.OverlayInt.greatest lays l (laid_marks value g.I.Wide.WideIntNumber.number c.args.marks.now)) same found in
-    let all : take c.loop-i.i segments ≡ segments = take_all c.loop-i.i segments (omega (arith, c.loop-i-test.false)) in
-    let waits = c.loop-i.kept.items in
-    let from = c.loop-i.from in
-    let normal = seen_normal value joins g.C.WindingCount.counting join segments c.requires.normal in
-    let kept : seen_entries_of value joins c.extend_from_slice.new.self.items ≡ unmarked_of lays edges es =
-    ap (seen_entries_of value joins) (c.in_ok-extend_from_slice.ensures.items ∙ (ap (λ l. waits ++ l) (take_rest segments from) ∙ ap (λ l. waits ++ drop from l) (sym all)))
-    ∙ (c.loop-i.invariant.4 precision k marked ∙ (ap (λ l. unmarked_of lays (edges_of (entries_of value segments)) (seen_entries_of value joins l)) all ∙ ap (λ l. unmarked_of lays l es) (sym same))) in
-    let pieces : seen_entries_of value joins c.loop-i.pieces.items ≡ pieces_of lays edges kind es =
-    c.loop-i.invariant.5 precision k marked ∙ (ap (λ l. pieces_of lays (edges_of (entries_of value segments)) kind (seen_entries_of value joins l)) all ∙ ap (λ l. pieces_of lays l kind es) (sym same)) in
-    record {
-      steps = subst (IsPermutation (flat_map (cut kind lays edges) es)) (sym (ap₂ (λ l m. l ++ m) kept pieces)) (steps_permuted lays edges kind es normal.directed);
-      unmarked = subst (λ l. AreUnmarked lays edges (edges_of l)) (sym kept) (unmarked_are lays es);
-      map = subst (IsMap kind) (sym kept) (unmarked_map lays es normal);
-    }
+    let kept = c.loop-left.kept.items in
+    cut_to_end (seen_entry_of value joins) segments (seen_normal value joins g.C.WindingCount.counting g.D.OverlayEdgeData.join segments c.requires.normal)
+    g.I.OverlayInt.stride g.I.OverlayInt.least g.I.OverlayInt.greatest g.I.OverlayInt.span
+    g.met.I.OverlayInt.strides g.met.I.OverlayInt.reach (map (view g) c.args.marks.now) c.requires.in_place c.loop-left.from (none_left g c) c.loop-left.invariant.1
+    kept c.extend_from_slice.new.self.items (seen_entries_of value joins c.loop-left.pieces.items)
+    (c.in_ok-extend_from_slice.ensures.items ∙ ap (λ l. kept ++ l) (take_rest segments c.loop-left.from)) c.loop-left.invariant.3

@@ -1,6 +1,6 @@
-use Rattle.std.proofs.Common.{◌≡◌, ◌∙◌, ◌+◌, ◌++◌, ◌∷◌, [], true, sym, ap, ap₂, subst, refl, take, arith}
+use Rattle.std.proofs.Common.{◌≡◌, ◌∙◌, ◌+◌, ◌++◌, ◌∷◌, [], true, sym, ap, subst, refl, take, arith}
 use Rattle.std.specs.Prelude.{All}
-use Rattle.std.proofs.lemmas.List.{map-append, take-append-drop, take_all}
+use Rattle.std.proofs.lemmas.List.{map-append, take_all}
 use Rattle.std.proofs.lemmas.List.Elements.{All-nil}
 use Rattle.plane_base.specs.Plane.{is_before}
 use Rattle.plane_base.proofs.Facts.Thinning.Indexes.{taken_to}
@@ -12,7 +12,7 @@ use Rattle.segment_split.specs.SegmentViews.{entry_of, entries_of}
 use Rattle.segment_split.specs.Sums.{of_count}
 use Rattle.segment_split.proofs.Mixed.Cuts.{base_of, AreDirected, line_next, other_next, none_next, none_left, directed_next, directed_sums, parts_apart}
 use Rattle.segment_split.proofs.Passes.MarkLists.{edge_at, holds_at, edges_directed}
-use Rattle.segment_split.proofs.Redrawing.Runs.{all_left, run_passed}
+use Rattle.segment_split.proofs.Redrawing.Runs.{all_left, run_passed, split_laid}
 use Rattle.segment_split.proofs.split.mixed.cut_by_slope.Goals as goal
 
 pub loop-i-init : goal.loop-i-init
@@ -47,9 +47,7 @@ loop-i-preserved g c =
     let rest = laid_marks value g.I.Wide.WideIntNumber.number c.loop-i.left.now in
     let run = laid_marks value g.I.Wide.WideIntNumber.number marks in
     let more = laid_marks value g.I.Wide.WideIntNumber.number c.split_at.result.1.now in
-    let parts : rest ≡ run ++ more =
-    ap (laid_marks value g.I.Wide.WideIntNumber.number) (sym (take-append-drop c.run_length-n.result c.loop-i.left.now) ∙ ap₂ (λ l m. l ++ m) (sym c.split_at.ensures.front) (sym c.split_at.ensures.back))
-    ∙ map-append seen marks c.split_at.result.1.now in
+    let parts : rest ≡ run ++ more = split_laid seen c.loop-i.left.now marks c.split_at.result.1.now c.run_length-n.result c.split_at.ensures.front c.split_at.ensures.back in
     let own : All (λ m. m.segment ≡ i) run = rw (← c.split_at.ensures.front) at c.run_length-n.ensures.own in
     let apart = rw (← c.split_at.ensures.back) at c.run_length-n.ensures.apart in
     let left = c.loop-i.invariant.0 in
