@@ -1,5 +1,5 @@
 -- How far new segments extend in rows.
-use Rattle.std.specs.Prelude.{◌≡◌, ◌≢◌, ◌==◌, ◌⊎◌, ℕ, ◌+◌, ◌<◌, ◌≤◌, ℤ, ◌≤ℤ◌, List, [], ◌∷◌, ◌++◌, length, slice_index_or, pos, true}
+use Rattle.std.specs.Prelude.{◌≡◌, ◌≢◌, ◌==◌, ◌⊎◌, ℕ, ◌+◌, ◌<◌, ◌≤◌, ℤ, ◌≤ℤ◌, ◌<ℤ◌, List, [], ◌∷◌, ◌++◌, length, slice_index_or, pos, true, false}
 use Rattle.std.proofs.Common.{sym, ap, ◌∙◌, subst, inl, inr, arith}
 use Rattle.std.proofs.Math.ListN.{set}
 use Rattle.std.proofs.lemmas.Int.{ints}
@@ -10,6 +10,9 @@ use Rattle.segment_split.specs.MarkLists.{IsAt}
 use Rattle.segment_split.specs.Rows.{lowest_row, highest_row, is_old, extent_at, Covers, IsNear, AreExtentsTo, MeetsNew}
 use Rattle.segment_split.specs.declared.pairs.rows.extents.Extent.{Extent}
 use Rattle.segment_split.proofs.Passes.MarkLists.{at_same}
+
+pub level : (x : ℤ) → x ≤ℤ x
+level x = omega (arith, ints)
 
 through : (x y z : ℤ) → x ≤ℤ y → y ≤ℤ z → x ≤ℤ z
 through x y z a b = omega (arith, ints)
@@ -84,6 +87,45 @@ pub near_met : (least : ℤ) (width : ℕ) (es : List Edge) (next_new : List ℕ
 near_met least width es next_new n end extents h t r met =
     let covers = h met.number met.edge (subst (λ k. met.number < k) (sym end) met.at.0) met.at met.new r met.low met.high in
     (covers.0, through (extent_at extents r).left met.edge.a.x t.b.x covers.1 met.left, through t.a.x met.edge.b.x (extent_at extents r).right met.right covers.2)
+
+-- ---- how far new segments before i reach
+
+abbrev pub ReachUpTo : List Edge → List ℕ → ℕ → ℤ → Type 0
+ReachUpTo es next_new i reached = (j : ℕ) (t : Edge) → j < i → IsAt es j t → is_old next_new j ≡ false → t.b.x ≤ℤ reached
+
+-- these numbers up to the other are of old ones
+abbrev pub AreOld : List ℕ → ℕ → ℕ → Type 0
+AreOld next_new from to = (j : ℕ) → from ≤ j → j < to → is_old next_new j ≡ true
+
+pub old_more : (next_new : List ℕ) (from i : ℕ) → AreOld next_new from i → is_old next_new i ≡ true → AreOld next_new from (i + 1)
+old_more next_new from i h here j l m = by (cases_lt j i)
+  where
+    by : (j < i) ⊎ (i ≤ j) → is_old next_new j ≡ true
+    by (inl less) = h j l less
+    by (inr last) = let same : j ≡ i = omega (arith, m, last) in ap (is_old next_new) same ∙ here
+
+module _ (es : List Edge) (next_new : List ℕ) (i : ℕ) (reached : ℤ) (h : ReachUpTo es next_new i reached) where
+  pub reach_more : (more : ℤ) → reached ≤ℤ more → ((s : Edge) → IsAt es i s → is_old next_new i ≡ false → s.b.x ≤ℤ more) → ReachUpTo es next_new (i + 1) more
+  reach_more more up here j t l at new = by (cases_lt j i)
+    where
+      by : (j < i) ⊎ (i ≤ j) → t.b.x ≤ℤ more
+      by (inl less) = through t.b.x reached more (h j t less at new) up
+      by (inr last) = let same : j ≡ i = omega (arith, l, last) in here t (subst (λ k. IsAt es k t) same at) (sym (ap (is_old next_new) same) ∙ new)
+
+  -- what begins past that, and ends before what follows the old ones begins, meets no new one
+  pub none_met : (least : ℤ) (width next : ℕ) → AreOld next_new i next → (t : Edge) → reached <ℤ t.a.x → ((j : ℕ) (u : Edge) → next ≤ j → IsAt es j u → t.b.x <ℤ u.a.x) → (r : ℕ) → MeetsNew least width es next_new t r → ⊥
+  none_met least width next old t before after r met = by (cases_lt met.number i)
+    where
+      clash : (x y z : ℤ) → x ≤ℤ y → y ≤ℤ z → z <ℤ x → ⊥
+      clash x y z a b c = omega (arith, ints)
+
+      ahead : i ≤ met.number → (met.number < next) ⊎ (next ≤ met.number) → ⊥
+      ahead l (inl less) = true≢false (sym (old met.number l less) ∙ met.new)
+      ahead l (inr past) = clash met.edge.a.x t.b.x t.b.x met.left (level t.b.x) (after met.number met.edge past met.at)
+
+      by : (met.number < i) ⊎ (i ≤ met.number) → ⊥
+      by (inl less) = clash t.a.x met.edge.b.x reached met.right (h met.number met.edge less met.at met.new) before
+      by (inr l) = ahead l (cases_lt met.number next)
 
 pub is_zero : (n : ℕ) → (n == 0) ≡ true → n ≡ 0
 is_zero n e = grind arith

@@ -289,7 +289,7 @@ pub record PassesTo (near : ℕ → Type 0) (i low row : ℕ) (old new : List �
 
 pub passes_none : (near : ℕ → Type 0) (i low row : ℕ) → row ≤ low + 1 → (places : List ℕ) → PassesTo near i low row places places
 passes_none near i low row h places = record {
-  are = let none : row - (low + 1) ≡ 0 = omega (arith, h) in subst (λ n. AddsPart (places_from (low + 1) n i) places places) (sym none) (adds_none places);
+  are = adds_none (places_from (low + 1) (row - (low + 1)) i) places;
   pass = λ r l m. absurd (omega (arith, h, l, m));
   stay = λ p c. c;
   numbered = λ n l all. all;

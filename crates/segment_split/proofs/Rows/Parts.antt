@@ -27,8 +27,8 @@ part_both xs ys us vs (rest, is) (more, are) =
           (subst (λ l. IsPermutation l ((us ++ vs) ++ (rest ++ more))) (sym apart) (subst (IsPermutation (us ++ ((rest ++ vs) ++ more))) together turned)),
     )
 
-pub adds_none : (xs : List ℕ) → AddsPart [] xs xs
-adds_none xs = ([], sym (append-nil xs), part_whole [])
+pub adds_none : (places xs : List ℕ) → AddsPart places xs xs
+adds_none places xs = ([], sym (append-nil xs), part_none places)
 
 pub adds_near : (near : Type 0) (p : ℕ) (old new : List ℕ) → AddsNear near p old new → AddsPart (p ∷ []) old new
 adds_near near p old new (inl (e, far)) = ([], e ∙ sym (append-nil old), part_none (p ∷ []))

@@ -60,6 +60,7 @@ impl RowLayout {
     }
 
     // The lowest and the highest row of a segment.
+    #[inline(always)]
     pub(super) fn rows<I: OverlayInt>(self, s: XSegment<I>) -> (u64, u64)
         requires in_range { IsEdgeWithin I.least I.greatest (edge_of I.value s) }
         requires few { HasFewRows self.least self.width (edge_of I.value s) }
@@ -72,6 +73,7 @@ impl RowLayout {
     }
 
     // The row of a y.
+    #[inline(always)]
     fn row(self, y: i64) -> u64
         requires { y <ℤ pos (2 ^ 36) }
         ensures { result ≡ row_of self.least self.width y }

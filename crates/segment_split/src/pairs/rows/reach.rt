@@ -315,7 +315,7 @@ fn upper<C: WindingCount, I: OverlayInt, D>(
 }
 
 // Whether a segment begins past x.
-fn begins_past<I: OverlayInt>(s: XSegment<I>, x: I) -> bool
+pub(super) fn begins_past<I: OverlayInt>(s: XSegment<I>, x: I) -> bool
     ensures past { IsTrue result → I.value x <ℤ I.value s.a.x }
     ensures reached { IsFalse result → I.value s.a.x ≤ℤ I.value x }
 {
