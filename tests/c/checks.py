@@ -1,4 +1,4 @@
-"""What the library answers through Python, held against stored replies and against the program shape_answers.
+"""What the library answers through Python, held against stored replies and against the program cases.
 
 usage: checks.py scripts | rows | drawn PROGRAM      the last line is 'N passed, M failed'
 """
@@ -200,7 +200,8 @@ def is_told(kind, words):
 def rows():
     """Each row of these kinds is right, but for those behind `wrong`, of which there is one of each kind or more."""
     right, wrong = dict.fromkeys(KINDS, 0), dict.fromkeys(KINDS, 0)
-    for number, row in enumerate((ROOT / "crates/shape_cases/stdin").read_text().splitlines(), 1):
+    for number, line in enumerate((ROOT / "crates/cases/stdin").read_text().splitlines(), 1):
+        row = line.removeprefix("shape ")  # (rows of another kind begin with a word that isn't among these)
         words = Words(row.removeprefix("wrong "))
         kind, is_right = words.next(), not row.startswith("wrong ")
         told = is_told(kind, words) if kind in KINDS else None

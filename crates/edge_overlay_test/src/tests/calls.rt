@@ -5,11 +5,11 @@ ghost use Rattle.polygon_overlay.specs.EdgeCalls.{IsInputWithin};
 
 use super::squares::GIVEN;
 use super::{are_held, at};
-use edge_rows::colour::Colour;
 use plane_base::fault::Fault;
 use plane_base::int::OverlayInt;
 use plane_base::range::is_in_range;
 use polygon_overlay::edge_overlay::{EdgeOverlay, InputEdge};
+use rows::edges::colour::Colour;
 use segment_split::count::{ShapeCountBoolean, ShapeType};
 use segment_split::data::{EdgeDataMerge, OverlayEdgeData};
 use std::alloc::Global;

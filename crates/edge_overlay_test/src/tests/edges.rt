@@ -1,6 +1,6 @@
 //! Edges with colours, worked out by hand: overlays, balance, and paths that are simplified.
 
-use edge_rows::is_answered;
+use rows::edges::is_answered;
 
 // Overlays of edges.
 const OVERLAYS: &str = "\

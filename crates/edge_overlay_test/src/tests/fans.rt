@@ -2,10 +2,10 @@
 
 use super::{Point, at};
 use contour_walk::vector::edge::{DataVectorEdge, DataVectorShape};
-use edge_rows::colour::Colour;
 use plane_base::fault::Fault;
 use plane_base::range::is_in_range;
 use polygon_overlay::edge_overlay::{EdgeOverlay, InputEdge};
+use rows::edges::colour::Colour;
 use segment_arrangement::fill_rule::FillRule::NonZero;
 use segment_arrangement::overlay_rule::OverlayRule::Subject;
 use segment_split::count::ShapeType;

@@ -6,8 +6,8 @@ use contour_walk::vector::edge::{
     SideFill, ToPath, VectorPath, VectorShape, reverse,
 };
 use contour_walk::vector::simplify::VectorSimplify;
-use edge_rows::simplified::{are_edges_within, are_paths_within};
 use plane_base::fault::Fault;
+use rows::edges::simplified::{are_edges_within, are_paths_within};
 use std::alloc::Global;
 
 #[test]

@@ -3,10 +3,10 @@
 use super::calls::add_all;
 use super::squares::{GIVEN, LISTED, LISTED_COLOURS, PATH, PATH_COLOURS, REDRAWN, SIDES, Side};
 use super::{Point, Row, are_held, are_rows, at, only_path};
-use edge_rows::colour::Colour;
-use edge_rows::edges::{Edge, Given, Overlay, add};
 use plane_base::fault::Fault;
 use polygon_overlay::edge_overlay::InputEdge;
+use rows::edges::colour::Colour;
+use rows::edges::given::{Edge, Given, Overlay, add};
 use segment_arrangement::fill_rule::FillRule;
 use segment_arrangement::overlay_rule::OverlayRule;
 use segment_split::count::ShapeType::{Clip, Subject};

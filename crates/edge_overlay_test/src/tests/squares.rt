@@ -1,7 +1,7 @@
 //! Two squares, a subject and a clip, of which one half is common: what is given, what is held after a query, and what bounds both together.
 
 use super::{Point, Row};
-use edge_rows::colour::Colour;
+use rows::edges::colour::Colour;
 use segment_split::count::ShapeType::{self, Clip, Subject};
 
 // A side of a square: what it is added to, and its ends.

@@ -1,6 +1,6 @@
 //! Clips and slices that leave the box of the line, or of the shape: the box of both together holds them.
 
-use shape_rows::is_answered;
+use rows::shapes::is_answered;
 
 const ROWS: &str = "\
 # the line is drawn to the corners 2 0, 1 0 and 0 3 of the triangle, pass by pass: the last lies beyond the line's box

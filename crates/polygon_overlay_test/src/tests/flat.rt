@@ -5,10 +5,10 @@ use plane_base::fault::Fault;
 use plane_base::flat::FlatContoursBuffer;
 use plane_base::point::IntPoint;
 use polygon_overlay::overlay::Overlay;
+use rows::shapes::is_answered;
 use segment_arrangement::fill_rule::FillRule::NonZero;
 use segment_arrangement::overlay_rule::OverlayRule::Difference;
 use segment_split::count::ShapeType;
-use shape_rows::is_answered;
 use std::alloc::Global;
 
 const ROWS: &str = "\

@@ -1,6 +1,6 @@
 //! Groups whose boxes share no point are answered as if each were alone, by options too that no request line has.
 
-use shape_rows::is_answered;
+use rows::shapes::is_answered;
 
 const ROWS: &str = "\
 # five squares, each within the one before, and the same beside them

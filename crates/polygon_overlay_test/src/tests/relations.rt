@@ -6,8 +6,8 @@ use plane_base::point::IntPoint;
 use plane_base::range::{all_in_range, source_in_range};
 use plane_base::resource::ContourRef;
 use polygon_overlay::relate::{PredicateOverlay, Relations, lie_apart};
+use rows::shapes::is_answered;
 use segment_split::count::ShapeType;
-use shape_rows::is_answered;
 use std::alloc::Global;
 
 const ROWS: &str = "\

@@ -6,9 +6,9 @@ use plane_base::path::{IntPath, IntShape, IntShapes};
 use plane_base::point::IntPoint;
 use plane_base::range::{all_in_range, source_in_range};
 use polygon_overlay::overlay::Overlay;
+use rows::shapes::is_answered;
 use segment_arrangement::fill_rule::FillRule::NonZero;
 use segment_arrangement::overlay_rule::OverlayRule::Subject;
-use shape_rows::is_answered;
 use std::alloc::Global;
 
 const ROWS: &str = "\

@@ -7,11 +7,11 @@ use plane_base::range::all_in_range;
 use polygon_strings::string::clip::IntClip;
 use polygon_strings::string::line::IntLine;
 use polygon_strings::string::overlay::StringOverlay;
+use rows::shapes::is_answered;
 use segment_arrangement::clip_rule::ClipRule;
 use segment_arrangement::fill::SegmentFill;
 use segment_arrangement::fill_rule::FillRule::NonZero;
 use segment_arrangement::link::OverlayLink;
-use shape_rows::is_answered;
 use std::alloc::Global;
 
 const ROWS: &str = "\

@@ -9,9 +9,9 @@ use plane_base::point::IntPoint;
 use plane_base::range::{all_contours_in_range, all_in_range};
 use polygon_strings::string::overlay::StringOverlay;
 use reference::windings::contour_winding_at;
+use rows::shapes::slices::{Slice, has_contour, pieces_held};
 use segment_arrangement::fill_rule::FillRule;
 use segment_split::solver::{Precision, Strategy};
-use shape_rows::slices::{Slice, has_contour, pieces_held};
 use std::alloc::Global;
 
 // Points are drawn from so many columns and rows.

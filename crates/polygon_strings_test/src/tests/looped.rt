@@ -1,6 +1,6 @@
 //! The loops of paths, by rows.
 
-use shape_rows::is_answered;
+use rows::shapes::is_answered;
 
 const ROWS: &str = "\
 # two loops

@@ -7,9 +7,9 @@ use plane_base::point::IntPoint;
 use plane_base::range::{all_in_range, source_in_range};
 use polygon_strings::string::line::IntLine;
 use polygon_strings::string::overlay::StringOverlay;
+use rows::shapes::lines::are_in_range;
 use segment_arrangement::clip_rule::ClipRule;
 use segment_arrangement::fill_rule::FillRule::NonZero;
-use shape_rows::lines::are_in_range;
 use std::alloc::Global;
 
 const SQUARE: [IntPoint<i32>; 4] = [

@@ -7,10 +7,10 @@ use plane_base::path::IntShape;
 use plane_base::point::IntPoint;
 use plane_base::range::all_in_range;
 use polygon_strings::string::overlay::StringOverlay;
+use rows::shapes::is_answered;
+use rows::shapes::slices::{Slice, pieces_held};
 use segment_arrangement::fill_rule::FillRule;
 use segment_split::solver::{Precision, Strategy};
-use shape_rows::is_answered;
-use shape_rows::slices::{Slice, pieces_held};
 use std::alloc::Global;
 
 const ROWS: &str = "\

@@ -6,10 +6,10 @@ use plane_base::fault::Fault;
 use plane_base::point::IntPoint;
 use plane_base::range::all_in_range;
 use polygon_strings::string::overlay::StringOverlay;
+use rows::shapes::slices::{Slice, pieces_held};
 use segment_arrangement::clip_rule::ClipRule;
 use segment_arrangement::fill_rule::FillRule;
 use segment_split::solver::{Precision, Strategy};
-use shape_rows::slices::{Slice, pieces_held};
 use std::alloc::Global;
 
 const SQUARE: [IntPoint<i32>; 4] = [

@@ -1,5 +1,0 @@
-use Rattle.map_cases.proofs.answer.answer.Given as goal
-
--- The ledger of steps that are thrown away.
-abbrev pub ghosts-split : goal.ghosts-split
-ghosts-split a = record { name = a.blank.name; parts = a.blank.parts }

@@ -1,0 +1,14 @@
+use Rattle.std.proofs.Common.{All, subst, sym}
+use Rattle.plane_base.specs.Plane.{IsWithin}
+use Rattle.plane_base.specs.GivenViews.{contours_of}
+use Rattle.plane_base.specs.Views.{points_of}
+use Rattle.plane_base.proofs.Facts.Lists.Views.{All-mapped}
+use Rattle.rows.proofs.shapes.slices.doubled_area_of.Goals as goal
+
+pub area_of-requires : goal.area_of-requires
+area_of-requires g c =
+    let value = g.I.OverlayInt.value in
+    let within = All (IsWithin g.I.OverlayInt.least g.I.OverlayInt.greatest) in
+    subst (λ points. within (points_of value points)) (sym c.deref.ensures.value)
+    (All-mapped within (λ contour. points_of value contour.points.items) c.deref-contour-items.result.now c.loop-contour.contour-index c.contour-item.result
+    c.loop-contour-test.true c.contour-item.is (subst (λ contours. All within (contours_of value contours)) (sym c.deref-contour-items.ensures.value) c.requires))

@@ -1,4 +1,0 @@
-use Rattle.shape_rows.proofs.simplified.are_simplified.Goals as goal
-
-pub simplify_shapes-requires : goal.simplify_shapes-requires
-simplify_shapes-requires g c = record { in_range = c.source_in_range.ensures.0 c.if-not-source_in_range.false }
