@@ -2,13 +2,16 @@
 //! data, with a store of its own. Degenerate cases: data that tell nothing, as `()`, say so (`is_bare`). The type decides
 //! what a call costs.
 
-ghost use Rattle.std.specs.Prelude.{◌≡◌, ◌⊎◌, Bool, true, false, IsOkUnless};
+ghost use Rattle.std.specs.Prelude.{◌≡◌, ◌⊎◌, Bool, true, false, IsTrue, IsOkUnless};
 ghost use Rattle.segment_split.specs.Data.{IsJoin};
+ghost use Rattle.segment_split.specs.SegmentViews.{entries_of};
 
+use crate::segment::Segment;
 use plane_base::fault::Fault;
 use plane_base::int::OverlayInt;
 use plane_base::point::IntPoint;
 use std::alloc::Global;
+use std::mem::swap;
 
 /// A segment that is cut: its ends, and the mark at which it is cut.
 #[derive(Clone, Copy, Debug, PartialEq, Eq)]
@@ -37,6 +40,9 @@ pub trait OverlayEdgeData<C>: Copy + PartialEq {
     const JOINS: bool;
 
     ghost JOINS: { Bool } = { false };
+
+    // Whether lists with these data are of one type with lists without.
+    ghost exchanges: { Bool } = { false };
 
     /// What two data join to.
     ghost join: { Self → Self → Self } = { λ d e. d };
@@ -75,6 +81,20 @@ pub trait OverlayEdgeData<C>: Copy + PartialEq {
         false
     }
 
+    /// Exchanges two lists where they are of one type, and else leaves them. Answers whether they are.
+    fn exchange<I: OverlayInt>(
+        own: &mut Vec<Segment<C, I, Self>>,
+        bare: &mut Vec<Segment<C, I, ()>>,
+    ) -> bool
+        ensures is { result ≡ exchanges }
+        ensures given { IsTrue result → entries_of I.value bare.new.items ≡ entries_of I.value own.old.items }
+        ensures taken { IsTrue result → entries_of I.value own.new.items ≡ entries_of I.value bare.old.items }
+        ensures own { result ≡ false → own.new ≡ own.old }
+        ensures bare { result ≡ false → bare.new ≡ bare.old }
+    {
+        false
+    }
+
     // Where data are joined, `join` is a join.
     ghost lawful: { JOINS ≡ true → IsJoin join };
 }
@@ -95,6 +115,16 @@ impl<C: Copy> OverlayEdgeData<C> for () {
     }
 
     fn is_bare() -> bool {
+        true
+    }
+
+    ghost exchanges = { true };
+
+    fn exchange<I: OverlayInt>(
+        own: &mut Vec<Segment<C, I, ()>>,
+        bare: &mut Vec<Segment<C, I, ()>>,
+    ) -> bool {
+        swap(own, bare);
         true
     }
 
