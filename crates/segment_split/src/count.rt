@@ -4,19 +4,24 @@
 //! Degenerate cases: a sum that leaves its range is refused with `Count`; 0 throughout is empty. Each call takes constant
 //! time.
 
-ghost use Rattle.std.specs.Prelude.{◌≡◌, ℤ, ◌+ℤ◌, neg_ℤ, pos, ◌≤ℤ◌, ◌<◌, Bool, true, false, refl, MatchResult};
+ghost use Rattle.std.specs.Prelude.{◌≡◌, ℤ, ◌+ℤ◌, neg_ℤ, pos, ◌≤ℤ◌, ◌<◌, Bool, true, false, refl, IsTrue, MatchResult};
 ghost use Rattle.std.proofs.Common.{rules};
 ghost use Rattle.std.proofs.lemmas.Bool.{false≢true};
 ghost use Rattle.plane_base.specs.Counts.{Count, Counting, boolean};
 ghost use Rattle.plane_base.proofs.Facts.Maps.Normal.{IsCounting};
 ghost use Rattle.plane_base.proofs.Facts.Maps.Laying.{boolean_counting};
 ghost use Rattle.segment_split.specs.Kinds.{number_fits, count_fits};
+ghost use Rattle.segment_split.specs.RedrawLaws.{with_counts};
+ghost use Rattle.segment_split.specs.SegmentViews.{entries_of};
 ghost use Rattle.segment_split.specs.Sums.{of_count, IsAdded};
 ghost use Rattle.segment_split.specs.Strings.{StringCount, stringed, string_of, string_fits, mask_of, masked};
 ghost use Rattle.segment_split.specs.StringLaws.{string_counting, mask_is};
 
+use crate::segment::Segment;
 use plane_base::fault::Fault;
+use plane_base::int::OverlayInt;
 use std::marker::Model;
+use std::mem::swap;
 
 /// Whose a contour is.
 #[derive(Clone, Copy, Debug, PartialEq, Eq)]
@@ -64,6 +69,19 @@ pub trait WindingCount: Copy {
     /// How often subject and clip run along a segment, where a count is just that.
     fn sums(self) -> ShapeCountBoolean
         ensures { ADDS ≡ true → of_count of result ≡ self };
+
+    /// Exchanges two lists where they are of one type, and else leaves them. Answers whether they are.
+    fn exchange<I: OverlayInt>(
+        own: &mut Vec<Segment<Self, I, ()>>,
+        sums: &mut Vec<Segment<ShapeCountBoolean, I, ()>>,
+    ) -> bool
+        ensures given { IsTrue result → with_counts (of_count of) (entries_of I.value sums.new.items) ≡ entries_of I.value own.old.items }
+        ensures taken { IsTrue result → entries_of I.value own.new.items ≡ with_counts (of_count of) (entries_of I.value sums.old.items) }
+        ensures own { result ≡ false → own.new ≡ own.old }
+        ensures sums { result ≡ false → sums.new ≡ sums.old }
+    {
+        false
+    }
 
     // Where a count is just that, its two numbers stand for it.
     ghost added: { ADDS ≡ true → IsAdded counting fits of };
@@ -130,6 +148,14 @@ impl WindingCount for ShapeCountBoolean {
 
     fn sums(self) -> ShapeCountBoolean {
         self
+    }
+
+    fn exchange<I: OverlayInt>(
+        own: &mut Vec<Segment<ShapeCountBoolean, I, ()>>,
+        sums: &mut Vec<Segment<ShapeCountBoolean, I, ()>>,
+    ) -> bool {
+        swap(own, sums);
+        true
     }
 }
 

@@ -2,9 +2,14 @@
 //! data, with a store of its own. Degenerate cases: data that tell nothing, as `()`, say so (`is_bare`). The type decides
 //! what a call costs.
 
-ghost use Rattle.std.specs.Prelude.{◌≡◌, ◌⊎◌, Bool, true, false, IsOkUnless};
+ghost use Rattle.std.specs.Prelude.{◌≡◌, ◌⊎◌, Bool, true, false, IsTrue, IsOkUnless};
 ghost use Rattle.segment_split.specs.Data.{IsJoin};
+ghost use Rattle.segment_split.specs.RedrawLaws.{with_counts};
+ghost use Rattle.segment_split.specs.SegmentViews.{entries_of};
+ghost use Rattle.segment_split.specs.Sums.{of_count};
 
+use crate::count::{ShapeCountBoolean, WindingCount};
+use crate::segment::Segment;
 use plane_base::fault::Fault;
 use plane_base::int::OverlayInt;
 use plane_base::point::IntPoint;
@@ -75,6 +80,19 @@ pub trait OverlayEdgeData<C>: Copy + PartialEq {
         false
     }
 
+    /// Exchanges a list with one of sums and no data where they are of one type, and else leaves both. Answers whether they are.
+    fn exchange<K: WindingCount, I: OverlayInt>(
+        own: &mut Vec<Segment<K, I, Self>>,
+        sums: &mut Vec<Segment<ShapeCountBoolean, I, ()>>,
+    ) -> bool
+        ensures given { IsTrue result → with_counts (of_count K.of) (entries_of I.value sums.new.items) ≡ entries_of I.value own.old.items }
+        ensures taken { IsTrue result → entries_of I.value own.new.items ≡ with_counts (of_count K.of) (entries_of I.value sums.old.items) }
+        ensures own { result ≡ false → own.new ≡ own.old }
+        ensures sums { result ≡ false → sums.new ≡ sums.old }
+    {
+        false
+    }
+
     // Where data are joined, `join` is a join.
     ghost lawful: { JOINS ≡ true → IsJoin join };
 }
@@ -96,6 +114,13 @@ impl<C: Copy> OverlayEdgeData<C> for () {
 
     fn is_bare() -> bool {
         true
+    }
+
+    fn exchange<K: WindingCount, I: OverlayInt>(
+        own: &mut Vec<Segment<K, I, ()>>,
+        sums: &mut Vec<Segment<ShapeCountBoolean, I, ()>>,
+    ) -> bool {
+        K::exchange(own, sums)
     }
 
     fn merge(joined: EdgeDataMerge<C, ()>, _store: &mut ())

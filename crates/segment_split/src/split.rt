@@ -201,7 +201,7 @@ fn redraw_map<C: WindingCount, I: OverlayInt, D: OverlayEdgeData<C>, L: Ledger>(
     ensures { let work : Work C D = record { kind = C.counting; fits = C.fits; joins = D.JOINS; join = D.join; solver = solver } in
         Redraws work (listed I.value D.JOINS segments.old.items) (listed I.value D.JOINS segments.new.items) steps.old steps.new result }
 {
-    let swept = redraw_by_lines(segments, solver, room.alloc, &mut room.sort, steps)?;
+    let swept = redraw_by_lines(segments, pieces, solver, room.alloc, &mut room.sort, steps)?;
     if let Some(is_marked) = swept {
         room.passes = u64::from(is_marked);
         return Ok(is_marked);

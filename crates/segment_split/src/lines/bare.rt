@@ -1,8 +1,9 @@
 //! Maps of horizontal and vertical segments redrawn by the plane sweep, over keys with Boolean counts and without data.
 //!
 //! That is all there is to tell where counts are just added and data tell nothing: counts are read as sums before the sweep, and put
-//! back after it. Degenerate cases: fewer than 64 segments, other counts, data or slopes are left to passes, and nothing changes then.
-//! Beside the sweep it takes linear time, and room for the keys.
+//! back after it. A list that is of the keys' type already is swept itself, and the one that sorting leaves takes what is laid. Degenerate
+//! cases: fewer than 64 segments, other counts, data or slopes are left to passes, and nothing changes then. Beside the sweep it takes
+//! linear time, and room for the keys where these are copied.
 
 ghost use Rattle.std.specs.Prelude.{◌≡◌, ◌≤◌, true, length, IfOk, OnOk, IfNone, IsTrue, IsOkUnless};
 ghost use Rattle.plane_base.specs.SegmentViews.{edge_of};
@@ -33,6 +34,7 @@ const FEWEST: usize = 64;
 // vertical.
 pub(crate) fn redraw_by_lines<C: WindingCount, I: OverlayInt, D: OverlayEdgeData<C>, L: Ledger>(
     segments: &mut Vec<Segment<C, I, D>>,
+    pieces: &mut Vec<Segment<C, I, D>>,
     solver: Solver,
     alloc: Global,
     room: &mut SortRoom,
@@ -57,14 +59,48 @@ pub(crate) fn redraw_by_lines<C: WindingCount, I: OverlayInt, D: OverlayEdgeData
     let Some(datum) = first_datum(segments) else {
         return Ok(None);
     };
-    let keys = keys_of(alloc, segments)?;
+    let keys = take_keys(alloc, segments)?;
     let mut laid = Vec::new(alloc);
+    D::exchange(pieces, &mut laid);
     let is_marked = redraw_where_cut(alloc, &mut laid, &keys, room, steps)?;
     if !is_marked {
+        give_keys(segments, keys, datum)?;
         return Ok(Some(false));
     }
-    put_all(segments, &laid, datum)?;
+    give_keys(segments, laid, datum)?;
     Ok(Some(true))
+}
+
+// The segments with their sums, and without their data: the list itself where it is of that type, which then leaves no segments, and
+// else a copy.
+fn take_keys<C: WindingCount, I: OverlayInt, D: OverlayEdgeData<C>>(
+    alloc: Global,
+    segments: &mut Vec<Segment<C, I, D>>,
+) -> Result<Vec<Key<I>>, Fault>
+    requires adds { C.ADDS ≡ true }
+    ensures same { IfOk result (λ keys. with_counts (of_count C.of) (entries_of I.value keys.items) ≡ entries_of I.value segments.old.items) }
+    ensures memory { IsOkUnless result Fault.Memory }
+{
+    let mut keys = Vec::new(alloc);
+    if D::exchange(segments, &mut keys) {
+        return Ok(keys);
+    }
+    keys_of(alloc, segments)
+}
+
+// Puts keys in the place of segments, all with this datum.
+fn give_keys<C: WindingCount, I: OverlayInt, D: OverlayEdgeData<C>>(
+    segments: &mut Vec<Segment<C, I, D>>,
+    mut keys: Vec<Key<I>>,
+    datum: D,
+) -> Result<(), Fault>
+    ensures same { OnOk result (entries_of I.value segments.new.items ≡ with_counts (of_count C.of) (entries_of I.value keys.items)) }
+    ensures memory { IsOkUnless result Fault.Memory }
+{
+    if D::exchange(segments, &mut keys) {
+        return Ok(());
+    }
+    put_all(segments, &keys, datum)
 }
 
 // Whether the strategy leaves the choice, and there are segments enough.

@@ -9,6 +9,7 @@ use segment_split::count::{
 };
 use segment_split::data::{EdgeDataMerge, EdgeDataSplit, OverlayEdgeData};
 use segment_split::lines::guesses::Guesses;
+use segment_split::segment::Segment;
 use segment_split::solver::{Precision, Solver, Strategy, precisions_are_these, solvers_are_these};
 use std::test::Fail;
 
@@ -186,6 +187,23 @@ fn tells_counts_that_are_sums(rt: HostRuntime) {
     assert!(rt; <ShapeCountBoolean as WindingCount>::sums(count) == count);
     assert!(rt; !<ShapeCountString as WindingCount>::ADDS);
     assert!(rt; <() as OverlayEdgeData<ShapeCountBoolean>>::is_bare());
+}
+
+#[test]
+fn exchanges_lists_of_one_type(rt: HostRuntime) -> Result<(), Fail> {
+    let mut own = segments_from(rt.alloc(), &[((0, 0), (4, 0), 1, 0), ((0, 0), (0, 4), -1, 0)])?;
+    let mut other = segments_from(rt.alloc(), &[((4, 0), (4, 4), 1, 0)])?;
+    assert!(rt; <ShapeCountBoolean as WindingCount>::exchange(&mut own, &mut other));
+    assert_eq!(rt; own.len(), 1);
+    assert_eq!(rt; other.len(), 2);
+    assert!(rt; <() as OverlayEdgeData<ShapeCountBoolean>>::exchange(&mut own, &mut other));
+    assert_eq!(rt; own.len(), 2);
+    assert_eq!(rt; other.len(), 1);
+    let mut strings: Vec<Segment<ShapeCountString, i32, ()>> = Vec::new(rt.alloc());
+    assert!(rt; !<ShapeCountString as WindingCount>::exchange(&mut strings, &mut other));
+    assert_eq!(rt; strings.len(), 0);
+    assert_eq!(rt; other.len(), 1);
+    Ok(())
 }
 
 #[test]
