@@ -1,4 +1,4 @@
-// Relations of two maps and points in contours by GEOS, for tests/measure/locating: reads what the program or `location_bench` reads and
+// Relations of two maps and points in contours by GEOS, for tests/measure/locating: reads what the program or `bench` reads and
 // asks once or not at all. What it answers goes to standard output.
 //
 // usage: relations relate|prepared|located ASK < SCRIPT, ASK being 0 where nothing is to be asked

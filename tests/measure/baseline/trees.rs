@@ -1,4 +1,4 @@
-//! The run of `tree_bench` over std's `BTreeMap` and over an ordinary red-black tree with links by index, each with a
+//! The run of `bench` over std's `BTreeMap` and over an ordinary red-black tree with links by index, each with a
 //! queue that says which key expires next.
 use std::collections::{BTreeMap, VecDeque};
 use std::time::Instant;

@@ -1,5 +1,0 @@
-use Rattle.bench_middle.proofs.sweeping.time_sweep.Given as goal
-
--- The ledger of steps that are thrown away.
-abbrev pub ghosts-sweep : goal.ghosts-sweep
-ghosts-sweep g a = record { name = a.blank.name; parts = a.blank.parts }
