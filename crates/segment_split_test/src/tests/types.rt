@@ -191,7 +191,10 @@ fn tells_counts_that_are_sums(rt: HostRuntime) {
 
 #[test]
 fn exchanges_lists_of_one_type(rt: HostRuntime) -> Result<(), Fail> {
-    let mut own = segments_from(rt.alloc(), &[((0, 0), (4, 0), 1, 0), ((0, 0), (0, 4), -1, 0)])?;
+    let mut own = segments_from(
+        rt.alloc(),
+        &[((0, 0), (4, 0), 1, 0), ((0, 0), (0, 4), -1, 0)],
+    )?;
     let mut other = segments_from(rt.alloc(), &[((4, 0), (4, 4), 1, 0)])?;
     assert!(rt; <ShapeCountBoolean as WindingCount>::exchange(&mut own, &mut other));
     assert_eq!(rt; own.len(), 1);
