@@ -1,9 +1,7 @@
 //! Crosses ten million pairs of segments in all: parted ones, ones that cross properly, and ones on one line. A line for each
 //! kind says how many of them mark, and the nanoseconds that a pair took go to standard error.
 
-ghost use Rattle.std.specs.Prelude.{◌≡◌, ◌≢◌, ◌<◌, pos, negsuc};
-ghost use Rattle.std.specs.declared.cmp.Ordering.TheVariants.{Greater};
-ghost use Rattle.plane_base.specs.Plane.{edge_order};
+ghost use Rattle.std.specs.Prelude.{◌≡◌, ◌<◌, pos, negsuc};
 ghost use Rattle.plane_base.specs.Segments.{IsEdgeWithin};
 ghost use Rattle.plane_base.specs.SegmentViews.{edge_of};
 

@@ -7,7 +7,6 @@ use Rattle.std.proofs.lemmas.List.{map-append, length-map}
 use Rattle.plane_base.specs.Plane.{Point}
 use Rattle.plane_base.specs.Flat.{AreRangesOf, AreLaid}
 use Rattle.plane_base.specs.Views.{point_of, points_of}
-use Rattle.plane_base.specs.declared.point.IntPoint.{IntPoint}
 use Rattle.plane_base.specs.declared.flat.FlatContoursBuffer.{FlatContoursBuffer}
 use Rattle.plane_base.proofs.Facts.Flat.{laid_none, laid_more, laid_tells}
 use Rattle.contour_walk.specs.Walks.{Contour}
@@ -38,7 +37,7 @@ module _ {I : Type 0} (value : I → ℤ) where
   pub lays_nothing : (buffer : FlatContoursBuffer I) → LaysBehind value [] buffer buffer
   lays_nothing buffer = λ before laid. subst (λ cs. IsLaidFlat value cs buffer) (sym (append-nil before)) laid
 
-  pub lays_one : (points : List (IntPoint I)) (old new : FlatContoursBuffer I) → new.points.items ≡ old.points.items ++ points
+  pub lays_one : (points : List Point) (old new : FlatContoursBuffer I) → new.points.items ≡ old.points.items ++ points
       → new.ranges.items ≡ old.ranges.items ++ record { start = length old.points.items; end = length new.points.items } ∷ []
       → LaysBehind value (points_of value points ∷ []) old new
   lays_one points old new all rs = λ before laid.

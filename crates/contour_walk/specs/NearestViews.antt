@@ -1,15 +1,13 @@
 -- What contracts see of a search for the point that is met first.
 use Rattle.std.specs.Prelude.{◌≡◌, ℕ, ℤ, Bool, List, map, Some}
 use Rattle.plane_base.specs.Plane.{Point}
-use Rattle.plane_base.specs.Views.{point_of}
-use Rattle.plane_base.specs.declared.point.IntPoint.{IntPoint}
 use Rattle.contour_walk.specs.Turning.{half_turns, first_by_turn}
 use Rattle.contour_walk.specs.Nearest.{Numbered, nearest}
 use Rattle.contour_walk.specs.WalkViews.{turned_number}
 use Rattle.contour_walk.specs.declared.walk.Nearest.{Nearest}
 
-abbrev pub numbered : {I : Type 0} → (I → ℤ) → IntPoint I → ℕ → Numbered
-numbered value p id = record { point = point_of value p; id = id }
+abbrev pub numbered : {I : Type 0} → (I → ℤ) → Point → ℕ → Numbered
+numbered value p id = record { point = p; id = id }
 
 -- A search round c from a that has seen these points, the last of them first: what it holds of them.
 abbrev pub HasSeen : Bool → Point → Point → List Numbered → Bool → Point → Point → Numbered → Type 0
@@ -22,4 +20,4 @@ HasSeen clockwise c a seen turns center from best =
 abbrev pub IsNearest : {I : Type 0} → (I → ℤ) → Bool → Point → Point → List Numbered → Nearest I → Type 0
 IsNearest value clockwise v from seen n =
     (nearest clockwise v from seen ≡ Some (numbered value n.far n.place))
-    × (turned_number n.turned ≡ half_turns clockwise v from (point_of value n.far))
+    × (turned_number n.turned ≡ half_turns clockwise v from n.far)

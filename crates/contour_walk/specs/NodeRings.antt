@@ -1,7 +1,6 @@
 -- The links round a node in their order, with ways over those that are passed.
 use Rattle.std.specs.Prelude.{◌≡◌, ◌⊎◌, ℕ, ◌+◌, ◌-◌, ◌<◌, ◌≤◌, ◌==◌, ℤ, pos, ◌<ℤ◌, Bool, true, false, cond, List, ◌++◌, map, length, slice_index_or, All, AllPairs, IsPermutation}
 use Rattle.plane_base.specs.Plane.{Point, Edge, turn}
-use Rattle.plane_base.specs.Views.{point_of}
 use Rattle.segment_arrangement.specs.declared.graph.VisitState.{VisitState}
 use Rattle.segment_arrangement.specs.declared.graph.VisitState.TheVariants.{Skipped}
 use Rattle.contour_walk.specs.declared.walk.spoke.Spoke.{Spoke}
@@ -80,7 +79,7 @@ pub record IsRing {I : Type 0} (value : I → ℤ) (edges : List Edge) (states :
   pub older : List VisitState
   pub beside : length older ≡ length edges
   pub since : StayPassed older states
-  pub round : AreRound value edges older (point_of value r.center) r.spokes.items r.starts
+  pub round : AreRound value edges older r.center r.spokes.items r.starts
   pub inside : All (λ s. s.place < length edges) r.spokes.items
   pub ahead : LeadAhead (length r.spokes.items) (IsPassed states r.spokes.items) r.ahead.items
   pub back : LeadBack (length r.spokes.items) (IsPassed states r.spokes.items) r.back.items
@@ -91,5 +90,5 @@ AreRings value edges states rings = All (IsRing value edges states) rings
 -- A walk came to the ring's node from a point by the link at this place, and has passed it.
 pub record IsCameBy {I : Type 0} (value : I → ℤ) (states : List VisitState) (from : Point) (r : Ring I) (place : ℕ) : Type 0 where
   pub inside : place < length r.spokes.items
-  pub far : (d : Spoke I) → point_of value (slice_index_or r.spokes.items place d).far ≡ from
+  pub far : (d : Spoke I) → (slice_index_or r.spokes.items place d).far ≡ from
   pub passed : IsPassed states r.spokes.items place

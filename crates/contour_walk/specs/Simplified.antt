@@ -3,7 +3,6 @@ use Rattle.std.specs.Prelude.{◌⊎◌, ◌≡◌, ◌↔◌, ◌≢◌, ◌<�
 use Rattle.std.specs.Prelude.{List, [], ◌∷◌, ◌++◌, map, filter, length}
 use Rattle.std.specs.Ordering.{int_eq}
 use Rattle.plane_base.specs.Plane.{IsWithin}
-use Rattle.plane_base.specs.Views.{point_of}
 use Rattle.contour_walk.specs.declared.vector.edge.DataVectorEdge.{DataVectorEdge}
 use Rattle.contour_walk.specs.declared.vector.edge.DataVectorPath.{DataVectorPath}
 
@@ -12,7 +11,7 @@ use Rattle.contour_walk.specs.declared.vector.edge.DataVectorPath.{DataVectorPat
 -- The cross product of the ways of two edges: 0 where both run on parallel lines, forth or back, and where one has no length.
 abbrev pub ways_cross : {I D : Type 0} → (I → ℤ) → DataVectorEdge I D → DataVectorEdge I D → ℤ
 ways_cross value e f =
-    ((value e.b.x -ℤ value e.a.x) *ℤ (value f.b.y -ℤ value f.a.y)) -ℤ ((value e.b.y -ℤ value e.a.y) *ℤ (value f.b.x -ℤ value f.a.x))
+    ((e.b.x -ℤ e.a.x) *ℤ (f.b.y -ℤ f.a.y)) -ℤ ((e.b.y -ℤ e.a.y) *ℤ (f.b.x -ℤ f.a.x))
 
 -- Two edges, the second where the first ends, can be joined: both run on one line, the same is filled beside them, and their data are equal.
 abbrev pub can_join : {I D : Type 0} → (I → ℤ) → (D → D → Bool) → DataVectorEdge I D → DataVectorEdge I D → Bool
@@ -114,4 +113,4 @@ edges_of_paths paths = map (λ p. p.edges.items) paths
 
 -- both ends lie in the range
 abbrev pub IsVectorWithin : {I D : Type 0} → (I → ℤ) → ℤ → ℤ → DataVectorEdge I D → Type 0
-IsVectorWithin value least greatest e = IsWithin least greatest (point_of value e.a) × IsWithin least greatest (point_of value e.b)
+IsVectorWithin value least greatest e = IsWithin least greatest e.a × IsWithin least greatest e.b

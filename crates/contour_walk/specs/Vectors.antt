@@ -3,7 +3,6 @@ use Rattle.std.specs.Prelude.{◌≡◌, ℕ, ◌+◌, ℤ, Bool, true, false, c
 use Rattle.plane_base.specs.Plane.{Point, Edge, is_before}
 use Rattle.plane_base.specs.Counts.{Count, Entry}
 use Rattle.plane_base.specs.Regions.{FillRule, OverlayRule}
-use Rattle.plane_base.specs.Views.{point_of}
 use Rattle.segment_split.specs.Data.{HasDatum}
 use Rattle.segment_arrangement.specs.EdgeSides.{bit}
 use Rattle.segment_arrangement.specs.Fills.{has}
@@ -60,7 +59,7 @@ vector_answer o fill rule es = map (map (vector_contour (boundary_links fill rul
 
 -- an edge without its datum
 abbrev pub vector_of : {I D : Type 0} → (I → ℤ) → DataVectorEdge I D → VectorEdge
-vector_of value e = record { way = record { a = point_of value e.a; b = point_of value e.b }; fill = e.fill }
+vector_of value e = record { way = record { a = e.a; b = e.b }; fill = e.fill }
 
 abbrev pub vectors_of : {I D : Type 0} → (I → ℤ) → List (List (List (DataVectorEdge I D))) → List (List (List VectorEdge))
 vectors_of value shapes = map (map (map (vector_of value))) shapes
@@ -71,8 +70,8 @@ edges_of_shapes shapes = map (λ s. edges_of_paths s.paths.items) shapes
 -- there is a link along the edge, whose datum it has
 abbrev pub HasItsDatum : {I D : Type 0} → (I → ℤ) → (D → D → Type 0) → List (OverlayLink I D) → DataVectorEdge I D → Type 0
 HasItsDatum value turns links e =
-    (l : OverlayLink _ _) × Contains links l × (link_edge_of value l ≡ between (point_of value e.a) (point_of value e.b))
-    × HasDatum turns (point_of value e.a) (point_of value e.b) l.datum e.datum
+    (l : OverlayLink _ _) × Contains links l × (link_edge_of value l ≡ between e.a e.b)
+    × HasDatum turns e.a e.b l.datum e.datum
 
 -- all of the shapes, or what simplification leaves of them: a shape that goes is left out
 abbrev pub AreLeft : {I D : Type 0} → (I → ℤ) → (D → D → Bool) → Bool → List (List (List (DataVectorEdge I D)))

@@ -2,9 +2,6 @@
 use Rattle.std.specs.Prelude.{ℕ, ℤ, Bool, cond, List, map, Option, Some, None, All}
 use Rattle.plane_base.specs.Plane.{Point}
 use Rattle.plane_base.specs.Segments.{IsEdgeWithin}
-use Rattle.plane_base.specs.Views.{point_of}
-use Rattle.plane_base.specs.SegmentViews.{edge_of}
-use Rattle.plane_base.specs.declared.point.IntPoint.{IntPoint}
 use Rattle.contour_walk.specs.Turning.{met_first}
 use Rattle.contour_walk.specs.Walks.{Border, same_point, touches, far_end, upper}
 use Rattle.contour_walk.specs.declared.turning.Turned.{Turned}
@@ -17,14 +14,14 @@ turned_number Half = 2
 turned_number MoreThanHalf = 3
 turned_number Whole = 4
 
-abbrev pub point_if_any : {I : Type 0} → (I → ℤ) → Option (IntPoint I) → Option Point
+abbrev pub point_if_any : {I : Type 0} → (I → ℤ) → Option Point → Option Point
 point_if_any value None = None
-point_if_any value (Some p) = Some (point_of value p)
+point_if_any value (Some p) = Some p
 
 -- ---- links
 
 abbrev pub border_of : {I : Type 0} → (I → ℤ) → HeldBorder I → Border
-border_of value l = record { edge = edge_of value l.edge; above = l.above }
+border_of value l = record { edge = l.edge; above = l.above }
 
 abbrev pub borders_of : {I : Type 0} → (I → ℤ) → List (HeldBorder I) → List Border
 borders_of value ls = map (border_of value) ls

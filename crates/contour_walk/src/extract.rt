@@ -40,7 +40,7 @@ use crate::walk::course::Course;
 use crate::walk::walk_boundary;
 use plane_base::fault::Fault;
 use plane_base::flat::FlatContoursBuffer;
-use plane_base::int::OverlayInt;
+use plane_base::int::{IntNumber, OverlayInt};
 use plane_base::path::IntShapes;
 use plane_base::point::IntPoint;
 use segment_arrangement::graph::{OverlayGraph, VisitState};
@@ -50,12 +50,12 @@ use std::alloc::Global;
 
 /// Storage of extractions, kept from one to the next. No answer depends on it.
 #[derive(Debug, Drop)]
-pub struct BooleanExtractionBuffer<I> {
+pub struct BooleanExtractionBuffer<I: IntNumber> {
     points: Vec<IntPoint<I>>,
     states: Vec<VisitState>,
 }
 
-impl<I> BooleanExtractionBuffer<I> {
+impl<I: IntNumber> BooleanExtractionBuffer<I> {
     /// A buffer with no storage yet.
     pub fn new(alloc: Global) -> BooleanExtractionBuffer<I>
         ensures { result.points.items ≡ [] }

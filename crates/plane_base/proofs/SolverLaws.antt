@@ -7,7 +7,6 @@ use Rattle.std.specs.Ordering.{is_gt}
 use Rattle.plane_base.specs.Plane.{Edge, edge_order}
 use Rattle.plane_base.specs.Segments.{parted}
 use Rattle.plane_base.specs.Crossing.{Meeting, apart, pure, target_end, other_end, overlay, cross_meeting, late_meeting, meeting_by, exchanged, laid_by, marks_by}
-use Rattle.plane_base.specs.Views.{point_of}
 use Rattle.plane_base.specs.declared.rounding.Rounding.{Rounding}
 use Rattle.plane_base.specs.declared.rounding.Rounding.TheVariants.{Near, Nearest}
 use Rattle.plane_base.specs.SegmentViews.{found_of, meeting_of}
@@ -34,7 +33,7 @@ module _ {I : Type 0} (value : I → ℤ) where
   found_some : (r : CrossResult I) → found_of value r ≢ apart
   found_some r = by r.kind
     where
-      by : (k : CrossKind) → elim k [ Pure ↦ pure (point_of value r.point) | TargetEnd ↦ target_end (point_of value r.point) | OtherEnd ↦ other_end (point_of value r.point) | Overlay ↦ overlay (point_of value r.point) ] ≢ apart
+      by : (k : CrossKind) → elim k [ Pure ↦ pure r.point | TargetEnd ↦ target_end r.point | OtherEnd ↦ other_end r.point | Overlay ↦ overlay r.point ] ≢ apart
       by Pure e = absurd (cc)
       by TargetEnd e = absurd (cc)
       by OtherEnd e = absurd (cc)
@@ -54,5 +53,5 @@ module _ {I : Type 0} (value : I → ℤ) where
   none_of Nearest s t r e =
       ((λ h. late_parted_of_apart s t (sym e ∙ none_tells r h)), (λ h. apart_tells r (e ∙ late_apart_of_parted s t h)))
 
-  pub overlay_of : (r : Option (CrossResult I)) (q : CrossResult I) → r ≡ Some q → q.kind ≡ Overlay → meeting_of value r ≡ overlay (point_of value q.point)
+  pub overlay_of : (r : Option (CrossResult I)) (q : CrossResult I) → r ≡ Some q → q.kind ≡ Overlay → meeting_of value r ≡ overlay q.point
   overlay_of r q e k = ap (meeting_of value) e ∙ ap (λ kind. found_of value (record { kind = kind; point = q.point })) k

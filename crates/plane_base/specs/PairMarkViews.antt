@@ -1,7 +1,6 @@
 -- What contracts see of the marks of a pair.
 use Rattle.std.specs.Prelude.{ℤ, List, [], ◌∷◌, All}
 use Rattle.plane_base.specs.Plane.{Point, IsWithin}
-use Rattle.plane_base.specs.Views.{point_of}
 use Rattle.plane_base.specs.Crossing.{Marks}
 use Rattle.plane_base.specs.declared.meet.marks.EndMarks.{EndMarks}
 use Rattle.plane_base.specs.declared.meet.marks.EndMarks.TheVariants.{None, One, Two}
@@ -9,8 +8,8 @@ use Rattle.plane_base.specs.declared.meet.marks.PairMarks.{PairMarks}
 
 abbrev pub mark_list : {I : Type 0} → (I → ℤ) → EndMarks I → List Point
 mark_list value None = []
-mark_list value (One p) = point_of value p ∷ []
-mark_list value (Two p q) = point_of value p ∷ point_of value q ∷ []
+mark_list value (One p) = p ∷ []
+mark_list value (Two p q) = p ∷ q ∷ []
 
 abbrev pub pair_marks_of : {I : Type 0} → (I → ℤ) → PairMarks I → Marks
 pair_marks_of value m = record { first = mark_list value m.target; second = mark_list value m.other }

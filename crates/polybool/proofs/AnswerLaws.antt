@@ -42,7 +42,7 @@ use Rattle.polybool.specs.declared.words.Keep.{Keep}
 
 -- the contours of a list, as a builder sees them
 abbrev pub paths_in : {I : Type 0} → (I → ℤ) → List (IntPath I) → List (List Point)
-paths_in value cs = map (points_of value) (map (λ c. c.points.items) cs)
+paths_in value cs = (map (λ c. c.points.items) cs)
 
 pub paths_are : {I : Type 0} (value : I → ℤ) (cs : List (IntPath I)) → paths_in value cs ≡ contours_of value cs
 paths_are value cs = map-map (points_of value) (λ c. c.points.items) cs

@@ -7,7 +7,6 @@ use Rattle.std.specs.Borrow.{Bor}
 use Rattle.std.proofs.lemmas.List.Elements.{All-append}
 use Rattle.plane_base.specs.Plane.{Point, IsWithin}
 use Rattle.plane_base.specs.Views.{point_of, points_of}
-use Rattle.plane_base.specs.declared.point.IntPoint.{IntPoint}
 use Rattle.std.specs.Option.{option_copied}
 use Rattle.polybool.specs.Fronts.{BeginsWith}
 use Rattle.polybool.specs.Numerals.{numeral, points_spelled, with_point}
@@ -36,7 +35,7 @@ full_more : (room : ℕ) (ps : List Point) (p : Point) → room < length ps → 
 full_more room ps p h = omega (arith, h, length-append ps (p ∷ []))
 
 -- A point that is out of range, or finds no room, is not held.
-pub Gathers-beyond : {I : Type 0} (value : I → ℤ) (least greatest : ℤ) (g h : Gathered) (points : List (IntPoint I)) (room : ℕ) (ps : List Point) (p : Point)
+pub Gathers-beyond : {I : Type 0} (value : I → ℤ) (least greatest : ℤ) (g h : Gathered) (points : List Point) (room : ℕ) (ps : List Point) (p : Point)
     → Gathers value least greatest g points room ps → (IsWithin least greatest p → ⊥)
     → h.is_within ≡ false → h.has_room ≡ g.has_room → Gathers value least greatest h points room (ps ++ p ∷ [])
 Gathers-beyond value least greatest g h points room ps p holds out beyond same = record {
@@ -47,7 +46,7 @@ Gathers-beyond value least greatest g h points room ps p holds out beyond same =
 }
 
 -- A point that finds room is held. Where it finds none, there was room for as many points as are held.
-pub Gathers-held : {I : Type 0} (value : I → ℤ) (least greatest : ℤ) (g : Gathered) (points points' : List (IntPoint I)) (room : ℕ) (ps : List Point) (x : IntPoint I) (is_held : Bool)
+pub Gathers-held : {I : Type 0} (value : I → ℤ) (least greatest : ℤ) (g : Gathered) (points points' : List Point) (room : ℕ) (ps : List Point) (x : Point) (is_held : Bool)
     → Gathers value least greatest g points room ps → IsWithin least greatest (point_of value x) → g.is_within ≡ true → g.has_room ≡ true
     → points' ≡ (if is_held then points ++ x ∷ [] else points) → (is_held ≡ false → room ≤ length points)
     → Gathers value least greatest (record { is_within = g.is_within; has_room = is_held }) points' room (ps ++ point_of value x ∷ [])
@@ -61,7 +60,7 @@ Gathers-held value least greatest g points points' room ps x is_held holds in_ra
       full = λ e. omega (arith, full e, ap length same, length-map points (point_of value), length-append ps (point_of value x ∷ []));
     }
 
-pub Gathers-unheld : {I : Type 0} (value : I → ℤ) (least greatest : ℤ) (g : Gathered) (points : List (IntPoint I)) (room : ℕ) (ps : List Point) (p : Point)
+pub Gathers-unheld : {I : Type 0} (value : I → ℤ) (least greatest : ℤ) (g : Gathered) (points : List Point) (room : ℕ) (ps : List Point) (p : Point)
     → Gathers value least greatest g points room ps → IsWithin least greatest p
     → (g.is_within ≡ true → g.has_room ≡ true → ⊥) → Gathers value least greatest g points room (ps ++ p ∷ [])
 Gathers-unheld value least greatest g points room ps p holds in_range full = record {

@@ -2,15 +2,13 @@
 use Rattle.std.specs.Prelude.{◌≡◌, ℕ, ℤ, List, ◌∷◌, Option, Some, None}
 use Rattle.std.specs.Option.{option_copied}
 use Rattle.plane_base.specs.Plane.{Point, IsWithin}
-use Rattle.plane_base.specs.Views.{point_of}
 use Rattle.polybool.specs.Words.{words_after}
 use Rattle.polybool.specs.Numerals.{numeral}
-use Rattle.plane_base.specs.declared.point.IntPoint.{IntPoint}
 use Rattle.polybool.specs.declared.points.Front.{Front}
 
 -- the point, where it is in range, and nothing else where it isn't
-abbrev pub IsPointInRange : {I : Type 0} → (I → ℤ) → ℤ → ℤ → Point → Option (IntPoint I) → Type 0
-IsPointInRange value least greatest p (Some found) = (p ≡ point_of value found) × IsWithin least greatest p
+abbrev pub IsPointInRange : {I : Type 0} → (I → ℤ) → ℤ → ℤ → Point → Option Point → Type 0
+IsPointInRange value least greatest p (Some found) = (p ≡ found) × IsWithin least greatest p
 IsPointInRange value least greatest p None = IsWithin least greatest p → ⊥
 
 -- two numerals, the words after them, and the point that the two spell

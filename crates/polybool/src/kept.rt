@@ -6,7 +6,6 @@
 
 ghost use Rattle.std.specs.Prelude.{◌≡◌, ◌≤◌, [], vec_len, vec_capacity, OnOk, OnErr, IsOkUnless, All, flat_map};
 ghost use Rattle.std.specs.Option.{option_map};
-ghost use Rattle.plane_base.specs.Views.{points_of};
 ghost use Rattle.contour_walk.specs.ShapeViews.{shapes_of};
 ghost use Rattle.plane_base.specs.Plane.{IsWithin};
 ghost use Rattle.polybool.specs.Coordinates.{AreInRange};
@@ -59,8 +58,8 @@ impl<I: OverlayInt> Kept<I> {
 
     /// Keeps a contour as a subject, behind the others. It is refused only where the list has no room and cannot grow.
     pub fn keep_subject(&mut self, contour: IntContour<I>) -> Result<(), Refusal>
-        requires { All (IsWithin I.least I.greatest) (points_of I.value contour.points.items) }
-        ensures kept { OnOk result (store_of I.value self.new ≡ with_subject (store_of I.value self.old) (points_of I.value contour.points.items)) }
+        requires { All (IsWithin I.least I.greatest) contour.points.items }
+        ensures kept { OnOk result (store_of I.value self.new ≡ with_subject (store_of I.value self.old) contour.points.items) }
         ensures unchanged { OnErr result (store_of I.value self.new ≡ store_of I.value self.old) }
         ensures only { IsOkUnless result Refusal.Memory }
         ensures full { OnErr result (vec_capacity self.old.subjects.contours ≤ vec_len self.old.subjects.contours) }
@@ -71,8 +70,8 @@ impl<I: OverlayInt> Kept<I> {
 
     /// Keeps a contour as a clip, behind the others. It is refused only where the list has no room and cannot grow.
     pub fn keep_clip(&mut self, contour: IntContour<I>) -> Result<(), Refusal>
-        requires { All (IsWithin I.least I.greatest) (points_of I.value contour.points.items) }
-        ensures kept { OnOk result (store_of I.value self.new ≡ with_clip (store_of I.value self.old) (points_of I.value contour.points.items)) }
+        requires { All (IsWithin I.least I.greatest) contour.points.items }
+        ensures kept { OnOk result (store_of I.value self.new ≡ with_clip (store_of I.value self.old) contour.points.items) }
         ensures unchanged { OnErr result (store_of I.value self.new ≡ store_of I.value self.old) }
         ensures only { IsOkUnless result Refusal.Memory }
         ensures full { OnErr result (vec_capacity self.old.clips.contours ≤ vec_len self.old.clips.contours) }

@@ -1,14 +1,13 @@
 //! The points that words spell, two numerals each. Degenerate cases: a number out of range is told only where all
 //! words are numerals, and memory only where all numbers are in range. It takes one pass over the text.
 
-ghost use Rattle.std.specs.Prelude.{◌≡◌, ◌<◌, ◌≤◌, ℕ, ℤ, ◌++◌, ◌∷◌, [], Some, None, List, length, vec_capacity, MatchResult};
+ghost use Rattle.std.specs.Prelude.{◌≡◌, ◌<◌, ◌≤◌, ℕ, ◌++◌, ◌∷◌, [], Some, None, List, length, vec_capacity, MatchResult};
 ghost use Rattle.std.specs.Prelude.{IfSome, IfNone};
 ghost use Rattle.std.specs.Option.{option_copied};
 ghost use Rattle.plane_base.specs.Plane.{Point};
 ghost use Rattle.polybool.specs.Words.{words_of, words_after};
 ghost use Rattle.polybool.specs.Numerals.{points_spelled};
 ghost use Rattle.polybool.specs.Coordinates.{IsFound};
-ghost use Rattle.plane_base.specs.Views.{point_of, points_of};
 ghost use Rattle.polybool.specs.Refusals.{IsOneOf};
 ghost use Rattle.polybool.specs.Requests.{SpellPoints, SpellPoint, IsNoPoint, point_refusals};
 ghost use Rattle.polybool.specs.Fronts.{IsPointInRange, BeginsWith};
@@ -18,7 +17,7 @@ use crate::numeral;
 use crate::numeral::Numeral;
 use crate::refusal::Refusal;
 use crate::text::first_word;
-use plane_base::int::OverlayInt;
+use plane_base::int::{IntNumber, OverlayInt};
 use plane_base::point::IntPoint;
 
 /// Adds the points that the words after the first spell, two numerals each, to a list with none, or tells why they are
@@ -29,7 +28,7 @@ pub fn parse<I: OverlayInt>(
 ) -> Result<(), Refusal>
     requires { points.old.items ≡ [] }
     ensures { MatchResult result
-        (λ _. SpellPoints I.least I.greatest (words_after (option_copied rest.entry)) (points_of I.value points.new.items))
+        (λ _. SpellPoints I.least I.greatest (words_after (option_copied rest.entry)) points.new.items)
         (IsOneOf (point_refusals I.least I.greatest (vec_capacity points.old) (words_after (option_copied rest.entry)))) }
 {
     let mut gathered = Gathered::new::<I>();
@@ -46,7 +45,7 @@ pub fn parse<I: OverlayInt>(
 
 /// The one point that the words after the first spell, two numerals, or why they are refused.
 pub fn parse_one<I: OverlayInt>(rest: Option<&[u8]>) -> Result<IntPoint<I>, Refusal>
-    ensures { MatchResult result (λ point. SpellPoint I.least I.greatest (words_after (option_copied rest.entry)) (point_of I.value point))
+    ensures { MatchResult result (λ point. SpellPoint I.least I.greatest (words_after (option_copied rest.entry)) point)
         (IsNoPoint I.least I.greatest (words_after (option_copied rest.entry))) }
 {
     let Some(text) = rest else {
@@ -67,7 +66,7 @@ pub fn parse_one<I: OverlayInt>(rest: Option<&[u8]>) -> Result<IntPoint<I>, Refu
 // The point that the two numerals at the front of a text spell, and what comes after the space
 // behind them.
 #[derive(Clone, Copy)]
-struct Front<'a, I> {
+struct Front<'a, I: IntNumber> {
     // Missing where a number is out of range.
     point: Option<IntPoint<I>>,
     rest: Option<&'a [u8]>,
@@ -135,7 +134,7 @@ impl Gathered {
     // Whether the list has the points, or why they are refused.
     fn finish<I: OverlayInt>(self, points: &Vec<IntPoint<I>>) -> Result<(), Refusal>
         ensures { (room : ℕ) (ps : List Point) → Gathers I.value I.least I.greatest self points.now.items room ps → MatchResult result
-            (λ _. IsGathered I.least I.greatest ps (points_of I.value points.now.items)) (IsOneOf (gathered_refusals I.least I.greatest self room ps)) }
+            (λ _. IsGathered I.least I.greatest ps points.now.items) (IsOneOf (gathered_refusals I.least I.greatest self room ps)) }
     {
         if !self.is_within {
             return Err(Refusal::Range);

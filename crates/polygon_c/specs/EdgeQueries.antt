@@ -5,7 +5,6 @@ use Rattle.std.specs.declared.result.Result.{Result}
 use Rattle.plane_base.specs.Plane.{Point}
 use Rattle.plane_base.specs.Counts.{Count, Counting, Entry, boolean, one_subject, one_clip, lay}
 use Rattle.plane_base.specs.Given.{laid}
-use Rattle.plane_base.specs.Views.{point_of}
 use Rattle.plane_base.specs.declared.fault.Fault.{Fault}
 use Rattle.plane_base.specs.declared.fault.Fault.TheVariants as fault
 use Rattle.segment_split.specs.Data.{carried, normal_with_data, redrawn_with_data}
@@ -128,7 +127,7 @@ IsNotCarried r subjects clips fault =
 
 -- where the edges of contours begin, and what they tell
 abbrev pub starts_in : {I D : Type 0} → (I → ℤ) → List (List (DataVectorEdge I D)) → List (List Point)
-starts_in value contours = map (map (λ e. point_of value e.a)) contours
+starts_in value contours = map (map (λ e. e.a)) contours
 
 abbrev pub told_by : {I D : Type 0} → (D → Option ℕ) → List (List (DataVectorEdge I D)) → List (Option ℕ)
 told_by number contours = flat_map (map (λ e. number e.datum)) contours

@@ -42,7 +42,7 @@ cut_contours plane points lengths = cut lengths (plane_points plane points)
 
 -- the contours that lie flat as the engine has them
 abbrev pub flat_contours : {I : Type 0} → (I → ℤ) → FlatContoursBuffer I → List (List Point)
-flat_contours value buffer = map (points_of value) (parts buffer.points.items buffer.ranges.items)
+flat_contours value buffer = (parts buffer.points.items buffer.ranges.items)
 
 abbrev pub AreFlatInRange : {I : Type 0} → (I → ℤ) → ℤ → ℤ → FlatContoursBuffer I → Type 0
 AreFlatInRange value least greatest buffer = All (All (IsWithin least greatest)) (flat_contours value buffer)

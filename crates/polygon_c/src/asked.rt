@@ -9,12 +9,12 @@ use crate::given::{CPointOf, contours, test};
 use crate::query::{Request, read};
 use crate::refusal::Refusal;
 use polygon_overlay::plane::flat::FlatContoursBuffer;
-use polygon_overlay::plane::int::OverlayInt;
+use polygon_overlay::plane::int::{IntNumber, OverlayInt};
 use std::alloc::Global;
 
 // A request, and the contours of a subject and of a clip as the engine has them.
 #[derive(Drop)]
-pub(crate) struct Asked<I> {
+pub(crate) struct Asked<I: IntNumber> {
     pub(crate) request: Request,
     pub(crate) subjects: FlatContoursBuffer<I>,
     pub(crate) clips: FlatContoursBuffer<I>,

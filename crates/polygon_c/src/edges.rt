@@ -1,6 +1,6 @@
 //! Overlays of contours whose edges have numbers: the tests, and then an overlay of edges with data, whose type the join tells.
 
-ghost use Rattle.std.specs.Prelude.{◌≡◌, ◌≢◌, ◌⊎◌, ◌++◌, ◌∷◌, [], Some, None, OnOk, IfOk, IfErr, MatchOption, Contains, false, map, length, sum};
+ghost use Rattle.std.specs.Prelude.{◌≡◌, ◌≢◌, ◌++◌, ◌∷◌, [], Some, None, OnOk, IfOk, IfErr, MatchOption, Contains, false, map, length, sum};
 ghost use Rattle.plane_base.specs.Counts.{boolean, lay};
 ghost use Rattle.plane_base.specs.Given.{laid};
 ghost use Rattle.plane_base.specs.Plane.{IsWithin};

@@ -2,7 +2,6 @@
 
 ghost use Rattle.std.specs.Prelude.{◌≡◌, All, IfOk, IfErr, IsOkUnless};
 ghost use Rattle.plane_base.specs.GivenViews.{contours_of};
-ghost use Rattle.plane_base.specs.Views.{points_of};
 ghost use Rattle.segment_arrangement.specs.RuleViews.{fill_rule_of};
 ghost use Rattle.contour_walk.specs.BindingLaws.{all_contours};
 ghost use Rattle.contour_walk.specs.ShapeViews.{shapes_of, IsFlat};
@@ -26,7 +25,7 @@ use polygon_overlay::checks::{space_errors, width_errors};
 use polygon_overlay::overlay::Overlay;
 use polygon_overlay::plane::fault::Fault;
 use polygon_overlay::plane::flat::FlatContoursBuffer;
-use polygon_overlay::plane::int::OverlayInt;
+use polygon_overlay::plane::int::{IntNumber, OverlayInt};
 use polygon_overlay::plane::path::{IntPath, IntShape, IntShapes};
 use polygon_overlay::plane::point::IntPoint;
 use polygon_overlay::point_location::IntPointContainment;
@@ -100,7 +99,7 @@ pub(crate) fn overlay_again<I: OverlayInt>(
 
 // Shapes, and which of them lie in holes of others.
 #[derive(Drop)]
-pub(crate) struct Nested<I> {
+pub(crate) struct Nested<I: IntNumber> {
     pub(crate) shapes: IntShapes<I>,
     pub(crate) links: Vec<ChildLink>,
 }
@@ -320,9 +319,9 @@ pub(crate) fn contain<I: OverlayInt>(
     places: &[IntPoint<I>],
 ) -> Result<Vec<bool>, Fault>
     requires shapes_in_range { All (All (IsWithin I.least I.greatest)) (all_contours (shapes_of I.value shapes.now.shapes.items)) }
-    requires places_in_range { All (IsWithin I.least I.greatest) (points_of I.value places.now) }
+    requires places_in_range { All (IsWithin I.least I.greatest) places.now }
     ensures located { IfOk result (λ inside. AreLocated (all_contours (shapes_of I.value shapes.now.shapes.items))
-        (in_shapes (shapes_of I.value shapes.now.shapes.items)) (points_of I.value places.now) inside.items) }
+        (in_shapes (shapes_of I.value shapes.now.shapes.items)) places.now inside.items) }
     ensures memory { IsOkUnless result Fault.Memory }
 {
     shapes.contains_points(alloc, places)

@@ -3,7 +3,6 @@
 
 ghost use Rattle.std.specs.Prelude.{◌≡◌, ◌++◌, ◌∷◌, [], OnOk, IfOk, map, length};
 ghost use Rattle.plane_base.specs.GivenViews.{contours_of};
-ghost use Rattle.plane_base.specs.Views.{points_of};
 ghost use Rattle.contour_walk.specs.ShapeViews.{shapes_of};
 ghost use Rattle.polygon_c.specs.Flat.{flat_points, flat, flat_paths, lists_of};
 
@@ -81,9 +80,9 @@ fn add_contour<I: OverlayInt, P: CPointOf<I>>(
     laid: &mut Laid<P>,
     contour: &IntPath<I>,
 ) -> Result<(), AllocError>
-    ensures points { OnOk result (laid.new.points.items ≡ laid.old.points.items ++ flat_points P.at (points_of I.value contour.now.points.items ∷ [])) }
+    ensures points { OnOk result (laid.new.points.items ≡ laid.old.points.items ++ flat_points P.at (contour.now.points.items ∷ [])) }
     ensures contours { OnOk result (laid.new.contours.items
-        ≡ laid.old.contours.items ++ length (points_of I.value contour.now.points.items) ∷ []) }
+        ≡ laid.old.contours.items ++ length contour.now.points.items ∷ []) }
     ensures shapes { laid.new.shapes.items ≡ laid.old.shapes.items }
 {
     for point in &contour.points {

@@ -20,7 +20,7 @@ use crate::query::{Request, read};
 use crate::refusal::Refusal;
 use polygon_overlay::plane::fault::Fault;
 use polygon_overlay::plane::flat::FlatContoursBuffer;
-use polygon_overlay::plane::int::OverlayInt;
+use polygon_overlay::plane::int::{IntNumber, OverlayInt};
 use polygon_overlay::plane::path::{IntShape, IntShapes};
 use std::alloc::Global;
 
@@ -36,7 +36,7 @@ pub struct ManySizes {
 
 // A request, and the contours of a subject and groups of clips as the engine has them.
 #[derive(Drop)]
-struct AskedMany<I> {
+struct AskedMany<I: IntNumber> {
     request: Request,
     subjects: FlatContoursBuffer<I>,
     groups: IntShapes<I>,
@@ -44,7 +44,7 @@ struct AskedMany<I> {
 
 // Shapes of overlays, one overlay after another, and how many each has.
 #[derive(Drop)]
-struct Many<I> {
+struct Many<I: IntNumber> {
     shapes: IntShapes<I>,
     overlays: Vec<usize>,
 }

@@ -6,7 +6,6 @@ use Rattle.plane_base.specs.Counts.{Count, Entry, boolean, one_subject}
 use Rattle.plane_base.specs.Views.{points_of}
 use Rattle.plane_base.specs.declared.fault.Fault.{Fault}
 use Rattle.plane_base.specs.declared.fault.Fault.TheVariants.{Memory}
-use Rattle.plane_base.specs.declared.point.IntPoint.{IntPoint}
 use Rattle.segment_split.specs.declared.count.ShapeType.{ShapeType}
 use Rattle.segment_split.specs.declared.solver.Solver.{Solver}
 use Rattle.contour_walk.specs.declared.options.IntOverlayOptions.{IntOverlayOptions}
@@ -48,8 +47,8 @@ pub record Stays {I W : Type 0} {int order equality part wide wide_order wide_eq
 -- ---- contours of a source
 
 -- the contours of lists of points
-abbrev pub contours_of : {I : Type 0} → (I → ℤ) → List (List (IntPoint I)) → List (List Point)
-contours_of value paths = map (points_of value) paths
+abbrev pub contours_of : {I : Type 0} → (I → ℤ) → List (List Point) → List (List Point)
+contours_of value paths = paths
 
 -- All their points are in range.
 abbrev pub AreInRange : ℤ → ℤ → List (List Point) → Type 0

@@ -5,7 +5,6 @@ use Rattle.std.specs.declared.option.Option.{Option}
 use Rattle.std.specs.declared.result.Result.{Result}
 use Rattle.plane_base.specs.Plane.{IsWithin}
 use Rattle.plane_base.specs.Counts.{Count, Entry, boolean, lay}
-use Rattle.plane_base.specs.Views.{point_of}
 use Rattle.plane_base.specs.declared.fault.Fault.{Fault}
 use Rattle.plane_base.specs.declared.fault.Fault.TheVariants.{Memory}
 use Rattle.segment_split.specs.Adding.{LacksRoom}
@@ -87,11 +86,11 @@ pub record MakesEmpty {I D W S : Type 0} {int order equality part wide wide_orde
 
 -- both ends of the edge lie in the range
 abbrev pub IsInputWithin : {I D : Type 0} → (I → ℤ) → ℤ → ℤ → InputEdge I D → Type 0
-IsInputWithin value least greatest edge = IsWithin least greatest (point_of value edge.a) × IsWithin least greatest (point_of value edge.b)
+IsInputWithin value least greatest edge = IsWithin least greatest edge.a × IsWithin least greatest edge.b
 
 -- the entry of an edge of the subject or of the clip; none, where its ends are equal
 abbrev pub laid_edge : {I D : Type 0} → (I → ℤ) → ShapeType → InputEdge I D → List (Entry Count)
-laid_edge value t edge = lay boolean (point_of value edge.a) (point_of value edge.b) (count_of_type t)
+laid_edge value t edge = lay boolean edge.a edge.b (count_of_type t)
 
 -- So many edges more are refused by `Memory` only where one of its two lists lacks the room, by `Edges` only where 2^31 would be held.
 abbrev pub LacksARoom : {I D W S : Type 0} {int order equality part wide wide_order wide_equality wide_part joining same : _} → EdgeOverlay I D W S int order equality part wide wide_order wide_equality wide_part joining same → ℕ → ℕ → Fault → Type 0
@@ -116,12 +115,12 @@ laid_edges value t edges = flat_map (laid_edge value t) edges
 
 -- the same of an edge with its datum
 abbrev pub laid_with_datum : {I D : Type 0} → (I → ℤ) → (D → D → D) → ShapeType → InputEdge I D → List (Entry (Count × D))
-laid_with_datum value join t edge = lay (carried boolean join) (point_of value edge.a) (point_of value edge.b) (count_of_type t, edge.datum)
+laid_with_datum value join t edge = lay (carried boolean join) edge.a edge.b (count_of_type t, edge.datum)
 
 -- an edge of the subject or of the clip is laid with its datum, turned or not
 abbrev pub LaysEdge : {I D : Type 0} → (I → ℤ) → (D → D → D) → (D → D → Type 0) → ShapeType → InputEdge I D → List (Entry (Count × D)) → List (Entry (Count × D)) → Type 0
 LaysEdge value join turns t edge old new =
-    LaysWith (carried boolean join) turns (point_of value edge.a) (point_of value edge.b) (count_of_type t) edge.datum old new
+    LaysWith (carried boolean join) turns edge.a edge.b (count_of_type t) edge.datum old new
 
 -- so are edges in order
 abbrev pub LaysEdges : {I D : Type 0} → (I → ℤ) → (D → D → D) → (D → D → Type 0) → ShapeType → List (InputEdge I D) → List (Entry (Count × D)) → List (Entry (Count × D)) → Type 0

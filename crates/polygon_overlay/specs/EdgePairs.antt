@@ -10,5 +10,5 @@ abbrev pub pair_of : {C : Type 0} → Entry C → List Point
 pair_of e = e.edge.a ∷ e.edge.b ∷ []
 
 -- those of the edges that are left
-abbrev pub pairs_left : {I D W : Type 0} {order equality part : _} → (I → ℤ) → EdgePairs I D W order equality part → List (List Point)
+abbrev pub pairs_left : {I D W : Type 0} → (I → ℤ) → EdgePairs I D W → List (List Point)
 pairs_left value pairs = map pair_of (entries_of value pairs.segments.now)

@@ -2,7 +2,6 @@
 use Rattle.std.specs.Prelude.{◌≡◌, ℤ, Bool, List, map, filter, All, Contains}
 use Rattle.plane_base.specs.Counts.{Count, Entry}
 use Rattle.plane_base.specs.Regions.{FillRule, OverlayRule}
-use Rattle.plane_base.specs.Views.{point_of}
 use Rattle.segment_split.specs.Data.{without_data, HasDatum}
 use Rattle.segment_arrangement.specs.EdgeSides.{fill_of, is_boundary}
 use Rattle.segment_arrangement.specs.Graphs.{Link, all_links}
@@ -56,7 +55,7 @@ pub record AreShapes {I D : Type 0} (value : I → ℤ) (same : D → D → Bool
 -- the map has the edge, with its datum
 abbrev pub HasDatumIn : {I D : Type 0} → (I → ℤ) → (D → D → Type 0) → List (Entry (Count × D)) → DataVectorEdge I D → Type 0
 HasDatumIn value turns es v =
-    (e : Entry _) × Contains es e × (e.edge ≡ between (point_of value v.a) (point_of value v.b)) × HasDatum turns (point_of value v.a) (point_of value v.b) e.count.1 v.datum
+    (e : Entry _) × Contains es e × (e.edge ≡ between v.a v.b) × HasDatum turns v.a v.b e.count.1 v.datum
 
 -- The same of a map with data, whatever they are. Each edge has the datum of the map.
 pub record AreDataShapes {I D : Type 0} (value : I → ℤ) (same : D → D → Bool) (turns : D → D → Type 0) (options : IntOverlayOptions) (fill : FillRule) (rule : OverlayRule)

@@ -1,5 +1,5 @@
 -- What the calls that slice answer.
-use Rattle.std.specs.Prelude.{◌≡◌, ◌⊎◌, ℕ, ℤ, Bool, false, List, map, All}
+use Rattle.std.specs.Prelude.{◌≡◌, ◌⊎◌, ℤ, false, List, map, All}
 use Rattle.plane_base.specs.Plane.{Point, IsWithin}
 use Rattle.plane_base.specs.Counts.{Entry}
 use Rattle.plane_base.specs.Regions.{FillRule}

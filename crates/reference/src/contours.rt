@@ -3,8 +3,6 @@
 ghost use Rattle.std.specs.Prelude.{◌≡◌, ◌+◌, not, All, IfOk, OnOk, IfSome, IsOkUnless, [], ◌∷◌, ◌++◌, filter};
 ghost use Rattle.plane_base.specs.Plane.{IsWithin};
 ghost use Rattle.plane_base.specs.Segments.{IsEdgeWithin};
-ghost use Rattle.plane_base.specs.Views.{points_of};
-ghost use Rattle.plane_base.specs.SegmentViews.{edge_of};
 ghost use Rattle.contour_walk.specs.Walks.{contour_from, is_one_of, is_same, left_by, walks};
 ghost use Rattle.contour_walk.specs.WalkViews.{border_of, borders_of, AreWithin};
 ghost use Rattle.contour_walk.specs.ShapeViews.{contour_of, walks_of, contour_if_any, ContoursAreWithin, edges_of, first_walk};
@@ -52,7 +50,7 @@ fn first_walk<I: OverlayInt>(
     ensures is { IfOk result (λ contour. contour_if_any I.value contour ≡
         first_walk output (borders_of I.value links.now)) }
     ensures in_range { IfOk result (λ contour. IfSome contour (λ c.
-        All (IsWithin I.least I.greatest) (points_of I.value c.points.items))) }
+        All (IsWithin I.least I.greatest) c.points.items)) }
     ensures memory { IsOkUnless result Fault.Memory }
 {
     if links.is_empty() {
@@ -72,10 +70,10 @@ pub fn contour_from<I: OverlayInt>(
     link: Border<I>,
 ) -> Result<Contour<I>, Fault>
     requires links_in_range { AreWithin I.least I.greatest (borders_of I.value links.now) }
-    requires link_in_range { IsEdgeWithin I.least I.greatest (edge_of I.value link.edge) }
+    requires link_in_range { IsEdgeWithin I.least I.greatest link.edge }
     ensures is { IfOk result (λ c. contour_of I.value c ≡
         contour_from output (borders_of I.value links.now) (border_of I.value link)) }
-    ensures in_range { IfOk result (λ c. All (IsWithin I.least I.greatest) (points_of I.value c.points.items)) }
+    ensures in_range { IfOk result (λ c. All (IsWithin I.least I.greatest) c.points.items) }
     ensures memory { IsOkUnless result Fault.Memory }
 {
     let XSegment { a, b } = link.edge;
@@ -102,7 +100,7 @@ pub fn left_by<I: OverlayInt>(
 ) -> Result<Vec<Border<I>>, Fault>
     requires { AreWithin I.least I.greatest (borders_of I.value links.now) }
     ensures is { IfOk result (λ left. borders_of I.value left.items ≡
-        left_by (points_of I.value points.now) (borders_of I.value links.now)) }
+        left_by points.now (borders_of I.value links.now)) }
     ensures in_range { IfOk result (λ left. AreWithin I.least I.greatest (borders_of I.value left.items)) }
     ensures memory { IsOkUnless result Fault.Memory }
 {
@@ -132,7 +130,7 @@ fn keep_unless_passed<I: OverlayInt>(
 }
 
 fn is_one_of<I: OverlayInt>(edges: &[XSegment<I>], edge: XSegment<I>) -> bool
-    ensures { result ≡ is_one_of (edges_of I.value edges.now) (edge_of I.value edge) }
+    ensures { result ≡ is_one_of (edges_of I.value edges.now) edge }
 {
     for i in 0..edges.len() {
         if is_same_edge(edges[i], edge) {

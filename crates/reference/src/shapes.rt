@@ -2,7 +2,6 @@
 
 ghost use Rattle.std.specs.Prelude.{◌≡◌, List, ◌++◌, ◌<◌, All, IfOk, OnOk, IsOkUnless, length, map};
 ghost use Rattle.plane_base.specs.Plane.{IsWithin};
-ghost use Rattle.plane_base.specs.Views.{points_of};
 ghost use Rattle.plane_base.specs.GivenViews.{contours_of};
 ghost use Rattle.contour_walk.specs.Walks.{Border};
 ghost use Rattle.contour_walk.specs.Shapes.{finished, is_owned_by, answer};
@@ -118,9 +117,9 @@ pub fn finished<I: OverlayInt>(
     keep_all: bool,
     points: &[IntPoint<I>],
 ) -> Result<IntPath<I>, Fault>
-    requires { All (IsWithin I.least I.greatest) (points_of I.value points.now) }
-    ensures is { IfOk result (λ path. points_of I.value path.points.items ≡
-        finished keep_all (points_of I.value points.now)) }
+    requires { All (IsWithin I.least I.greatest) points.now }
+    ensures is { IfOk result (λ path. path.points.items ≡
+        finished keep_all points.now) }
     ensures memory { IsOkUnless result Fault.Memory }
 {
     if keep_all {

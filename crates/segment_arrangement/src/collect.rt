@@ -21,7 +21,7 @@ use crate::link::OverlayLink;
 use crate::sweep::SweepRunner;
 use i_tree::Steps;
 use plane_base::fault::Fault;
-use plane_base::int::OverlayInt;
+use plane_base::int::{IntNumber, OverlayInt};
 use plane_base::segment::IdPoint;
 use segment_split::segment::Segment;
 use segment_split::solver::Solver;
@@ -42,7 +42,7 @@ impl InclusionFilterStrategy for AllFilter {
 
 // Makes a link of each segment whose fill passes the filter.
 #[derive(Drop)]
-struct LinkCollector<F, I, D> {
+struct LinkCollector<F, I: IntNumber, D> {
     links: Vec<OverlayLink<I, D>>,
     filter: PhantomData<F>,
 }

@@ -5,7 +5,6 @@
 
 ghost use Rattle.std.specs.Prelude.{◌≡◌, ◌≢◌, ℕ, ◌<◌, ◌≤◌, ◌⊎◌, List, false, length, slice_index_or, filter, All, OnOk, IfErr};
 ghost use Rattle.plane_base.specs.Segments.{IsEdgeWithin};
-ghost use Rattle.plane_base.specs.SegmentViews.{edge_of};
 ghost use Rattle.plane_base.specs.Counts.{Entry, Count as Windings};
 ghost use Rattle.plane_base.specs.Plane.{Point};
 ghost use Rattle.plane_base.specs.Windings.{winding};
@@ -63,7 +62,7 @@ pub(crate) fn collect_fan<I: OverlayInt, C, D>(
     segments: &[Segment<C, I, D>],
     fan: &mut Vec<FanItem<I>>,
 ) -> Result<(), Fault>
-    requires within { All (λ s. IsEdgeWithin I.least I.greatest (edge_of I.value s.x_segment)) segments.now }
+    requires within { All (λ s. IsEdgeWithin I.least I.greatest s.x_segment) segments.now }
     ensures ok { OnOk result (length fan.new.items ≡ length segments.now) }
     ensures items { OnOk result ((i : ℕ) (d : _) (t : _) → i < length segments.now →
         IsItemOf I.value i (slice_index_or segments.now i d).x_segment (slice_index_or fan.new.items i t)) }
@@ -110,7 +109,7 @@ pub(crate) fn sides_of_fan<C: FilledCount, I: OverlayInt, D>(
     fan: &mut Vec<FanItem<I>>,
     sides: &mut Vec<SegmentSides>,
 ) -> Result<(), Fault>
-    requires within { All (λ s. IsEdgeWithin I.least I.greatest (edge_of I.value s.x_segment)) segments.now }
+    requires within { All (λ s. IsEdgeWithin I.least I.greatest s.x_segment) segments.now }
     ensures len { OnOk result (length sides.new.items ≡ length segments.now) }
     ensures ok { OnOk result ((es : List (Entry Windings)) (v : Point) (i : ℕ) (d : _) (e : _) →
         IsArrangement es → filter (starts_at v) es ≡ all_seen C.sides I.value segments.now → below ≡ winding es (whole v) → i < length segments.now →

@@ -11,7 +11,6 @@ ghost use Rattle.std.specs.declared.cmp.Ordering.TheVariants.{Greater};
 ghost use Rattle.plane_base.specs.Plane.{point_order, IsCoordinate};
 ghost use Rattle.plane_base.specs.declared.fault.Fault.TheVariants.{Memory};
 ghost use Rattle.plane_base.specs.Segments.{IsEdgeWithin};
-ghost use Rattle.plane_base.specs.Views.{point_of};
 ghost use Rattle.segment_arrangement.specs.Graphs.{AreLists};
 ghost use Rattle.segment_arrangement.specs.LinkEnds.{ends_of_kind, IsNextPoint, IsRunAt, HasRoomFor, HasRoomForEnds};
 ghost use Rattle.segment_arrangement.specs.LinkViews.{link_edge_of, link_parts, places_of, IsBridgeOfTwo, AreNumbered};
@@ -20,7 +19,7 @@ ghost use Rattle.segment_arrangement.specs.LinkEndViews.{end_of, with_number, Is
 use crate::ends::EndNumber;
 use crate::link::OverlayLink;
 use plane_base::fault::Fault;
-use plane_base::int::OverlayInt;
+use plane_base::int::{IntNumber, OverlayInt};
 use plane_base::point::IntPoint;
 use std::alloc::Global;
 use std::cmp::Ordering;
@@ -143,7 +142,7 @@ fn lie_near<I: OverlayInt, D>(links: &[OverlayLink<I, D>]) -> bool
 }
 
 fn is_near<I: OverlayInt>(point: IntPoint<I>) -> bool
-    ensures { IsTrue result → HasRoomFor (2 ^ 19) (point_of I.value point) }
+    ensures { IsTrue result → HasRoomFor (2 ^ 19) point }
 {
     is_narrow(point.x) && is_narrow(point.y)
 }
@@ -308,7 +307,7 @@ fn number_run<I: OverlayInt, D, N: EndNumber>(
 }
 
 // Gives an end of a link the number of its node.
-fn set_number<I, D>(link: &mut OverlayLink<I, D>, is_last: bool, number: usize)
+fn set_number<I: IntNumber, D>(link: &mut OverlayLink<I, D>, is_last: bool, number: usize)
     ensures { link.new ≡ with_number is_last number link.old }
 {
     if is_last {

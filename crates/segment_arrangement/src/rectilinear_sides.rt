@@ -19,8 +19,6 @@ ghost use Rattle.i_tree.specs.Steps.{CountsExactly, CountsAtMost};
 ghost use Rattle.i_tree.specs.TreeBound.{most_comparisons};
 ghost use Rattle.plane_base.specs.Plane.{Point};
 ghost use Rattle.plane_base.specs.Counts.{Entry, Count as Windings};
-ghost use Rattle.plane_base.specs.Views.{point_of};
-ghost use Rattle.plane_base.specs.SegmentViews.{edge_of};
 ghost use Rattle.plane_base.specs.Windings.{winding};
 ghost use Rattle.plane_base.specs.declared.fault.Fault.TheVariants.{Count, Memory};
 ghost use Rattle.segment_split.specs.Kinds.{count_fits};
@@ -47,7 +45,7 @@ use crate::sweep::{Fans, SegmentSides, tell};
 use i_tree::Steps;
 use plane_base::equality::equality_of_segments;
 use plane_base::fault::Fault;
-use plane_base::int::OverlayInt;
+use plane_base::int::{IntNumber, OverlayInt};
 use plane_base::point::IntPoint;
 use plane_base::segment::XSegment;
 use segment_split::count::ShapeCountBoolean;
@@ -59,14 +57,14 @@ use std::sync::ledger::Ledger;
 
 /// Where a horizontal edge ends, and what lies above it.
 #[derive(Clone, Copy)]
-pub(crate) struct HorizontalEnd<I> {
+pub(crate) struct HorizontalEnd<I: IntNumber> {
     x: I,
     top: ShapeCountBoolean,
 }
 
 /// Where a vertical edge ends, and what lies to its right.
 #[derive(Clone, Copy)]
-pub(crate) struct VerticalEnd<I> {
+pub(crate) struct VerticalEnd<I: IntNumber> {
     point: IntPoint<I>,
     right: ShapeCountBoolean,
 }
@@ -112,7 +110,7 @@ pub(crate) fn are_rectilinear<C: FilledCount, I: OverlayInt, D>(
 
 // Whether a segment is horizontal or vertical.
 fn is_rectilinear<I: OverlayInt>(segment: XSegment<I>) -> bool
-    ensures { result ≡ is_rectilinear (edge_of I.value segment) }
+    ensures { result ≡ is_rectilinear segment }
 {
     let XSegment { a, b } = segment;
     a.y.to_i64() == b.y.to_i64() || a.x.to_i64() == b.x.to_i64()
@@ -142,7 +140,7 @@ fn push_height<I: OverlayInt>(
     segment: XSegment<I>,
     guesses: &mut Guesses,
 ) -> Result<(), Fault>
-    ensures own { OnOk result (I.value segment.a.x <ℤ I.value segment.b.x → Contains heights.new.items segment.a.y) }
+    ensures own { OnOk result (segment.a.x <ℤ segment.b.x → Contains heights.new.items segment.a.y) }
     ensures kept { OnOk result ((y : _) → Contains heights.old.items y → Contains heights.new.items y) }
     ensures few { OnOk result (length heights.new.items ≤ length heights.old.items + 1) }
     ensures err { IfErr result (λ fault. fault ≡ Memory) }
@@ -331,11 +329,11 @@ fn below_by_rows<C: FilledCount, I: OverlayInt, D, L: Ledger>(
     requires rectilinear { AllRectilinear (edges_of (all_seen C.sides I.value segments.now)) }
     requires some { from < to }
     requires within { to ≤ length segments.now }
-    requires starts { AreStartsAt (all_seen C.sides I.value segments.now) (point_of I.value start) from to }
+    requires starts { AreStartsAt (all_seen C.sides I.value segments.now) start from to }
     requires heights { AreHeights I.value (all_seen C.sides I.value segments.now) rows.old.heights.items }
     requires ends { AreRows I.value (all_seen C.sides I.value segments.now) from rows.old }
-    requires place { IsPlaceOf I.value rows.old.heights.items (I.value start.y) before }
-    ensures is { result ≡ winding (all_seen C.sides I.value segments.now) (whole (point_of I.value start)) }
+    requires place { IsPlaceOf I.value rows.old.heights.items start.y before }
+    ensures is { result ≡ winding (all_seen C.sides I.value segments.now) (whole start) }
     ensures stay { KeepsHeights rows.old rows.new }
     ensures ends { AreRows I.value (all_seen C.sides I.value segments.now) from rows.new }
     ensures cost { CountsWithMembers steps.old steps.new rows.old.live rows.new.live 0 1 }
@@ -360,12 +358,12 @@ fn below_horizontal_start<C: FilledCount, I: OverlayInt, D, L: Ledger>(
     requires rectilinear { AllRectilinear (edges_of (all_seen C.sides I.value segments.now)) }
     requires some { from < to }
     requires within { to ≤ length segments.now }
-    requires starts { AreStartsAt (all_seen C.sides I.value segments.now) (point_of I.value start) from to }
+    requires starts { AreStartsAt (all_seen C.sides I.value segments.now) start from to }
     requires heights { AreHeights I.value (all_seen C.sides I.value segments.now) rows.old.heights.items }
     requires ends { AreRows I.value (all_seen C.sides I.value segments.now) from rows.old }
     requires vertical { HoldsVertical I.value (all_seen C.sides I.value segments.now) rows.old.vertical }
-    requires place { IsPlaceOf I.value rows.old.heights.items (I.value start.y) before }
-    ensures is { result ≡ winding (all_seen C.sides I.value segments.now) (whole (point_of I.value start)) }
+    requires place { IsPlaceOf I.value rows.old.heights.items start.y before }
+    ensures is { result ≡ winding (all_seen C.sides I.value segments.now) (whole start) }
     ensures stay { KeepsHeights rows.old rows.new }
     ensures ends { AreRows I.value (all_seen C.sides I.value segments.now) from rows.new }
     ensures cost { CountsWithMembers steps.old steps.new rows.old.live rows.new.live 0 1 }
@@ -385,7 +383,7 @@ fn vertical_end<I: OverlayInt>(
     right: ShapeCountBoolean,
     kept: Option<VerticalEnd<I>>,
 ) -> Option<VerticalEnd<I>>
-    ensures { (es : List (Entry Windings)) (e : Entry Windings) → HoldsVertical I.value es kept → Contains es e → e.edge ≡ edge_of I.value segment →
+    ensures { (es : List (Entry Windings)) (e : Entry Windings) → HoldsVertical I.value es kept → Contains es e → e.edge ≡ segment →
         right ≡ lower_side es e.edge → HoldsVertical I.value es result }
 {
     let XSegment { a, b } = segment;
@@ -436,7 +434,7 @@ fn sides_of_pair<C: FilledCount, I: OverlayInt, D>(
     requires two { length segments.now ≤ 2 }
     ensures lower { IfOk result (λ right. (es : List (Entry Windings)) (v : Point) (d : _) → IsArrangement es → AllRectilinear (edges_of es) →
         filter (starts_at v) es ≡ all_seen C.sides I.value segments.now → below ≡ winding es (whole v) →
-        right ≡ lower_side es (edge_of I.value (slice_index_or segments.now 0 d).x_segment)) }
+        right ≡ lower_side es (slice_index_or segments.now 0 d).x_segment) }
     ensures len { OnOk result (length sides.new.items ≡ length segments.now) }
     ensures ok { OnOk result ((es : List (Entry Windings)) (v : Point) (i : ℕ) (d : _) (e : _) → IsArrangement es → AllRectilinear (edges_of es) →
         filter (starts_at v) es ≡ all_seen C.sides I.value segments.now → below ≡ winding es (whole v) → i < length segments.now →
@@ -478,7 +476,7 @@ fn horizontal_fan<C: FilledCount, I: OverlayInt, D, L: Ledger>(
     requires together { (i : ℕ) (d : _) → from ≤ i → i < to →
         (slice_index_or segments.now i d).x_segment.a ≡ (slice_index_or segments.now from d).x_segment.a }
     requires starts { (d : _) →
-        AreStartsAt (all_seen C.sides I.value segments.now) (point_of I.value (slice_index_or segments.now from d).x_segment.a) from to }
+        AreStartsAt (all_seen C.sides I.value segments.now) (slice_index_or segments.now from d).x_segment.a from to }
     requires heights { AreHeights I.value (all_seen C.sides I.value segments.now) rows.old.heights.items }
     requires ends { AreRows I.value (all_seen C.sides I.value segments.now) from rows.old }
     requires vertical { HoldsVertical I.value (all_seen C.sides I.value segments.now) rows.old.vertical }

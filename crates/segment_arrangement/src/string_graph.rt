@@ -1,6 +1,6 @@
 //! The graph of a string map: links, and the nodes at which they meet as lists of places.
 
-ghost use Rattle.std.specs.Prelude.{◌≡◌, ◌≤◌, ⊤, length, map, All};
+ghost use Rattle.std.specs.Prelude.{◌≡◌, ⊤, map, All};
 ghost use Rattle.plane_base.specs.Segments.{IsEdgeWithin};
 ghost use Rattle.segment_arrangement.specs.Graphs.{AreLists};
 ghost use Rattle.segment_arrangement.specs.LinkViews.{link_edge_of, AreNumbered};

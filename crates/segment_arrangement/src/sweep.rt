@@ -10,7 +10,6 @@ ghost use Rattle.std.specs.Prelude.{◌≡◌, ℕ, ◌+◌, ◌-◌, ◌*◌, �
 ghost use Rattle.std.specs.Prelude.{length, map, take, drop, slice_index_or, IfOk, OnOk, IfErr, IsOkUnless, IsTrue};
 ghost use Rattle.i_tree.specs.LiveList.{nothing_kept};
 ghost use Rattle.i_tree.specs.Steps.{CountsAtMost};
-ghost use Rattle.plane_base.specs.Views.{point_of};
 ghost use Rattle.plane_base.specs.SegmentViews.{edge_of};
 ghost use Rattle.plane_base.specs.declared.fault.Fault.TheVariants.{Count, Memory};
 ghost use Rattle.segment_split.specs.LineLaws.{AllRectilinear};
@@ -41,7 +40,7 @@ use i_tree::key::row::KeyExpRow;
 use i_tree::key::tree::KeyExpTree;
 use i_tree::{ExpiredKey, Steps};
 use plane_base::fault::Fault;
-use plane_base::int::OverlayInt;
+use plane_base::int::{IntNumber, OverlayInt};
 use plane_base::segment::VSegment;
 use segment_split::count::ShapeCountBoolean;
 use segment_split::segment::Segment;
@@ -112,7 +111,7 @@ impl<I: OverlayInt> SweepRunner<I> {
             (fill_told C.filled I.value (fill_rule_of rule) (all_seen C.sides I.value segments.now))
             0 segments.now handler output) }
         ensures alone { IfOk result (λ output. IsHandledAlone (λ h n s. H.handles h n s.x_segment s.count s.datum) H.finishes
-            (λ s. edge_of I.value s.x_segment) (fill_told C.filled I.value (fill_rule_of rule)) (all_seen C.sides I.value segments.now)
+            (λ s. s.x_segment) (fill_told C.filled I.value (fill_rule_of rule)) (all_seen C.sides I.value segments.now)
             segments.now handler output) }
         ensures err { IfErr result (λ fault. (fault ≡ Memory)
             ⊎ IsRefused (λ h n s. H.handles h n s.x_segment s.count s.datum) (λ h n s. H.refuses h n s.x_segment s.count s.datum)
@@ -260,7 +259,7 @@ fn sweep_fan<
     requires together { (i : ℕ) (d : _) → from ≤ i → i < to →
         (slice_index_or segments.now i d).x_segment.a ≡ (slice_index_or segments.now from d).x_segment.a }
     requires starts { (d : _) →
-        AreStartsAt (all_seen C.sides I.value segments.now) (point_of I.value (slice_index_or segments.now from d).x_segment.a) from to }
+        AreStartsAt (all_seen C.sides I.value segments.now) (slice_index_or segments.now from d).x_segment.a from to }
     requires swept { IsSwept I.value I.cmp ⟦<VSegment<I> as ExpiredKey<I>>⟧.expires (edge_of I.value)
         (all_seen C.sides I.value segments.now) from (K.live_list live.old) }
     ensures swept { OnOk result (IsSwept I.value I.cmp ⟦<VSegment<I> as ExpiredKey<I>>⟧.expires (edge_of I.value)
@@ -316,7 +315,7 @@ fn insert_fan<
     requires swept { IsSwept I.value I.cmp ⟦<VSegment<I> as ExpiredKey<I>>⟧.expires (edge_of I.value)
         (all_seen C.sides I.value segments.now) from (K.live_list live.old) }
     requires now { (d : _) → (K.live_list live.old).latest_time ≡ Some (slice_index_or segments.now from d).x_segment.a.x }
-    requires place { (d : _) → IsPlaceAt (edge_of I.value) (point_of I.value (slice_index_or segments.now from d).x_segment.a)
+    requires place { (d : _) → IsPlaceAt (edge_of I.value) (slice_index_or segments.now from d).x_segment.a
         (K.before_place live.old place) (K.after_place live.old place) }
     ensures ok { OnOk result (IsSwept I.value I.cmp ⟦<VSegment<I> as ExpiredKey<I>>⟧.expires (edge_of I.value)
         (all_seen C.sides I.value segments.now) to (K.live_list live.new)) }
@@ -332,7 +331,7 @@ fn insert_fan<
 }
 
 // Tells the handler the segments with their fills, from this place of the list on. Gives its output where it breaks off.
-pub(crate) fn tell<C, I: Ord, D, H: FillHandler<C, I, D>>(
+pub(crate) fn tell<C, I: IntNumber, D, H: FillHandler<C, I, D>>(
     segments: &[Segment<C, I, D>],
     from: usize,
     sides: &[SegmentSides],

@@ -4,13 +4,12 @@ use Rattle.std.specs.declared.cmp.Ordering.TheVariants.{Greater}
 use Rattle.plane_base.specs.Plane.{edge_order}
 use Rattle.plane_base.specs.Counts.{Counting, Entry}
 use Rattle.plane_base.specs.Segments.{IsEdgeWithin}
-use Rattle.plane_base.specs.SegmentViews.{edge_of}
-use Rattle.segment_split.specs.declared.segment.Segment.{Segment}
+use Rattle.segment_split.specs.SegmentParts.{Segment}
 
-abbrev pub entry_of : {C I D : Type 0} {order equality part : _} → (I → ℤ) → Segment C I D order equality part → Entry C
-entry_of value s = record { edge = edge_of value s.x_segment; count = s.count }
+abbrev pub entry_of : {C I D : Type 0} → (I → ℤ) → Segment C D → Entry C
+entry_of value s = record { edge = s.x_segment; count = s.count }
 
-abbrev pub entries_of : {C I D : Type 0} {order equality part : _} → (I → ℤ) → List (Segment C I D order equality part) → List (Entry C)
+abbrev pub entries_of : {C I D : Type 0} → (I → ℤ) → List (Segment C D) → List (Entry C)
 entries_of value ss = map (entry_of value) ss
 
 -- All ends lie in the range of coordinates.

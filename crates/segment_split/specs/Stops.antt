@@ -4,8 +4,6 @@ use Rattle.std.specs.Prelude.{Option, Some, None}
 use Rattle.std.specs.Ordering.{int_eq}
 use Rattle.plane_base.specs.Plane.{Point, Edge}
 use Rattle.plane_base.specs.Counts.{Count, Entry, boolean, lay}
-use Rattle.plane_base.specs.Views.{point_of}
-use Rattle.plane_base.specs.declared.point.IntPoint.{IntPoint}
 use Rattle.segment_split.specs.declared.lines.status.Line.{Line}
 use Rattle.segment_split.specs.declared.lines.status.Row.{Row}
 use Rattle.segment_split.specs.declared.lines.status.Lines.{Lines}
@@ -28,9 +26,9 @@ pub record LinesView : Type 0 where
   pub rows : List RowView
   pub column : LineView
 
-abbrev pub next_of : {I : Type 0} → (I → ℤ) → Option (IntPoint I) → Option Point
+abbrev pub next_of : {I : Type 0} → (I → ℤ) → Option Point → Option Point
 next_of value None = None
-next_of value (Some p) = Some (point_of value p)
+next_of value (Some p) = Some p
 
 abbrev pub line_of : {I : Type 0} → (I → ℤ) → Line I → LineView
 line_of value l = record { running = l.running; sum = l.sum; next = next_of value l.next }

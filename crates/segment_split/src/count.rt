@@ -5,7 +5,6 @@
 //! time.
 
 ghost use Rattle.std.specs.Prelude.{◌≡◌, ℤ, ◌+ℤ◌, neg_ℤ, pos, ◌≤ℤ◌, ◌<◌, Bool, true, false, refl, IsTrue, MatchResult};
-ghost use Rattle.std.proofs.Common.{rules};
 ghost use Rattle.std.proofs.lemmas.Bool.{false≢true};
 ghost use Rattle.plane_base.specs.Counts.{Count, Counting, boolean};
 ghost use Rattle.plane_base.proofs.Facts.Maps.Normal.{IsCounting};

@@ -11,13 +11,13 @@ ghost use Rattle.segment_split.specs.Sums.{of_count};
 use crate::count::{ShapeCountBoolean, WindingCount};
 use crate::segment::Segment;
 use plane_base::fault::Fault;
-use plane_base::int::OverlayInt;
+use plane_base::int::{IntNumber, OverlayInt};
 use plane_base::point::IntPoint;
 use std::alloc::Global;
 
 /// A segment that is cut: its ends, and the mark at which it is cut.
 #[derive(Clone, Copy, Debug, PartialEq, Eq)]
-pub struct EdgeDataSplit<I> {
+pub struct EdgeDataSplit<I: IntNumber> {
     pub a: IntPoint<I>,
     pub p: IntPoint<I>,
     pub b: IntPoint<I>,

@@ -22,14 +22,12 @@
 //! crossing, which is counted: a pair of keys. Nothing else holds two keys against each other. An end on a line, and a place among
 //! rows, names no second key: how many keys run on the line is known, and that is all that is asked.
 
-ghost use Rattle.std.specs.Prelude.{◌≡◌, ◌+◌, ◌≤◌, ◌<◌, ◌<ℤ◌, ◌≤ℤ◌, ◌^◌, ◌↔◌, ◌||◌, [], ℕ, ℤ, Bool, List, length, take, drop, map, slice_index_or, nat_lt};
-ghost use Rattle.std.specs.Prelude.{true, false, cond, All, Contains, IfOk, IfErr, OnOk, OnErr, IfSome, IfNone, IsOkUnless, IsTrue, IsPermutation};
+ghost use Rattle.std.specs.Prelude.{◌≡◌, ◌+◌, ◌≤◌, ◌<◌, ◌^◌, ◌↔◌, ◌||◌, [], ℕ, ℤ, List, length, map, slice_index_or, nat_lt};
+ghost use Rattle.std.specs.Prelude.{true, false, cond, All, Contains, IfOk, IfErr, OnOk, OnErr, IfSome, IfNone, IsOkUnless, IsTrue};
 ghost use Rattle.std.specs.Ordering.{int_eq};
-ghost use Rattle.plane_base.specs.Plane.{Point, is_before};
+ghost use Rattle.plane_base.specs.Plane.{Point};
 ghost use Rattle.plane_base.specs.Counts.{Count, Entry, boolean, normal, IsNormal};
 ghost use Rattle.plane_base.specs.Crossing.{late_marks};
-ghost use Rattle.plane_base.specs.SegmentViews.{edge_of};
-ghost use Rattle.plane_base.specs.Views.{point_of};
 ghost use Rattle.segment_split.specs.Passes.{edges_of, all_cut, pass_by};
 ghost use Rattle.segment_split.specs.Redrawing.{redrawn, MarksInPass};
 ghost use Rattle.segment_split.specs.Kinds.{count_fits};
@@ -134,13 +132,13 @@ fn cross<I: OverlayInt, L: Ledger>(
 ) -> Result<bool, Fault>
     requires rising { AreRising (rows_of I.value lines.old.rows.items) }
     requires seen { AreSeen I.value lines.old }
-    requires placed { IsPlaceOf (I.value point.y) (heights_in (rows_of I.value lines.old.rows.items)) place }
+    requires placed { IsPlaceOf point.y (heights_in (rows_of I.value lines.old.rows.items)) place }
     ensures rising { OnOk result (AreRising (rows_of I.value lines.new.rows.items)) }
     ensures seen { OnOk result (AreSeen I.value lines.new) }
     ensures heights { OnOk result (heights_in (rows_of I.value lines.new.rows.items) ≡ heights_in (rows_of I.value lines.old.rows.items)) }
-    ensures crossed { IfOk result (λ crossed. Crosses (point_of I.value point) (lines_of I.value lines.old) (entries_of I.value laid.old.items)
+    ensures crossed { IfOk result (λ crossed. Crosses point (lines_of I.value lines.old) (entries_of I.value laid.old.items)
         steps.old.pairs (lines_of I.value lines.new) (entries_of I.value laid.new.items) steps.new.pairs crossed) }
-    ensures some { OnErr result (CrossesSome (point_of I.value point) (lines_of I.value lines.old) (entries_of I.value laid.old.items)
+    ensures some { OnErr result (CrossesSome point (lines_of I.value lines.old) (entries_of I.value laid.old.items)
         steps.old.pairs steps.new.pairs) }
     ensures compared { steps.new.comparisons ≡ steps.old.comparisons }
     ensures memory { IsOkUnless result Fault.Memory }
@@ -168,14 +166,14 @@ fn cross_from<I: OverlayInt, L: Ledger>(
     requires rising { AreRising (rows_of I.value lines.old.rows.items) }
     requires seen { AreSeen I.value lines.old }
     requires placed { IsPlaced (lines_of I.value lines.old) place }
-    requires above { IsPlaceAbove (I.value point.y) (heights_in (rows_of I.value lines.old.rows.items)) low }
+    requires above { IsPlaceAbove point.y (heights_in (rows_of I.value lines.old.rows.items)) low }
     requires runs { 0 < lines.old.column.running }
     ensures rising { OnOk result (AreRising (rows_of I.value lines.new.rows.items)) }
     ensures seen { OnOk result (AreSeen I.value lines.new) }
     ensures heights { OnOk result (heights_in (rows_of I.value lines.new.rows.items) ≡ heights_in (rows_of I.value lines.old.rows.items)) }
-    ensures crossed { IfOk result (λ crossed. Crosses (point_of I.value point) (lines_of I.value lines.old) (entries_of I.value laid.old.items)
+    ensures crossed { IfOk result (λ crossed. Crosses point (lines_of I.value lines.old) (entries_of I.value laid.old.items)
         steps.old.pairs (lines_of I.value lines.new) (entries_of I.value laid.new.items) steps.new.pairs crossed) }
-    ensures some { OnErr result (CrossesSome (point_of I.value point) (lines_of I.value lines.old) (entries_of I.value laid.old.items)
+    ensures some { OnErr result (CrossesSome point (lines_of I.value lines.old) (entries_of I.value laid.old.items)
         steps.old.pairs steps.new.pairs) }
     ensures compared { steps.new.comparisons ≡ steps.old.comparisons }
     ensures memory { IsOkUnless result Fault.Memory }
@@ -204,7 +202,7 @@ fn cross_next<I: OverlayInt, L: Ledger>(
     requires rising { AreRising (rows_of I.value lines.old.rows.items) }
     requires seen { AreSeen I.value lines.old }
     requires placed { IsPlaced (lines_of I.value lines.old) place }
-    requires above { IsPlaceAbove (I.value point.y) (heights_in (rows_of I.value lines.old.rows.items)) low }
+    requires above { IsPlaceAbove point.y (heights_in (rows_of I.value lines.old.rows.items)) low }
     requires runs { 0 < lines.old.column.running }
     ensures rising { OnOk result (AreRising (rows_of I.value lines.new.rows.items)) }
     ensures seen { OnOk result (AreSeen I.value lines.new) }
@@ -212,9 +210,9 @@ fn cross_next<I: OverlayInt, L: Ledger>(
     ensures runs { OnOk result (0 < lines.new.column.running) }
     ensures less { IfOk result (λ next. next.is_done ≡ false → next.place < place) }
     ensures placed { IfOk result (λ next. IsPlaced (lines_of I.value lines.new) next.place) }
-    ensures crossed { IfOk result (λ next. next.is_done ≡ false → CrossesOnce (point_of I.value point) (lines_of I.value lines.old)
+    ensures crossed { IfOk result (λ next. next.is_done ≡ false → CrossesOnce point (lines_of I.value lines.old)
         (entries_of I.value laid.old.items) (lines_of I.value lines.new) (entries_of I.value laid.new.items)) }
-    ensures done { IfOk result (λ next. next.is_done ≡ true → IsDone (point_of I.value point) (lines_of I.value lines.old)
+    ensures done { IfOk result (λ next. next.is_done ≡ true → IsDone point (lines_of I.value lines.old)
         (entries_of I.value laid.old.items) (lines_of I.value lines.new) (entries_of I.value laid.new.items)) }
     ensures counted { IfOk result (λ next. steps.new.pairs ≡ steps.old.pairs + cond next.is_done 0 1) }
     ensures none { OnErr result (steps.new.pairs ≡ steps.old.pairs) }
@@ -362,7 +360,7 @@ fn add_height<I: OverlayInt>(
     s: XSegment<I>,
     guesses: &mut Guesses,
 ) -> Result<(), Fault>
-    ensures has { OnOk result (int_eq (I.value s.a.x) (I.value s.b.x) ≡ false → Contains (map I.value heights.new.items) (I.value s.a.y)) }
+    ensures has { OnOk result (int_eq s.a.x s.b.x ≡ false → Contains (map I.value heights.new.items) s.a.y) }
     ensures kept { OnOk result ((z : ℤ) → Contains (map I.value heights.old.items) z → Contains (map I.value heights.new.items) z) }
     ensures memory { IsOkUnless result Fault.Memory }
 {
@@ -534,7 +532,7 @@ pub fn are_rectilinear<C, I: OverlayInt, D>(segments: &[Segment<C, I, D>]) -> bo
 }
 
 pub(crate) fn is_rectilinear<I: OverlayInt>(s: XSegment<I>) -> bool
-    ensures { result ≡ is_rectilinear (edge_of I.value s) }
+    ensures { result ≡ is_rectilinear s }
 {
     let XSegment { a, b } = s;
     a.y.to_i64() == b.y.to_i64() || a.x.to_i64() == b.x.to_i64()

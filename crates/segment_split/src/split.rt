@@ -19,7 +19,6 @@ ghost use Rattle.segment_split.specs.Data.{normal_with_data, redrawn_with_data, 
 ghost use Rattle.segment_split.specs.MarkLists.{CountsPairs};
 ghost use Rattle.segment_split.specs.StepBounds.{LooksAtFew};
 ghost use Rattle.plane_base.specs.Segments.{IsEdgeWithin};
-ghost use Rattle.plane_base.specs.SegmentViews.{edge_of};
 
 use crate::count::WindingCount;
 use crate::data::OverlayEdgeData;
@@ -241,7 +240,7 @@ pub fn can_be_split<C: WindingCount, I: OverlayInt, D: OverlayEdgeData<C>>(
 
 // Whether the coordinates of both ends lie in their type's range.
 fn is_within<I: OverlayInt>(s: XSegment<I>) -> bool
-    ensures { IsTrue result ↔ IsEdgeWithin I.least I.greatest (edge_of I.value s) }
+    ensures { IsTrue result ↔ IsEdgeWithin I.least I.greatest s }
 {
     is_in_range(s.a) && is_in_range(s.b)
 }

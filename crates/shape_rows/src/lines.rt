@@ -106,7 +106,7 @@ impl RowInt for i64 {
 
 /// Whether all points of lines are in range.
 pub fn are_in_range<I: OverlayInt>(lines: &[IntLine<I>]) -> bool
-    ensures { IsTrue result → All (All (IsWithin I.least I.greatest)) (map (points_of I.value) lines.now) }
+    ensures { IsTrue result → All (All (IsWithin I.least I.greatest)) lines.now }
 {
     for place in 0..lines.len() {
         if !all_in_range(&lines[place]) {

@@ -3,7 +3,6 @@
 ghost use Rattle.std.specs.Prelude.{All, IfOk};
 ghost use Rattle.plane_base.specs.GivenViews.{contours_of};
 ghost use Rattle.plane_base.specs.Plane.{IsWithin};
-ghost use Rattle.plane_base.specs.Views.{points_of};
 ghost use Rattle.contour_walk.specs.BindingLaws.{all_contours};
 ghost use Rattle.contour_walk.specs.ShapeViews.{shapes_of};
 
@@ -216,7 +215,7 @@ fn doubled_area_of<I: OverlayInt>(piece: &IntShape<I>) -> Result<i128, Fault>
 }
 
 fn area_of<I: OverlayInt>(points: &[IntPoint<I>]) -> Result<i128, Fault>
-    requires { All (IsWithin I.least I.greatest) (points_of I.value points.now) }
+    requires { All (IsWithin I.least I.greatest) points.now }
 {
     if points.len() > MOST_POINTS {
         return Err(Fault::Failed);

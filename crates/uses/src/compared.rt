@@ -14,7 +14,7 @@ use polygon_overlay::laws::{
 };
 use polygon_overlay::overlay::Overlay;
 use polygon_overlay::plane::fault::Fault;
-use polygon_overlay::plane::int::OverlayInt;
+use polygon_overlay::plane::int::{IntNumber, OverlayInt};
 use polygon_overlay::plane::path::IntShapes;
 use polygon_overlay::single::SingleIntOverlay;
 use std::alloc::Global;
@@ -55,7 +55,7 @@ pub fn unions_in_two_widths<I: OverlayInt, J: OverlayInt>(
 
 /// A land, what of it a flood leaves dry, and what it covers.
 #[derive(Drop)]
-pub struct FloodedLand<I> {
+pub struct FloodedLand<I: IntNumber> {
     pub land: IntShapes<I>,
     pub dry: IntShapes<I>,
     pub flooded: IntShapes<I>,

@@ -1,6 +1,6 @@
 //! Where so many parcels lie over one another.
 
-ghost use Rattle.std.specs.Prelude.{◌≡◌, ◌≤ℤ◌, pos, IfOk, IfSome};
+ghost use Rattle.std.specs.Prelude.{◌≡◌, pos, IfOk, IfSome};
 ghost use Rattle.polygon_overlay.specs.Answering.{answering_of};
 ghost use Rattle.polygon_overlay.specs.Calls.{held_by};
 ghost use Rattle.polygon_overlay.specs.OverlayLaws.{overlay_of};

@@ -14,7 +14,7 @@ use polygon_overlay::arrangement::fill_rule::FillRule;
 use polygon_overlay::arrangement::overlay_rule::OverlayRule;
 use polygon_overlay::laws::{answers_stay_in_the_box, holding_goes_on, sources_are_held};
 use polygon_overlay::plane::fault::Fault;
-use polygon_overlay::plane::int::OverlayInt;
+use polygon_overlay::plane::int::{IntNumber, OverlayInt};
 use polygon_overlay::plane::path::IntShapes;
 use polygon_overlay::single::SingleIntOverlay;
 use polygon_overlay::tile::IntTile;
@@ -22,7 +22,7 @@ use std::alloc::Global;
 
 /// A map on a sheet.
 #[derive(Drop)]
-pub struct Sheet<I> {
+pub struct Sheet<I: IntNumber> {
     pub frame: IntTile<I>,
     pub map: IntShapes<I>,
 }

@@ -7,7 +7,6 @@ ghost use Rattle.polygon_overlay.specs.Plane.{IsWithin};
 ghost use Rattle.polygon_overlay.specs.RuleViews.{fill_rule_of};
 ghost use Rattle.polygon_overlay.specs.ShapeViews.{shapes_of};
 ghost use Rattle.polygon_overlay.specs.SliceCalls.{IsSliceOf};
-ghost use Rattle.polygon_overlay.specs.Views.{points_of};
 
 use polygon_overlay::arrangement::fill_rule::FillRule;
 use polygon_overlay::plane::area::doubled_area;
@@ -28,10 +27,10 @@ pub fn pieces_of<I: OverlayInt>(
     parcel: &IntPath<I>,
     line: IntLine<I>,
 ) -> Result<IntShapes<I>, Fault>
-    requires parcel_in_range { All (IsWithin I.least I.greatest) (points_of I.value parcel.now.points.items) }
-    requires line_in_range { All (IsWithin I.least I.greatest) (points_of I.value line) }
+    requires parcel_in_range { All (IsWithin I.least I.greatest) parcel.now.points.items }
+    requires line_in_range { All (IsWithin I.least I.greatest) line }
     ensures slice { IfOk result (λ pieces. IsSliceOf I.least I.greatest (fill_rule_of FillRule.NonZero)
-        (points_of I.value parcel.now.points.items ∷ []) (points_of I.value line ∷ []) (shapes_of I.value pieces.shapes.items)) }
+        (parcel.now.points.items ∷ []) (line ∷ []) (shapes_of I.value pieces.shapes.items)) }
 {
     parcel.slice_by_line(alloc, line, FillRule::NonZero)
 }
@@ -68,7 +67,7 @@ fn area_of<I: OverlayInt>(contours: &[IntPath<I>]) -> Option<i128>
 }
 
 fn area_of_outline<I: OverlayInt>(points: &[IntPoint<I>]) -> Option<i128>
-    requires { All (IsWithin I.least I.greatest) (points_of I.value points.now) }
+    requires { All (IsWithin I.least I.greatest) points.now }
 {
     if points.len() <= MOST_POINTS {
         Some(doubled_area(points))

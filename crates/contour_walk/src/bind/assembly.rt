@@ -5,7 +5,6 @@
 
 ghost use Rattle.std.specs.Prelude.{◌≡◌, ◌<◌, ◌+◌, List, All, IfOk, OnOk, IsOkUnless, [], ◌∷◌, true, false, map, take, length};
 ghost use Rattle.plane_base.specs.Plane.{IsWithin};
-ghost use Rattle.plane_base.specs.Views.{points_of};
 ghost use Rattle.plane_base.specs.GivenViews.{contours_of};
 ghost use Rattle.contour_walk.specs.Walks.{Border};
 ghost use Rattle.contour_walk.specs.Shapes.{finished, shapes_from};
@@ -68,13 +67,13 @@ fn place<I: OverlayInt>(
     keep_all: bool,
     contour: &mut Contour<I>,
 ) -> Result<IntShape<I>, Fault>
-    requires { All (IsWithin I.least I.greatest) (points_of I.value contour.old.points.items) }
+    requires { All (IsWithin I.least I.greatest) contour.old.points.items }
     ensures hole { contour.old.is_hole ≡ true → IfOk result (λ shape. contours_of I.value shape.contours.items ≡ []) }
     ensures outline { contour.old.is_hole ≡ false → IfOk result (λ shape. contours_of I.value shape.contours.items ≡
-        finished keep_all (points_of I.value contour.old.points.items) ∷ []) }
+        finished keep_all contour.old.points.items ∷ []) }
     ensures stays { contour.old.is_hole ≡ true → contour.new ≡ contour.old }
     ensures same { contour.new.is_hole ≡ contour.old.is_hole }
-    ensures in_range { All (IsWithin I.least I.greatest) (points_of I.value contour.new.points.items) }
+    ensures in_range { All (IsWithin I.least I.greatest) contour.new.points.items }
     ensures memory { IsOkUnless result Fault.Memory }
 {
     if contour.is_hole {
@@ -89,8 +88,8 @@ fn place<I: OverlayInt>(
 
 // The points of a contour as they are answered, in the memory in which they were walked. The contour stays without points.
 fn take_path<I: OverlayInt>(alloc: Global, keep_all: bool, contour: &mut Contour<I>) -> IntPath<I>
-    requires { All (IsWithin I.least I.greatest) (points_of I.value contour.old.points.items) }
-    ensures is { points_of I.value result.points.items ≡ finished keep_all (points_of I.value contour.old.points.items) }
+    requires { All (IsWithin I.least I.greatest) contour.old.points.items }
+    ensures is { result.points.items ≡ finished keep_all contour.old.points.items }
     ensures none { contour.new.points.items ≡ [] }
     ensures same { contour.new.is_hole ≡ contour.old.is_hole }
 {

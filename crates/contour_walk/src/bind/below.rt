@@ -248,13 +248,13 @@ fn start_of<I: OverlayInt>(edge: XSegment<I>) -> I
 }
 
 fn begins_beyond<I: OverlayInt>(edge: XSegment<I>, x: I) -> bool
-    ensures { result ≡ int_lt (I.value x) (I.value edge.a.x) }
+    ensures { result ≡ int_lt (I.value x) edge.a.x }
 {
     is_less(x, edge.a.x)
 }
 
 fn ends_beyond<I: OverlayInt>(edge: XSegment<I>, x: I) -> bool
-    ensures { result ≡ int_lt (I.value x) (I.value edge.b.x) }
+    ensures { result ≡ int_lt (I.value x) edge.b.x }
 {
     is_less(x, edge.b.x)
 }

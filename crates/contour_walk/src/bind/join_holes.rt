@@ -4,13 +4,11 @@
 //! to the first shape. It takes n log n time, but quadratic time where an anchor is vertical, from 2^31 edges on, and at worst where holes
 //! don't come in the order of their anchors.
 
-ghost use Rattle.std.specs.Prelude.{◌≡◌, ◌≤◌, ◌<◌, ◌+◌, ◌++◌, ◌∷◌, [], List, ℕ, Bool, IfOk, OnOk, OnErr, IsOkUnless, length, map, replicate, slice_index_or};
+ghost use Rattle.std.specs.Prelude.{◌≡◌, ◌≤◌, ◌<◌, ◌+◌, ◌++◌, ◌∷◌, [], List, ℕ, IfOk, OnOk, OnErr, IsOkUnless, length, map, replicate, slice_index_or};
 ghost use Rattle.plane_base.specs.Plane.{Point};
-ghost use Rattle.plane_base.specs.Views.{points_of};
 ghost use Rattle.plane_base.specs.GivenViews.{contours_of};
-ghost use Rattle.contour_walk.specs.BindingLaws.{all_contours};
 ghost use Rattle.contour_walk.specs.ShapeViews.{walks_of, shapes_of, ContoursAreWithin};
-ghost use Rattle.contour_walk.specs.JoinedHoles.{as_bound, contours_among, shape_numbers, shape_met, joined_by, joined, CanBeBound};
+ghost use Rattle.contour_walk.specs.JoinedHoles.{contours_among, shape_numbers, shape_met, joined_by, joined, CanBeBound};
 
 use crate::bind::given::owners_among;
 use crate::contour::Contour;
@@ -205,7 +203,7 @@ fn add_at<I: OverlayInt>(
     ensures len { length shapes.new ≡ length shapes.old }
     ensures is { (owner : ℕ → ℕ) (first : List (List Point)) (before : List (List (List Point))) → owner (length first) ≡ at →
         shapes_of I.value shapes.old ≡ joined_by owner first 0 before →
-        OnOk result (shapes_of I.value shapes.new ≡ joined_by owner (first ++ points_of I.value hole.now.points.items ∷ []) 0 before) }
+        OnOk result (shapes_of I.value shapes.new ≡ joined_by owner (first ++ hole.now.points.items ∷ []) 0 before) }
     ensures memory { IsOkUnless result Fault.Memory }
 {
     if at >= shapes.len() {
@@ -218,7 +216,7 @@ fn add_at<I: OverlayInt>(
 }
 
 fn copied<I: OverlayInt>(hole: &IntContour<I>) -> Result<IntContour<I>, Fault>
-    ensures is { IfOk result (λ path. points_of I.value path.points.items ≡ points_of I.value hole.now.points.items) }
+    ensures is { IfOk result (λ path. path.points.items ≡ hole.now.points.items) }
     ensures memory { IsOkUnless result Fault.Memory }
 {
     Ok(hole.clone()?)

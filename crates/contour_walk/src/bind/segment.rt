@@ -3,7 +3,6 @@
 
 ghost use Rattle.std.specs.Prelude.{◌≡◌, ◌++◌, ◌∷◌, [], IfOk, OnOk, IsOkUnless, IsPermutation, All, int_lt, map, filter};
 ghost use Rattle.plane_base.specs.Plane.{IsWithin};
-ghost use Rattle.plane_base.specs.Views.{point_of, points_of};
 ghost use Rattle.contour_walk.specs.WalkLaws.{contour_steps};
 ghost use Rattle.contour_walk.specs.ShapeViews.{contour_of, walks_of, ContoursAreWithin, owned_of, owned_edges_of};
 ghost use Rattle.contour_walk.specs.BinderSweep.{owned_step, stepped_from, is_swept, hole_anchors, AreRising};
@@ -45,7 +44,7 @@ fn add_swept<I: OverlayInt>(
     number: usize,
 ) -> Result<(), Fault>
     ensures is { OnOk result (owned_edges_of I.value edges.new.items ≡ owned_edges_of I.value edges.old.items
-        ++ filter is_swept (map (owned_step output number) (contour_steps (points_of I.value points.now)))) }
+        ++ filter is_swept (map (owned_step output number) (contour_steps points.now))) }
     ensures memory { IsOkUnless result Fault.Memory }
 {
     for place in 0..points.len() {
@@ -67,7 +66,7 @@ fn keep_swept<I: OverlayInt>(edges: &mut Vec<OwnedEdge<I>>, edge: OwnedEdge<I>) 
 }
 
 pub(crate) fn is_wide<I: OverlayInt>(edge: XSegment<I>) -> bool
-    ensures { result ≡ int_lt (I.value edge.a.x) (I.value edge.b.x) }
+    ensures { result ≡ int_lt edge.a.x edge.b.x }
 {
     is_less(edge.a.x, edge.b.x)
 }
@@ -78,7 +77,7 @@ fn owned_step<I: OverlayInt>(
     to: IntPoint<I>,
     contour: usize,
 ) -> OwnedEdge<I>
-    ensures { owned_of I.value result ≡ owned_step output contour (record { a = point_of I.value from; b = point_of I.value to }) }
+    ensures { owned_of I.value result ≡ owned_step output contour (record { a = from; b = to }) }
 {
     let is_forward = comes_before(from, to);
     OwnedEdge {
@@ -113,7 +112,7 @@ fn add_anchor<I: OverlayInt>(
     contour: &Contour<I>,
     number: usize,
 ) -> Result<(), Fault>
-    requires { All (IsWithin I.least I.greatest) (points_of I.value contour.now.points.items) }
+    requires { All (IsWithin I.least I.greatest) contour.now.points.items }
     ensures is { OnOk result (owned_edges_of I.value anchors.new.items ≡ owned_edges_of I.value anchors.old.items
         ++ hole_anchors number (contour_of I.value contour.now ∷ [])) }
     ensures memory { IsOkUnless result Fault.Memory }

@@ -3,7 +3,6 @@
 
 ghost use Rattle.std.specs.Prelude.{◌∷◌, [], All, IfOk, OnOk, IsOkUnless, map};
 ghost use Rattle.plane_base.specs.Plane.{IsWithin};
-ghost use Rattle.plane_base.specs.Views.{points_of};
 ghost use Rattle.plane_base.specs.GivenViews.{contours_of};
 ghost use Rattle.contour_walk.specs.HierarchyViews.{AreLaidShapes};
 ghost use Rattle.contour_walk.specs.Shapes.{finished};
@@ -67,8 +66,8 @@ fn add_contour<I: OverlayInt>(
     points: &[IntPoint<I>],
     laid: &mut FlatContoursBuffer<I>,
 ) -> Result<(), Fault>
-    requires in_range { All (IsWithin I.least I.greatest) (points_of I.value points.now) }
-    ensures laid { OnOk result (LaysBehind I.value (finished keep_all (points_of I.value points.now) ∷ []) laid.old laid.new) }
+    requires in_range { All (IsWithin I.least I.greatest) points.now }
+    ensures laid { OnOk result (LaysBehind I.value (finished keep_all points.now ∷ []) laid.old laid.new) }
     ensures memory { IsOkUnless result Fault.Memory }
 {
     if keep_all {

@@ -4,7 +4,6 @@
 
 ghost use Rattle.std.specs.Prelude.{◌≡◌, ◌++◌, ◌∷◌, [], All, IfOk, OnOk, IsOkUnless, map, filter};
 ghost use Rattle.plane_base.specs.Plane.{IsWithin};
-ghost use Rattle.plane_base.specs.Views.{points_of};
 ghost use Rattle.plane_base.specs.GivenViews.{contours_of};
 ghost use Rattle.contour_walk.specs.Least.{reaches, outline_reaches, behind_first, reaching};
 ghost use Rattle.contour_walk.specs.LeastViews.{shape_if_reaching, holes_if_left};
@@ -105,9 +104,9 @@ fn add_if_reaching<I: OverlayInt>(
     points: Vec<IntPoint<I>>,
     found: &mut Vec<IntPath<I>>,
 ) -> Result<(), Fault>
-    requires { All (IsWithin I.least I.greatest) (points_of I.value points.items) }
+    requires { All (IsWithin I.least I.greatest) points.items }
     ensures is { OnOk result (contours_of I.value found.new.items ≡ contours_of I.value found.old.items ++
-        map (finished options.preserve_output_collinear) (filter (reaches options.min_output_area) (points_of I.value points.items ∷ []))) }
+        map (finished options.preserve_output_collinear) (filter (reaches options.min_output_area) (points.items ∷ []))) }
     ensures memory { IsOkUnless result Fault.Memory }
 {
     let mut points = points;

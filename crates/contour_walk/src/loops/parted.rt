@@ -7,7 +7,6 @@
 ghost use Rattle.std.specs.Prelude.{◌≡◌, ◌≤◌, ◌<◌, ℕ, true, Some, List, [], ◌∷◌, ◌++◌, All, IfOk, OnOk, IsOkUnless, IfSome, length, map, flat_map};
 ghost use Rattle.std.specs.Ordering.{is_lt};
 ghost use Rattle.plane_base.specs.Plane.{Point, IsWithin};
-ghost use Rattle.plane_base.specs.Views.{point_of, points_of};
 ghost use Rattle.plane_base.specs.GivenViews.{contours_of};
 ghost use Rattle.contour_walk.specs.Walks.{Border};
 ghost use Rattle.contour_walk.specs.Binding.{least_point};
@@ -62,11 +61,11 @@ fn add_parts<I: OverlayInt>(
     path: Vec<IntPoint<I>>,
     contours: &mut Vec<Contour<I>>,
 ) -> Result<(), Fault>
-    requires in_range { All (IsWithin I.least I.greatest) (points_of I.value path.items) }
+    requires in_range { All (IsWithin I.least I.greatest) path.items }
     requires contours_in_range { ContoursAreWithin I.least I.greatest (walks_of I.value contours.old.items) }
-    ensures is { (links : List Border) → AreCut output links (loops (points_of I.value path.items)) →
+    ensures is { (links : List Border) → AreCut output links (loops path.items) →
         OnOk result (walks_of I.value contours.new.items ≡
-        walks_of I.value contours.old.items ++ map (part_of output links) (loops (points_of I.value path.items))) }
+        walks_of I.value contours.old.items ++ map (part_of output links) (loops path.items)) }
     ensures in_range { OnOk result (ContoursAreWithin I.least I.greatest (walks_of I.value contours.new.items)) }
     ensures memory { IsOkUnless result Fault.Memory }
 {
@@ -81,8 +80,8 @@ fn add_parts<I: OverlayInt>(
 // Whether a short path comes back to no point, where none of its loops has less than three points: a point is then looked for behind the
 // two before it.
 fn is_one_loop<I: OverlayInt>(path: &[IntPoint<I>]) -> bool
-    ensures { result ≡ true → All (λ l. 3 ≤ length l) (loops (points_of I.value path.now)) →
-        loops (points_of I.value path.now) ≡ points_of I.value path.now ∷ [] }
+    ensures { result ≡ true → All (λ l. 3 ≤ length l) (loops path.now) →
+        loops path.now ≡ path.now ∷ [] }
 {
     let n = path.len();
     if n > SHORT {
@@ -121,10 +120,10 @@ fn add_loops<I: OverlayInt>(
 
 // A loop as a contour.
 fn part_of<I: OverlayInt>(output: bool, points: Vec<IntPoint<I>>) -> Contour<I>
-    requires in_range { All (IsWithin I.least I.greatest) (points_of I.value points.items) }
-    ensures is { (links : List Border) → IsTold output links (points_of I.value points.items) →
-        contour_of I.value result ≡ part_of output links (points_of I.value points.items) }
-    ensures in_range { All (IsWithin I.least I.greatest) (points_of I.value result.points.items) }
+    requires in_range { All (IsWithin I.least I.greatest) points.items }
+    ensures is { (links : List Border) → IsTold output links points.items →
+        contour_of I.value result ≡ part_of output links points.items }
+    ensures in_range { All (IsWithin I.least I.greatest) result.points.items }
 {
     let mut points = points;
     begin_before_least(&mut points);
@@ -135,8 +134,8 @@ fn part_of<I: OverlayInt>(output: bool, points: Vec<IntPoint<I>>) -> Contour<I>
 
 // Whether the region is below the anchor of a loop that begins with the point before its least and doesn't come back there.
 fn is_hole<I: OverlayInt>(output: bool, points: &[IntPoint<I>]) -> bool
-    requires in_range { All (IsWithin I.least I.greatest) (points_of I.value points.now) }
-    ensures is { (last v next : Point) (rest : List Point) → points_of I.value points.now ≡ last ∷ v ∷ next ∷ rest →
+    requires in_range { All (IsWithin I.least I.greatest) points.now }
+    ensures is { (last v next : Point) (rest : List Point) → points.now ≡ last ∷ v ∷ next ∷ rest →
         result ≡ told_hole output last v next }
 {
     let n = points.len();
@@ -152,7 +151,7 @@ fn is_hole<I: OverlayInt>(output: bool, points: &[IntPoint<I>]) -> bool
 
 // Whether the region is above the edge of a step that has it on the hand.
 fn is_above_step<I: OverlayInt>(output: bool, from: IntPoint<I>, to: IntPoint<I>) -> bool
-    ensures { result ≡ above_step output (record { a = point_of I.value from; b = point_of I.value to }) }
+    ensures { result ≡ above_step output (record { a = from; b = to }) }
 {
     let is_forward = comes_before(from, to);
     if output { !is_forward } else { is_forward }
@@ -160,7 +159,7 @@ fn is_above_step<I: OverlayInt>(output: bool, from: IntPoint<I>, to: IntPoint<I>
 
 // Begins a contour with its second point, or leaves it as it is.
 fn begin<I: OverlayInt>(second: bool, points: &mut Vec<IntPoint<I>>)
-    ensures { points_of I.value points.new.items ≡ begun second (points_of I.value points.old.items) }
+    ensures { points.new.items ≡ begun second points.old.items }
 {
     if second && !points.is_empty() {
         points.rotate_left(1);
@@ -169,10 +168,10 @@ fn begin<I: OverlayInt>(second: bool, points: &mut Vec<IntPoint<I>>)
 
 // Begins a contour with the point before its least.
 fn begin_before_least<I: OverlayInt>(points: &mut Vec<IntPoint<I>>)
-    ensures is { (v : Point) (i : ℕ) → least_point (points_of I.value points.old.items) ≡ Some v → place_of v (points_of I.value points.old.items) ≡ Some i →
-        points_of I.value points.new.items ≡ last_first (least_first (points_of I.value points.old.items)) }
-    ensures in_range { All (IsWithin I.least I.greatest) (points_of I.value points.old.items) →
-        All (IsWithin I.least I.greatest) (points_of I.value points.new.items) }
+    ensures is { (v : Point) (i : ℕ) → least_point points.old.items ≡ Some v → place_of v points.old.items ≡ Some i →
+        points.new.items ≡ last_first (least_first points.old.items) }
+    ensures in_range { All (IsWithin I.least I.greatest) points.old.items →
+        All (IsWithin I.least I.greatest) points.new.items }
 {
     let Some(least) = least_point(points) else {
         return;
@@ -189,7 +188,7 @@ fn begin_before_least<I: OverlayInt>(points: &mut Vec<IntPoint<I>>)
 
 // The place at which a point stands first.
 fn place_of<I: OverlayInt>(points: &[IntPoint<I>], point: IntPoint<I>) -> Option<usize>
-    ensures is { result ≡ place_of (point_of I.value point) (points_of I.value points.now) }
+    ensures is { result ≡ place_of point points.now }
     ensures within { IfSome result (λ place. place < length points.now) }
 {
     for place in 0..points.len() {

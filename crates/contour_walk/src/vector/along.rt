@@ -3,11 +3,10 @@
 //! A step begins at the node at which the step before ended, so its link is one of the few at that node. Where there are many, and at a contour's first step,
 //! it is found among all links by binary search: of n links in log n steps.
 
-ghost use Rattle.std.specs.Prelude.{◌≡◌, ◌<◌, Bool, true, List, All, Contains, IfOk, IfSome, IsOkUnless, length, map, slice_index_or};
-ghost use Rattle.plane_base.specs.Plane.{Edge, edge_order};
+ghost use Rattle.std.specs.Prelude.{◌≡◌, ◌<◌, true, All, Contains, IfOk, IfSome, IsOkUnless, length, map, slice_index_or};
+ghost use Rattle.plane_base.specs.Plane.{edge_order};
 ghost use Rattle.plane_base.specs.GivenViews.{contours_of};
 ghost use Rattle.plane_base.specs.Segments.{IsEdgeWithin};
-ghost use Rattle.plane_base.specs.Views.{point_of, points_of};
 ghost use Rattle.segment_split.specs.Data.{MayBeTurned};
 ghost use Rattle.segment_arrangement.specs.LinkViews.{link_edge_of, overlay_link_of};
 ghost use Rattle.contour_walk.specs.LinearViews.{link_edges};
@@ -93,9 +92,9 @@ fn vector_path<I: OverlayInt, D: OverlayEdgeData<ShapeCountBoolean>>(
 ) -> Result<Vec<DataVectorEdge<I, D>>, Fault>
     requires rising { LinksRise I.value links.now }
     requires in_range { All (λ l. IsEdgeWithin I.least I.greatest (link_edge_of I.value l)) links.now }
-    requires linked { AreLinked I.value links.now (points_of I.value points.now) }
+    requires linked { AreLinked I.value links.now points.now }
     ensures is { IfOk result (λ edges. map (vector_of I.value) edges.items
-        ≡ vector_contour (map (overlay_link_of I.value) links.now) (points_of I.value points.now)) }
+        ≡ vector_contour (map (overlay_link_of I.value) links.now) points.now) }
     ensures of_links { IfOk result (λ edges. All (IsOfLink I.value I.least I.greatest (MayBeTurned D.JOINS D.turns_to) links.now) edges.items) }
     ensures memory { IsOkUnless result Fault.Memory }
 {
@@ -126,9 +125,9 @@ fn vector_along<I: OverlayInt, D: OverlayEdgeData<ShapeCountBoolean>>(
 ) -> DataVectorEdge<I, D>
     requires rising { LinksRise I.value links.now }
     requires in_range { All (λ l. IsEdgeWithin I.least I.greatest (link_edge_of I.value l)) links.now }
-    requires linked { IsLinked I.value links.now (record { a = point_of I.value a; b = point_of I.value b }) }
+    requires linked { IsLinked I.value links.now (record { a = a; b = b }) }
     ensures is { vector_of I.value result
-        ≡ vector_along (map (overlay_link_of I.value) links.now) (record { a = point_of I.value a; b = point_of I.value b }) }
+        ≡ vector_along (map (overlay_link_of I.value) links.now) (record { a = a; b = b }) }
     ensures of_link { IsOfLink I.value I.least I.greatest (MayBeTurned D.JOINS D.turns_to) links.now result }
 {
     if comes_before(b, a) {
@@ -160,10 +159,10 @@ fn place_near<I: OverlayInt, D>(
     b: IntPoint<I>,
 ) -> usize
     requires rising { LinksRise I.value links.now }
-    requires there { Contains (link_edges I.value links.now) (record { a = point_of I.value a; b = point_of I.value b }) }
+    requires there { Contains (link_edges I.value links.now) (record { a = a; b = b }) }
     ensures within { result < length links.now }
     ensures is { (l : OverlayLink I D) → link_edge_of I.value (slice_index_or links.now result l)
-        ≡ record { a = point_of I.value a; b = point_of I.value b } }
+        ≡ record { a = a; b = b } }
 {
     let Some(place) = place_among(links, few_places_at(nodes, at), a, b) else {
         return place_of_link(links, a, b);
@@ -192,7 +191,7 @@ fn place_among<I: OverlayInt, D>(
 ) -> Option<usize>
     ensures within { IfSome result (λ place. place < length links.now) }
     ensures is { IfSome result (λ place. (l : OverlayLink I D) → link_edge_of I.value (slice_index_or links.now place l)
-        ≡ record { a = point_of I.value a; b = point_of I.value b }) }
+        ≡ record { a = a; b = b }) }
 {
     for number in 0..places.len() {
         let place = places[number];
@@ -212,7 +211,7 @@ fn is_along<I: OverlayInt, D>(
 ) -> bool
     ensures within { result ≡ true → place < length links.now }
     ensures is { result ≡ true → (l : OverlayLink I D) → link_edge_of I.value (slice_index_or links.now place l)
-        ≡ record { a = point_of I.value a; b = point_of I.value b } }
+        ≡ record { a = a; b = b } }
 {
     if place >= links.len() {
         return false;
@@ -231,10 +230,10 @@ fn place_of_link<I: OverlayInt, D>(
     b: IntPoint<I>,
 ) -> usize
     requires rising { LinksRise I.value links.now }
-    requires there { Contains (link_edges I.value links.now) (record { a = point_of I.value a; b = point_of I.value b }) }
+    requires there { Contains (link_edges I.value links.now) (record { a = a; b = b }) }
     ensures within { result < length links.now }
     ensures is { (l : OverlayLink I D) → link_edge_of I.value (slice_index_or links.now result l)
-        ≡ record { a = point_of I.value a; b = point_of I.value b } }
+        ≡ record { a = a; b = b } }
 {
     match links.binary_search_by(|link: &OverlayLink<I, D>| order_to(link, a, b)) {
         Ok(place) => place,
@@ -244,7 +243,7 @@ fn place_of_link<I: OverlayInt, D>(
 
 // How the link stands to the edge of these points, by its lesser end and then by its greater one.
 fn order_to<I: OverlayInt, D>(link: &OverlayLink<I, D>, a: IntPoint<I>, b: IntPoint<I>) -> Ordering
-    ensures { result ≡ edge_order (link_edge_of I.value link.now) (record { a = point_of I.value a; b = point_of I.value b }) }
+    ensures { result ≡ edge_order (link_edge_of I.value link.now) (record { a = a; b = b }) }
 {
     let by_start = link.a.point.cmp(&a);
     if by_start.is_ne() {

@@ -14,7 +14,7 @@ ghost use Rattle.contour_walk.specs.Vectors.{edges_of_shapes, AreLeft};
 
 use crate::vector::edge::{DataVectorEdge, DataVectorPath, DataVectorShape};
 use plane_base::fault::Fault;
-use plane_base::int::{OverlayInt, WideIntNumber};
+use plane_base::int::{IntNumber, OverlayInt, WideIntNumber};
 use plane_base::orientation::difference;
 
 /// Edges in paths, of which some may be joined.
@@ -95,7 +95,7 @@ fn simplify_paths<I: OverlayInt, D: Copy + PartialEq>(paths: &mut [DataVectorPat
 }
 
 // Drops the empty paths, and all of them where the first is empty.
-fn drop_empty<I: Copy, D: Copy>(paths: &mut Vec<DataVectorPath<I, D>>)
+fn drop_empty<I: IntNumber, D: Copy>(paths: &mut Vec<DataVectorPath<I, D>>)
     ensures { edges_of_paths paths.new.items ≡ without_empty (edges_of_paths paths.old.items) }
 {
     if paths.is_empty() || paths[0].edges.is_empty() {
@@ -234,7 +234,7 @@ fn are_on_one_line<I: OverlayInt, D>(
 }
 
 // The edge from the start of the first to the end of the second, with the fill and the datum of the second.
-fn joined_edge<I: Copy, D: Copy>(
+fn joined_edge<I: IntNumber, D: Copy>(
     first: &DataVectorEdge<I, D>,
     second: &DataVectorEdge<I, D>,
 ) -> DataVectorEdge<I, D>

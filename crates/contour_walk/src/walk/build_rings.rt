@@ -3,7 +3,6 @@
 
 ghost use Rattle.std.specs.Prelude.{◌≡◌, ℕ, ◌+◌, ◌<◌, ◌≤◌, length, slice_index_or, IfOk, IfSome, OnOk, IsOkUnless};
 ghost use Rattle.plane_base.specs.Plane.{IsWithin};
-ghost use Rattle.plane_base.specs.Views.{point_of};
 ghost use Rattle.segment_arrangement.specs.Graphs.{ends_of};
 ghost use Rattle.segment_arrangement.specs.LinkViews.{IsNumbered};
 ghost use Rattle.contour_walk.specs.LinearViews.{link_edges, IsWalkable};
@@ -13,7 +12,7 @@ use crate::walk::rings::{Ring, Rings};
 use crate::walk::spoke::{places_at, places_of};
 use crate::walk::spokes::Spokes;
 use plane_base::fault::Fault;
-use plane_base::int::OverlayInt;
+use plane_base::int::{IntNumber, OverlayInt};
 use plane_base::segment::IdPoint;
 use segment_arrangement::graph::{OverlayGraph, VisitState};
 use std::alloc::Global;
@@ -97,7 +96,7 @@ fn add_ring<I: OverlayInt, D>(
 }
 
 // Writes down the places of a ring's links.
-fn note_places<I>(ring: &Ring<I>, of_starts: &mut [usize], of_ends: &mut [usize]) {
+fn note_places<I: IntNumber>(ring: &Ring<I>, of_starts: &mut [usize], of_ends: &mut [usize]) {
     for i in 0..ring.spokes.len() {
         if i < ring.starts {
             note(of_starts, ring.spokes[i].place, i);
@@ -124,7 +123,7 @@ fn ring_of<I: OverlayInt, D>(
     requires graph { IsWalkable I.value I.least I.greatest graph.now.links.now graph.now.nodes.now }
     requires beside { length states.now ≡ length graph.now.links.now }
     requires numbered { IsNumbered I.value (ends_of (link_edges I.value graph.now.links.now)) at }
-    requires at_in_range { IsWithin I.least I.greatest (point_of I.value at.point) }
+    requires at_in_range { IsWithin I.least I.greatest at.point }
     ensures is { IfOk result (λ ring. IfSome ring (IsRing I.value (link_edges I.value graph.now.links.now) states.now)) }
     ensures memory { IsOkUnless result Fault.Memory }
 {

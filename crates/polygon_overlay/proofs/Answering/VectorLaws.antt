@@ -12,7 +12,7 @@ use Rattle.plane_base.specs.SegmentViews.{edge_of}
 use Rattle.plane_base.specs.Views.{point_of}
 use Rattle.segment_split.specs.Data.{without_data, data_entry_of, data_entries_of, HasDatum}
 use Rattle.segment_split.specs.SegmentViews.{entry_of, entries_of}
-use Rattle.segment_split.specs.declared.segment.Segment.{Segment}
+use Rattle.segment_split.specs.SegmentParts.{Segment}
 use Rattle.segment_arrangement.specs.Collecting.{bounding}
 use Rattle.segment_arrangement.specs.EdgeSides.{fill_of, is_boundary}
 use Rattle.segment_arrangement.specs.Graphs.{Link, link_of, boundary_links}
@@ -93,18 +93,18 @@ bare_listed value [] = refl
 bare_listed value (l ∷ ls) = ap (λ (rest : List VectorEdge). along (overlay_link_of value l) ∷ rest) (bare_listed value ls)
 
 -- a map without its data
-pub data_apart : {I D : Type 0} {order equality part : _} (value : I → ℤ) (ss : List (Segment Count I D order equality part))
+pub data_apart : {I D : Type 0} (value : I → ℤ) (ss : List (Segment Count D))
     → without_data (data_entries_of value ss) ≡ entries_of value ss
 data_apart value [] = refl
 data_apart value (s ∷ ss) = ap (λ (es : List (Entry Count)). entry_of value s ∷ es) (data_apart value ss)
 
-module _ {I D : Type 0} {order equality part : _} (value : I → ℤ) (fill : FillRule) (rule : OverlayRule) (ss : List (Segment Count I D order equality part))
+module _ {I D : Type 0} (value : I → ℤ) (fill : FillRule) (rule : OverlayRule) (ss : List (Segment Count D))
     (ls : List (OverlayLink I D)) (links : map (overlay_link_of value) ls ≡ boundary_links fill rule (entries_of value ss))
     (carries : map (λ l. l.datum) ls ≡ map (λ s. s.datum) (bounding value fill rule ss)) where
-  abbrev of_segment : Segment Count I D order equality part → Link
+  abbrev of_segment : Segment Count D → Link
   of_segment s = link_of fill (entries_of value ss) (entry_of value s)
 
-  abbrev kept : List (Segment Count I D order equality part)
+  abbrev kept : List (Segment Count D)
   kept = bounding value fill rule ss
 
   of_kept : map (overlay_link_of value) ls ≡ map of_segment kept
@@ -113,7 +113,7 @@ module _ {I D : Type 0} {order equality part : _} (value : I → ℤ) (fill : Fi
       ∙ (ap (map (link_of fill (entries_of value ss))) (sym (filter_mapped (entry_of value) (is_boundary fill rule (entries_of value ss)) ss))
       ∙ map_twice (link_of fill (entries_of value ss)) (entry_of value) kept)
 
-  abbrev of_pair : Segment Count I D order equality part → Link × D
+  abbrev of_pair : Segment Count D → Link × D
   of_pair s = (of_segment s, s.datum)
 
   pairs : map (link_parts value) ls ≡ map of_pair kept

@@ -237,7 +237,7 @@ located_more f inside xs i x l at found is b told =
 -- ---- shapes copied
 
 module _ {I : Type 0} (value : I → ℤ) where
-  points_by_copy : (shapes : List (IntShape I)) → shapes_of value shapes ≡ map (map (points_of value)) (map (λ (s : IntShape I). map (λ (c : IntPath I). c.points.items) s.contours.items) shapes)
+  points_by_copy : (shapes : List (IntShape I)) → shapes_of value shapes ≡ (map (λ (s : IntShape I). map (λ (c : IntPath I). c.points.items) s.contours.items) shapes)
   points_by_copy shapes =
       sym (map_map (λ (s : IntShape I). map (λ (c : IntPath I). c.points.items) s.contours.items) (map (points_of value)) (λ (s : IntShape I). contours_of value s.contours.items)
       (λ s. map_map (λ (c : IntPath I). c.points.items) (points_of value) (λ (c : IntPath I). points_of value c.points.items) (λ c. refl) s.contours.items) shapes)
@@ -245,4 +245,4 @@ module _ {I : Type 0} (value : I → ℤ) where
   -- a copy has the same points
   pub shapes_cloned : (old new : List (IntShape I)) → map (λ (s : IntShape I). map (λ (c : IntPath I). c.points.items) s.contours.items) new
       ≡ map (λ (s : IntShape I). map (λ (c : IntPath I). c.points.items) s.contours.items) old → shapes_of value new ≡ shapes_of value old
-  shapes_cloned old new same = points_by_copy new ∙ (ap (map (map (points_of value))) same ∙ sym (points_by_copy old))
+  shapes_cloned old new same = points_by_copy new ∙ (same ∙ sym (points_by_copy old))

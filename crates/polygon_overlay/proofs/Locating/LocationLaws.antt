@@ -24,7 +24,6 @@ use Rattle.plane_base.specs.Views.{point_of, points_of}
 use Rattle.plane_base.specs.Windings.{path_winding}
 use Rattle.plane_base.specs.declared.path.IntPath.{IntPath}
 use Rattle.plane_base.specs.declared.path.IntShape.{IntShape}
-use Rattle.plane_base.specs.declared.point.IntPoint.{IntPoint}
 use Rattle.plane_base.proofs.Facts.Crossings.Parted.{parted_swapped}
 use Rattle.plane_base.proofs.Facts.Points.Orders.{point_less_x, before_is_less, point_less_by_x}
 use Rattle.plane_base.proofs.Facts.Points.Turns.{side_of_whole}
@@ -374,7 +373,7 @@ module _ {I : Type 0} (value : I → ℤ) where
 
   -- ---- queries of given points
 
-  pub located_answer : (cs : List (List Point)) (points : List (IntPoint I)) (qs : List (QueryPoint I)) → AnswerEach points qs → AnswerEach points (map (located value cs) qs)
+  pub located_answer : (cs : List (List Point)) (points : List Point) (qs : List (QueryPoint I)) → AnswerEach points qs → AnswerEach points (map (located value cs) qs)
   located_answer cs points qs h =
       subst (IsPermutation (all_asked 0 points))
       (sym (map_map (located value cs) (λ (q : QueryPoint I). asked q.index q.point) (λ (q : QueryPoint I). asked q.index q.point) (λ q. refl) qs)) h
@@ -441,15 +440,15 @@ module _ (P : List Point → Type 0) where
 -- ---- queries by rising columns
 
 module _ {I : Type 0} (value : I → ℤ) where
-  pub by_column : IsStrictWeakOrder (λ (q r : QueryPoint I). int_lt (value q.point.x) (value r.point.x))
+  pub by_column : IsStrictWeakOrder (λ (q r : QueryPoint I). int_lt q.point.x (value r.point.x))
   by_column = record { one_way = λ q r l. grind (arith, ints, l); chain = λ q r s l m. grind (arith, ints, l, m) }
 
   pub rises : (qs : List (QueryPoint I)) → ((i j : ℕ) (d : QueryPoint I) → i ≤ j → j < length qs → int_lt (value (get_or qs j d).point.x) (value (get_or qs i d).point.x) ≡ false)
-      → AllPairs (λ q r. value q.point.x ≤ℤ value r.point.x) qs
+      → AllPairs (λ q r. q.point.x ≤ℤ value r.point.x) qs
   rises qs sorted i j d l m = lt_tells_not (value (get_or qs j d).point.x) (value (get_or qs i d).point.x) (sorted i j d (omega (arith, l)) m)
 
   -- those left of a column come first
-  pub parted_by_column : (x : ℤ) (qs : List (QueryPoint I)) → AllPairs (λ q r. value q.point.x ≤ℤ value r.point.x) qs → IsPartitionedBy (λ (q : QueryPoint I). int_lt (value q.point.x) x) qs
+  pub parted_by_column : (x : ℤ) (qs : List (QueryPoint I)) → AllPairs (λ q r. q.point.x ≤ℤ value r.point.x) qs → IsPartitionedBy (λ (q : QueryPoint I). int_lt q.point.x x) qs
   parted_by_column x qs rising i j d l m left = by (lt_or_ge i j)
     where
       further : (a b : ℤ) → a ≤ℤ b → int_lt b x ≡ true → int_lt a x ≡ true
@@ -486,7 +485,7 @@ not_not true false e = refl
 not_not false true e = refl
 not_not false false e = absurd (false≢true e)
 
-module _ {I : Type 0} (value : I → ℤ) (s : Edge) (q : QueryPoint I) (from : s.a.x ≤ℤ value q.point.x) (up_to : value q.point.x <ℤ s.b.x) (o : Ordering) (is : o ≡ int_cmp (turn s.a s.b (point_of value q.point)) (pos 0)) where
+module _ {I : Type 0} (value : I → ℤ) (s : Edge) (q : QueryPoint I) (from : s.a.x ≤ℤ q.point.x) (up_to : q.point.x <ℤ s.b.x) (o : Ordering) (is : o ≡ int_cmp (turn s.a s.b (point_of value q.point)) (pos 0)) where
   told : (b : Bool) → b ≡ is_le o → are_odd_below (s ∷ []) (place_of value q) ≡ not b
   told b e =
       differ_false (is_below s.a s.b (place_of value q))
@@ -504,15 +503,15 @@ module _ {I : Type 0} (value : I → ℤ) (s : Edge) (q : QueryPoint I) where
   beside : is_below s.a s.b (place_of value q) ≡ false → passed value (s ∷ []) q ≡ q
   beside e = ap (λ b. record q { is_odd = differ q.is_odd (differ b false) }) e ∙ ap (λ b. record q { is_odd = b }) (differ_false q.is_odd)
 
-  pub left_of : value q.point.x <ℤ s.a.x → passed value (s ∷ []) q ≡ q
+  pub left_of : q.point.x <ℤ s.a.x → passed value (s ∷ []) q ≡ q
   left_of l =
-      let from : int_le (pos 1 *ℤ s.a.x) (value q.point.x) ≡ false = grind (arith, ints, l) in
-      beside (ap (λ b. (b && int_lt (value q.point.x) (pos 1 *ℤ s.b.x)) && int_lt (pos 0) (side s.a s.b (place_of value q))) from)
+      let from : int_le (pos 1 *ℤ s.a.x) q.point.x ≡ false = grind (arith, ints, l) in
+      beside (ap (λ b. (b && int_lt q.point.x (pos 1 *ℤ s.b.x)) && int_lt (pos 0) (side s.a s.b (place_of value q))) from)
 
-  pub right_of : s.b.x ≤ℤ value q.point.x → passed value (s ∷ []) q ≡ q
+  pub right_of : s.b.x ≤ℤ q.point.x → passed value (s ∷ []) q ≡ q
   right_of l =
-      let up_to : int_lt (value q.point.x) (pos 1 *ℤ s.b.x) ≡ false = grind (arith, ints, l) in
-      beside (ap (λ b. (int_le (pos 1 *ℤ s.a.x) (value q.point.x) && b) && int_lt (pos 0) (side s.a s.b (place_of value q))) up_to ∙ never (int_le (pos 1 *ℤ s.a.x) (value q.point.x)))
+      let up_to : int_lt q.point.x (pos 1 *ℤ s.b.x) ≡ false = grind (arith, ints, l) in
+      beside (ap (λ b. (int_le (pos 1 *ℤ s.a.x) q.point.x && b) && int_lt (pos 0) (side s.a s.b (place_of value q))) up_to ∙ never (int_le (pos 1 *ℤ s.a.x) q.point.x))
     where
       never : (b : Bool) → (b && false) && int_lt (pos 0) (side s.a s.b (place_of value q)) ≡ false
       never true = refl
@@ -543,48 +542,48 @@ some_element [] i l = absurd (omega (arith, l))
 some_element (x ∷ xs) i l = x
 
 module _ {I : Type 0} where
-  pub all_asked_push : (n : ℕ) (ps : List (IntPoint I)) (p : IntPoint I) → all_asked n (ps ++ p ∷ []) ≡ all_asked n ps ++ asked (n + length ps) p ∷ []
+  pub all_asked_push : (n : ℕ) (ps : List Point) (p : Point) → all_asked n (ps ++ p ∷ []) ≡ all_asked n ps ++ asked (n + length ps) p ∷ []
   all_asked_push n [] p = ap (λ k. asked k p ∷ []) (let e : n ≡ n + 0 = omega arith in e)
   all_asked_push n (r ∷ ps) p =
       ap (λ qs. asked n r ∷ qs) (all_asked_push (suc n) ps p ∙ ap (λ k. all_asked (suc n) ps ++ asked k p ∷ []) (let e : suc n + length ps ≡ n + suc (length ps) = omega arith in e))
 
-  pub asked_more : (ps : List (IntPoint I)) (i : ℕ) (p : IntPoint I) → i < length ps → p ≡ get_or ps i p → all_asked 0 (take (i + 1) ps) ≡ all_asked 0 (take i ps) ++ asked i p ∷ []
+  pub asked_more : (ps : List Point) (i : ℕ) (p : Point) → i < length ps → p ≡ get_or ps i p → all_asked 0 (take (i + 1) ps) ≡ all_asked 0 (take i ps) ++ asked i p ∷ []
   asked_more ps i p l at =
       ap (all_asked 0) (take_more ps i p l ∙ ap (λ r. take i ps ++ r ∷ []) (sym at))
       ∙ (all_asked_push 0 (take i ps) p ∙ ap (λ k. all_asked 0 (take i ps) ++ asked k p ∷ []) (let e = length-take i ps in let f : 0 + length (take i ps) ≡ i = omega (arith, e, l) in f))
 
-  length-all_asked : (n : ℕ) (ps : List (IntPoint I)) → length (all_asked n ps) ≡ length ps
+  length-all_asked : (n : ℕ) (ps : List Point) → length (all_asked n ps) ≡ length ps
   length-all_asked n [] = refl
   length-all_asked n (p ∷ ps) = ap suc (length-all_asked (suc n) ps)
 
-  asked_at : (n : ℕ) (ps : List (IntPoint I)) (k : ℕ) (d : QueryPoint I) (p : IntPoint I) → k < length ps → get_or (all_asked n ps) k d ≡ asked (n + k) (get_or ps k p)
+  asked_at : (n : ℕ) (ps : List Point) (k : ℕ) (d : QueryPoint I) (p : Point) → k < length ps → get_or (all_asked n ps) k d ≡ asked (n + k) (get_or ps k p)
   asked_at n [] k d p l = absurd (omega (arith, l))
   asked_at n (r ∷ ps) zero d p l = ap (λ k. asked k r) (let e : n ≡ n + 0 = omega arith in e)
   asked_at n (r ∷ ps) (suc k) d p l = asked_at (suc n) ps k d p (omega (arith, l)) ∙ ap (λ j. asked j (get_or ps k p)) (let e : suc n + k ≡ n + suc k = omega arith in e)
 
-  asked_first : (ps : List (IntPoint I)) (k : ℕ) (d : QueryPoint I) (p : IntPoint I) → k < length ps → get_or (all_asked 0 ps) k d ≡ asked k (get_or ps k p)
+  asked_first : (ps : List Point) (k : ℕ) (d : QueryPoint I) (p : Point) → k < length ps → get_or (all_asked 0 ps) k d ≡ asked k (get_or ps k p)
   asked_first ps k d p l = asked_at 0 ps k d p l ∙ ap (λ j. asked j (get_or ps k p)) (let e : 0 + k ≡ k = omega arith in e)
 
   -- what holds of each query of the points
-  pub all_asked_hold : (P : QueryPoint I → Type 0) (ps : List (IntPoint I)) → ((k : ℕ) (e : IntPoint I) → k < length ps → P (asked k (get_or ps k e))) → All P (all_asked 0 ps)
+  pub all_asked_hold : (P : QueryPoint I → Type 0) (ps : List Point) → ((k : ℕ) (e : Point) → k < length ps → P (asked k (get_or ps k e))) → All P (all_asked 0 ps)
   all_asked_hold P ps h k d l =
       let within : k < length ps = omega (arith, l, length-all_asked 0 ps) in
       let e = some_element ps k within in
       subst P (sym (asked_first ps k d e within)) (h k e within)
 
-  asked_again : (n : ℕ) (ps : List (IntPoint I)) → map (λ (q : QueryPoint I). asked q.index q.point) (all_asked n ps) ≡ all_asked n ps
+  asked_again : (n : ℕ) (ps : List Point) → map (λ (q : QueryPoint I). asked q.index q.point) (all_asked n ps) ≡ all_asked n ps
   asked_again n [] = refl
   asked_again n (p ∷ ps) = ap (λ qs. asked n p ∷ qs) (asked_again (suc n) ps)
 
-  pub answer_from : (ps : List (IntPoint I)) (qs : List (QueryPoint I)) → IsPermutation (all_asked 0 ps) qs → AnswerEach ps qs
+  pub answer_from : (ps : List Point) (qs : List (QueryPoint I)) → IsPermutation (all_asked 0 ps) qs → AnswerEach ps qs
   answer_from ps qs moved =
       subst (λ l. IsPermutation l (map (λ (q : QueryPoint I). asked q.index q.point) qs)) (asked_again 0 ps) (IsPermutation-map (λ (q : QueryPoint I). asked q.index q.point) (all_asked 0 ps) qs moved)
 
-  module _ (ps : List (IntPoint I)) (qs : List (QueryPoint I)) (each : AnswerEach ps qs) where
+  module _ (ps : List Point) (qs : List (QueryPoint I)) (each : AnswerEach ps qs) where
     -- each query is that of the point at its index
     record IsOwn (q : QueryPoint I) : Type 0 where
       index : q.index < length ps
-      point : (e : IntPoint I) → q.point ≡ get_or ps q.index e
+      point : (e : Point) → q.point ≡ get_or ps q.index e
 
     own : (k : ℕ) (d : QueryPoint I) → k < length qs → IsOwn (get_or qs k d)
     own k d l =
@@ -661,7 +660,7 @@ module _ {I : Type 0} where
               ∙ sym (get_or-map (λ r. inside (whole r)) (points_of value ps) n (point_of value p) false (omega (arith, l, length-map ps (point_of value)))
               ∙ ap (λ r. inside (whole r)) (get_or-map (point_of value) ps n p (point_of value p) l))))
 
-pub asked_within : {I : Type 0} (value : I → ℤ) (least greatest : ℤ) (ps : List (IntPoint I)) → All (IsWithin least greatest) (points_of value ps) → All (λ (q : QueryPoint I). IsWithin least greatest (point_of value q.point)) (all_asked 0 ps)
+pub asked_within : {I : Type 0} (value : I → ℤ) (least greatest : ℤ) (ps : List Point) → All (IsWithin least greatest) (points_of value ps) → All (λ (q : QueryPoint I). IsWithin least greatest (point_of value q.point)) (all_asked 0 ps)
 asked_within value least greatest ps all =
     all_asked_hold (λ q. IsWithin least greatest (point_of value q.point)) ps
     (λ k e l. subst (IsWithin least greatest) (get_or-map (point_of value) ps k e (point_of value e) l) (all k (point_of value e) (omega (arith, l, length-map ps (point_of value)))))
@@ -669,7 +668,7 @@ asked_within value least greatest ps all =
 -- ---- what is found
 
 module _ {I : Type 0} (value : I → ℤ) where
-  pub none_found : (ps : List (IntPoint I)) (qs : List (QueryPoint I)) → IsPermutation (all_asked 0 ps) qs → AreFound value (λ _. false) qs
+  pub none_found : (ps : List Point) (qs : List (QueryPoint I)) → IsPermutation (all_asked 0 ps) qs → AreFound value (λ _. false) qs
   none_found ps qs moved =
       All-permutation (λ q. (q.is_odd ≡ false) × (q.is_found ≡ false)) (all_asked 0 ps) qs moved
       (all_asked_hold (λ q. (q.is_odd ≡ false) × (q.is_found ≡ false)) ps (λ k e l. (refl, refl)))
@@ -707,7 +706,7 @@ located_from contours inside points answers is = record {
 
 -- ---- a call, from its points to its answers
 
-module _ {I : Type 0} (least greatest : ℤ) (value : I → ℤ) (points : List (IntPoint I)) where
+module _ {I : Type 0} (least greatest : ℤ) (value : I → ℤ) (points : List Point) where
   -- the queries of the points, and what was found so far
   pub record IsUnderWay (inside : RationalPoint → Bool) (qs : List (QueryPoint I)) : Type 0 where
     pub each : AnswerEach points qs

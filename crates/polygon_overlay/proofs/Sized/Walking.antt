@@ -93,6 +93,6 @@ module _ {X Y : Type 0} (P : Y → Type 0) (f : List X → Y) (shapes : List (Li
 
 -- the paths of a shape are its contours
 pub paths_are_contours : {I : Type 0} (value : I → ℤ) (contours : List (IntPath I))
-    → map (points_of value) (map (λ (c : IntPath I). c.points.items) contours) ≡ given.contours_of value contours
+    → (map (λ (c : IntPath I). c.points.items) contours) ≡ given.contours_of value contours
 paths_are_contours value [] = refl
 paths_are_contours value (c ∷ cs) = ap (λ ps. points_of value c.points.items ∷ ps) (paths_are_contours value cs)

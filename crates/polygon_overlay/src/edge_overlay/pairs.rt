@@ -1,7 +1,5 @@
 //! The ends of the edges that are held, one edge after another: an iterator that takes no memory.
 
-ghost use Rattle.std.specs.Prelude.{List};
-ghost use Rattle.plane_base.specs.Plane.{Point};
 
 use plane_base::int::OverlayInt;
 use plane_base::point::IntPoint;

@@ -9,7 +9,6 @@ ghost use Rattle.plane_base.specs.Counts.{Count, Entry, boolean};
 ghost use Rattle.plane_base.specs.Regions.{Subject};
 ghost use Rattle.plane_base.specs.Flat.{parts};
 ghost use Rattle.plane_base.specs.PathViews.{paths_of_shape, paths_of_shapes};
-ghost use Rattle.plane_base.specs.Views.{points_of};
 ghost use Rattle.segment_arrangement.specs.RuleViews.{fill_rule_of};
 ghost use Rattle.segment_arrangement.specs.SideLaws.{IsArrangement};
 ghost use Rattle.segment_split.specs.Redrawing.{IsChanged};
@@ -54,9 +53,9 @@ impl<I: OverlayInt> Overlay<I> {
         contour: &[IntPoint<I>],
         fill_rule: FillRule,
     ) -> Result<Option<IntShapes<I>>, Fault>
-        requires in_range { All (IsWithin I.least I.greatest) (points_of I.value contour.now) }
-        ensures { Simplifies (points_of I.value contour.now ∷ []) (λ held found. IsSimplified I.least I.greatest self.old.options (fill_rule_of fill_rule)
-            self.old.solver.precision (points_of I.value contour.now ∷ []) held (shapes_if_any I.value found)) self.old self.new result }
+        requires in_range { All (IsWithin I.least I.greatest) contour.now }
+        ensures { Simplifies (contour.now ∷ []) (λ held found. IsSimplified I.least I.greatest self.old.options (fill_rule_of fill_rule)
+            self.old.solver.precision (contour.now ∷ []) held (shapes_if_any I.value found)) self.old self.new result }
     {
         match self.contour_simplified(contour, fill_rule) {
             Ok(found) => Ok(found),
@@ -168,9 +167,9 @@ impl<I: OverlayInt> Overlay<I> {
         contour: &[IntPoint<I>],
         fill_rule: FillRule,
     ) -> Result<Option<IntShapes<I>>, Fault>
-        requires in_range { All (IsWithin I.least I.greatest) (points_of I.value contour.now) }
-        ensures { FindsSimplified (points_of I.value contour.now ∷ []) (λ held found. IsSimplified I.least I.greatest self.old.options
-            (fill_rule_of fill_rule) self.old.solver.precision (points_of I.value contour.now ∷ []) held (shapes_if_any I.value found))
+        requires in_range { All (IsWithin I.least I.greatest) contour.now }
+        ensures { FindsSimplified (contour.now ∷ []) (λ held found. IsSimplified I.least I.greatest self.old.options
+            (fill_rule_of fill_rule) self.old.solver.precision (contour.now ∷ []) held (shapes_if_any I.value found))
             self.old self.new result }
     {
         if self.is_perfect(contour)? {
@@ -217,9 +216,9 @@ impl<I: OverlayInt> Overlay<I> {
         fill_rule: FillRule,
     ) -> Result<IntShapes<I>, Fault>
         requires least { self.old.options.min_output_area ≡ 0 }
-        requires in_range { All (IsWithin I.least I.greatest) (points_of I.value contour.now) }
-        ensures { FindsSimplified (points_of I.value contour.now ∷ []) (λ held shapes. IsSourceSimplified I.least I.greatest self.old.options
-            (fill_rule_of fill_rule) self.old.solver.precision (points_of I.value contour.now ∷ []) held (shapes_of I.value shapes.shapes.items))
+        requires in_range { All (IsWithin I.least I.greatest) contour.now }
+        ensures { FindsSimplified (contour.now ∷ []) (λ held shapes. IsSourceSimplified I.least I.greatest self.old.options
+            (fill_rule_of fill_rule) self.old.solver.precision (contour.now ∷ []) held (shapes_of I.value shapes.shapes.items))
             self.old self.new result }
     {
         match self.contour_simplified(contour, fill_rule)? {
@@ -301,11 +300,11 @@ impl<I: OverlayInt> Overlay<I> {
     // Holds a contour alone, and redraws it: whether it is perfect. No point was taken out of one whose points differ where as many
     // edges are held as it has points.
     fn is_perfect(&mut self, contour: &[IntPoint<I>]) -> Result<bool, Fault>
-        requires in_range { All (IsWithin I.least I.greatest) (points_of I.value contour.now) }
-        ensures held { FindsSimplified (points_of I.value contour.now ∷ []) (λ held found. IsHeld I.least I.greatest held) self.old self.new result }
+        requires in_range { All (IsWithin I.least I.greatest) contour.now }
+        ensures held { FindsSimplified (contour.now ∷ []) (λ held found. IsHeld I.least I.greatest held) self.old self.new result }
         ensures arrangement { OnOk result (IsArrangement (held_by self.new)) }
         ensures is { IfOk result (λ found. IsTrue found ↔
-            IsPerfect self.old.options.preserve_input_collinear self.old.solver.precision (points_of I.value contour.now)) }
+            IsPerfect self.old.options.preserve_input_collinear self.old.solver.precision contour.now) }
     {
         self.clear();
         self.add_contour(contour, ShapeType::Subject)?;

@@ -1,7 +1,6 @@
 //! Queries whose contours are laid flat: the stages of `query`, without binding holes.
 
-ghost use Rattle.std.specs.Prelude.{◌≡◌, ◌<◌, ◌^◌, List, length, IfErr, OnOk, OnErr};
-ghost use Rattle.plane_base.specs.Counts.{Count, Entry};
+ghost use Rattle.std.specs.Prelude.{◌≡◌, ◌<◌, ◌^◌, length, IfErr, OnOk, OnErr};
 ghost use Rattle.segment_arrangement.specs.SideLaws.{IsArrangement};
 ghost use Rattle.segment_arrangement.specs.RuleViews.{fill_rule_of, overlay_rule_of};
 ghost use Rattle.segment_split.specs.Holdings.{holding, failed};

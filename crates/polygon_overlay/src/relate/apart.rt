@@ -25,9 +25,9 @@ pub fn lie_apart<I: OverlayInt, S: IntShapeResource<I>, C: IntShapeResource<I>>(
 ) -> bool
     requires subj_ready { S.is_ready subj.now }
     requires clip_ready { C.is_ready clip.now }
-    requires subj_in_range { All (All (IsWithin I.least I.greatest)) (map (points_of I.value) (S.paths subj.now)) }
-    requires clip_in_range { All (All (IsWithin I.least I.greatest)) (map (points_of I.value) (C.paths clip.now)) }
-    ensures { result ≡ true → AreDisjoint (map (points_of I.value) (S.paths subj.now)) (map (points_of I.value) (C.paths clip.now)) }
+    requires subj_in_range { All (All (IsWithin I.least I.greatest)) (S.paths subj.now) }
+    requires clip_in_range { All (All (IsWithin I.least I.greatest)) (C.paths clip.now) }
+    ensures { result ≡ true → AreDisjoint (S.paths subj.now) (C.paths clip.now) }
 {
     apart_is_disjoint();
     holding_goes_on();
@@ -91,9 +91,9 @@ fn are_beside<I: OverlayInt, S: IntShapeResource<I>, C: IntShapeResource<I>>(
 ) -> bool
     requires subj_ready { S.is_ready subj.now }
     requires clip_ready { C.is_ready clip.now }
-    requires subj_in_range { All (All (IsWithin I.least I.greatest)) (map (points_of I.value) (S.paths subj.now)) }
-    requires clip_in_range { All (All (IsWithin I.least I.greatest)) (map (points_of I.value) (C.paths clip.now)) }
-    ensures { result ≡ true → LieApart (map (points_of I.value) (S.paths subj.now)) (map (points_of I.value) (C.paths clip.now)) }
+    requires subj_in_range { All (All (IsWithin I.least I.greatest)) (S.paths subj.now) }
+    requires clip_in_range { All (All (IsWithin I.least I.greatest)) (C.paths clip.now) }
+    ensures { result ≡ true → LieApart (S.paths subj.now) (C.paths clip.now) }
 {
     if way < 0 {
         let clip_end = reach_of::<I, ToRight, C>(clip);
@@ -113,9 +113,9 @@ fn are_stacked<I: OverlayInt, S: IntShapeResource<I>, C: IntShapeResource<I>>(
 ) -> bool
     requires subj_ready { S.is_ready subj.now }
     requires clip_ready { C.is_ready clip.now }
-    requires subj_in_range { All (All (IsWithin I.least I.greatest)) (map (points_of I.value) (S.paths subj.now)) }
-    requires clip_in_range { All (All (IsWithin I.least I.greatest)) (map (points_of I.value) (C.paths clip.now)) }
-    ensures { result ≡ true → LieApart (map (points_of I.value) (S.paths subj.now)) (map (points_of I.value) (C.paths clip.now)) }
+    requires subj_in_range { All (All (IsWithin I.least I.greatest)) (S.paths subj.now) }
+    requires clip_in_range { All (All (IsWithin I.least I.greatest)) (C.paths clip.now) }
+    ensures { result ≡ true → LieApart (S.paths subj.now) (C.paths clip.now) }
 {
     if way < 0 {
         let clip_end = reach_of::<I, ToTop, C>(clip);

@@ -1,10 +1,9 @@
 //! Calls that make a builder, that add to it, and that take all out. Each contour is thinned. They take linear time.
 
-ghost use Rattle.std.specs.Prelude.{◌≡◌, List, All};
+ghost use Rattle.std.specs.Prelude.{List, All};
 ghost use Rattle.std.specs.Iterator.{IsFinite, Drains};
-ghost use Rattle.plane_base.specs.Plane.{IsWithin};
+ghost use Rattle.plane_base.specs.Plane.{Point, IsWithin};
 ghost use Rattle.plane_base.specs.Views.{points_of};
-ghost use Rattle.plane_base.specs.declared.point.IntPoint.{IntPoint};
 ghost use Rattle.segment_arrangement.specs.declared.fill_rule.FillRule.TheVariants.{EvenOdd};
 ghost use Rattle.polygon_overlay.specs.Builders.{default_solver};
 
@@ -115,8 +114,8 @@ impl<I: OverlayInt> PredicateOverlay<I> {
         contour: &[IntPoint<I>],
         shape_type: ShapeType,
     ) -> Result<(), Fault>
-        requires in_range { All (IsWithin I.least I.greatest) (points_of I.value contour.now) }
-        ensures { AddsContour shape_type (points_of I.value contour.now) self.old self.new result }
+        requires in_range { All (IsWithin I.least I.greatest) contour.now }
+        ensures { AddsContour shape_type contour.now self.old self.new result }
     {
         self.held
             .add_contour(contour, false, count_of_type(shape_type), ())
@@ -130,7 +129,7 @@ impl<I: OverlayInt> PredicateOverlay<I> {
     ) -> Result<(), Fault>
         requires can { It.can_next iter }
         requires ends { IsFinite (It.remaining iter) }
-        requires in_range { (points : List (IntPoint I)) → Drains It.next_gives iter points → All (IsWithin I.least I.greatest) (points_of I.value points) }
+        requires in_range { (points : List Point) → Drains It.next_gives iter points → All (IsWithin I.least I.greatest) points }
         ensures { AddsPath shape_type (Drains It.next_gives iter) (points_of I.value) self.old self.new result }
     {
         if self.held.has_failed() {

@@ -3,7 +3,7 @@
 
 ghost use Rattle.std.specs.Prelude.{◌≤ℤ◌, ℤ, All, map};
 ghost use Rattle.plane_base.specs.Plane.{Point};
-ghost use Rattle.plane_base.specs.Views.{point_of, points_of};
+ghost use Rattle.plane_base.specs.Views.{points_of};
 
 use crate::point_box::{greater, lesser};
 use plane_base::int::OverlayInt;
@@ -21,7 +21,7 @@ pub(super) trait Side<I: OverlayInt> {
     /// The coordinate, or that of a point which lies beyond it.
     fn farther(reach: I, point: IntPoint<I>) -> I
         ensures kept { (p : Point) → reaches (I.value reach) p → reaches (I.value result) p }
-        ensures within { reaches (I.value result) (point_of I.value point) };
+        ensures within { reaches (I.value result) point };
 }
 
 pub(super) struct ToLeft;
@@ -35,7 +35,7 @@ impl<I: OverlayInt> Side<I> for ToLeft {
 
     fn farther(reach: I, point: IntPoint<I>) -> I
         ensures kept { (p : Point) → I.value reach ≤ℤ p.x → I.value result ≤ℤ p.x }
-        ensures within { I.value result ≤ℤ I.value point.x }
+        ensures within { I.value result ≤ℤ point.x }
     {
         lesser(reach, point.x)
     }
@@ -52,7 +52,7 @@ impl<I: OverlayInt> Side<I> for ToRight {
 
     fn farther(reach: I, point: IntPoint<I>) -> I
         ensures kept { (p : Point) → p.x ≤ℤ I.value reach → p.x ≤ℤ I.value result }
-        ensures within { I.value point.x ≤ℤ I.value result }
+        ensures within { point.x ≤ℤ I.value result }
     {
         greater(reach, point.x)
     }
@@ -69,7 +69,7 @@ impl<I: OverlayInt> Side<I> for ToBottom {
 
     fn farther(reach: I, point: IntPoint<I>) -> I
         ensures kept { (p : Point) → I.value reach ≤ℤ p.y → I.value result ≤ℤ p.y }
-        ensures within { I.value result ≤ℤ I.value point.y }
+        ensures within { I.value result ≤ℤ point.y }
     {
         lesser(reach, point.y)
     }
@@ -86,7 +86,7 @@ impl<I: OverlayInt> Side<I> for ToTop {
 
     fn farther(reach: I, point: IntPoint<I>) -> I
         ensures kept { (p : Point) → p.y ≤ℤ I.value reach → p.y ≤ℤ I.value result }
-        ensures within { I.value point.y ≤ℤ I.value result }
+        ensures within { point.y ≤ℤ I.value result }
     {
         greater(reach, point.y)
     }
@@ -95,7 +95,7 @@ impl<I: OverlayInt> Side<I> for ToTop {
 /// How far the points of a source reach to a side.
 pub(super) fn reach_of<I: OverlayInt, W: Side<I>, R: IntShapeResource<I>>(source: &R) -> I
     requires { R.is_ready source.now }
-    ensures { All (All (W.reaches (I.value result))) (map (points_of I.value) (R.paths source.now)) }
+    ensures { All (All (W.reaches (I.value result))) (R.paths source.now) }
 {
     let mut reach = W::nearest();
     for shape in 0..source.shape_count() {
@@ -109,7 +109,7 @@ pub(super) fn reach_of<I: OverlayInt, W: Side<I>, R: IntShapeResource<I>>(source
 // How far it is with the points of a path more.
 fn reach_with<I: OverlayInt, W: Side<I>>(reach: I, path: &[IntPoint<I>]) -> I
     ensures kept { (p : Point) → W.reaches (I.value reach) p → W.reaches (I.value result) p }
-    ensures within { All (W.reaches (I.value result)) (points_of I.value path.now) }
+    ensures within { All (W.reaches (I.value result)) path.now }
 {
     let mut farthest = reach;
     for point in path {

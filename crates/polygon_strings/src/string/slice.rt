@@ -37,11 +37,11 @@ pub trait IntSlice<I: OverlayInt>: IntShapeResource<I> {
         fill_rule: FillRule,
     ) -> Result<IntShapes<I>, Fault>
         requires ready { Self.is_ready self.now }
-        requires in_range { All (All (IsWithin I.least I.greatest)) (map (points_of I.value) (Self.paths self.now)) }
-        requires line_in_range { All (IsWithin I.least I.greatest) (points_of I.value line) }
+        requires in_range { All (All (IsWithin I.least I.greatest)) (Self.paths self.now) }
+        requires line_in_range { All (IsWithin I.least I.greatest) line }
         ensures slice { IfOk result (λ shapes. IsSliceOf I.least I.greatest (fill_rule_of fill_rule)
-            (map (points_of I.value) (Self.paths self.now)) (points_of I.value line ∷ []) (shapes_of I.value shapes.shapes.items)) }
-        ensures refused { IfErr result (IsSliceRefused (map (points_of I.value) (Self.paths self.now)) (points_of I.value line ∷ [])) };
+            (Self.paths self.now) (line ∷ []) (shapes_of I.value shapes.shapes.items)) }
+        ensures refused { IfErr result (IsSliceRefused (Self.paths self.now) (line ∷ [])) };
 
     /// Slices by lines.
     fn slice_by_lines(
@@ -51,11 +51,11 @@ pub trait IntSlice<I: OverlayInt>: IntShapeResource<I> {
         fill_rule: FillRule,
     ) -> Result<IntShapes<I>, Fault>
         requires ready { Self.is_ready self.now }
-        requires in_range { All (All (IsWithin I.least I.greatest)) (map (points_of I.value) (Self.paths self.now)) }
-        requires lines_in_range { All (All (IsWithin I.least I.greatest)) (map (points_of I.value) lines.now) }
+        requires in_range { All (All (IsWithin I.least I.greatest)) (Self.paths self.now) }
+        requires lines_in_range { All (All (IsWithin I.least I.greatest)) lines.now }
         ensures slice { IfOk result (λ shapes. IsSliceOf I.least I.greatest (fill_rule_of fill_rule)
-            (map (points_of I.value) (Self.paths self.now)) (map (points_of I.value) lines.now) (shapes_of I.value shapes.shapes.items)) }
-        ensures refused { IfErr result (IsSliceRefused (map (points_of I.value) (Self.paths self.now)) (map (points_of I.value) lines.now)) };
+            (Self.paths self.now) lines.now (shapes_of I.value shapes.shapes.items)) }
+        ensures refused { IfErr result (IsSliceRefused (Self.paths self.now) lines.now) };
 
     /// Slices by an open path.
     fn slice_by_path(
@@ -65,11 +65,11 @@ pub trait IntSlice<I: OverlayInt>: IntShapeResource<I> {
         fill_rule: FillRule,
     ) -> Result<IntShapes<I>, Fault>
         requires ready { Self.is_ready self.now }
-        requires in_range { All (All (IsWithin I.least I.greatest)) (map (points_of I.value) (Self.paths self.now)) }
-        requires path_in_range { All (IsWithin I.least I.greatest) (points_of I.value path.now.points.items) }
+        requires in_range { All (All (IsWithin I.least I.greatest)) (Self.paths self.now) }
+        requires path_in_range { All (IsWithin I.least I.greatest) path.now.points.items }
         ensures slice { IfOk result (λ shapes. IsSliceOf I.least I.greatest (fill_rule_of fill_rule)
-            (map (points_of I.value) (Self.paths self.now)) (points_of I.value path.now.points.items ∷ []) (shapes_of I.value shapes.shapes.items)) }
-        ensures refused { IfErr result (IsSliceRefused (map (points_of I.value) (Self.paths self.now)) (points_of I.value path.now.points.items ∷ [])) };
+            (Self.paths self.now) (path.now.points.items ∷ []) (shapes_of I.value shapes.shapes.items)) }
+        ensures refused { IfErr result (IsSliceRefused (Self.paths self.now) (path.now.points.items ∷ [])) };
 
     /// Slices by open paths.
     fn slice_by_paths(
@@ -79,11 +79,11 @@ pub trait IntSlice<I: OverlayInt>: IntShapeResource<I> {
         fill_rule: FillRule,
     ) -> Result<IntShapes<I>, Fault>
         requires ready { Self.is_ready self.now }
-        requires in_range { All (All (IsWithin I.least I.greatest)) (map (points_of I.value) (Self.paths self.now)) }
+        requires in_range { All (All (IsWithin I.least I.greatest)) (Self.paths self.now) }
         requires paths_in_range { All (All (IsWithin I.least I.greatest)) (contours_of I.value paths.now) }
         ensures slice { IfOk result (λ shapes. IsSliceOf I.least I.greatest (fill_rule_of fill_rule)
-            (map (points_of I.value) (Self.paths self.now)) (contours_of I.value paths.now) (shapes_of I.value shapes.shapes.items)) }
-        ensures refused { IfErr result (IsSliceRefused (map (points_of I.value) (Self.paths self.now)) (contours_of I.value paths.now)) };
+            (Self.paths self.now) (contours_of I.value paths.now) (shapes_of I.value shapes.shapes.items)) }
+        ensures refused { IfErr result (IsSliceRefused (Self.paths self.now) (contours_of I.value paths.now)) };
 
     /// Slices by the paths of a source, each as an open path: of a contour, too, the last point is not joined to the first.
     fn slice_by_source<R: IntShapeResource<I>>(
@@ -94,11 +94,11 @@ pub trait IntSlice<I: OverlayInt>: IntShapeResource<I> {
     ) -> Result<IntShapes<I>, Fault>
         requires ready { Self.is_ready self.now }
         requires source_ready { R.is_ready source.now }
-        requires in_range { All (All (IsWithin I.least I.greatest)) (map (points_of I.value) (Self.paths self.now)) }
-        requires source_in_range { All (All (IsWithin I.least I.greatest)) (map (points_of I.value) (R.paths source.now)) }
+        requires in_range { All (All (IsWithin I.least I.greatest)) (Self.paths self.now) }
+        requires source_in_range { All (All (IsWithin I.least I.greatest)) (R.paths source.now) }
         ensures slice { IfOk result (λ shapes. IsSliceOf I.least I.greatest (fill_rule_of fill_rule)
-            (map (points_of I.value) (Self.paths self.now)) (map (points_of I.value) (R.paths source.now)) (shapes_of I.value shapes.shapes.items)) }
-        ensures refused { IfErr result (IsSliceRefused (map (points_of I.value) (Self.paths self.now)) (map (points_of I.value) (R.paths source.now))) };
+            (Self.paths self.now) (R.paths source.now) (shapes_of I.value shapes.shapes.items)) }
+        ensures refused { IfErr result (IsSliceRefused (Self.paths self.now) (R.paths source.now)) };
 }
 
 impl<I: OverlayInt, S: IntShapeResource<I>> IntSlice<I> for S {
@@ -109,11 +109,11 @@ impl<I: OverlayInt, S: IntShapeResource<I>> IntSlice<I> for S {
         fill_rule: FillRule,
     ) -> Result<IntShapes<I>, Fault>
         requires ready { S.is_ready self.now }
-        requires in_range { All (All (IsWithin I.least I.greatest)) (map (points_of I.value) (S.paths self.now)) }
-        requires line_in_range { All (IsWithin I.least I.greatest) (points_of I.value line) }
+        requires in_range { All (All (IsWithin I.least I.greatest)) (S.paths self.now) }
+        requires line_in_range { All (IsWithin I.least I.greatest) line }
         ensures slice { IfOk result (λ shapes. IsSliceOf I.least I.greatest (fill_rule_of fill_rule)
-            (map (points_of I.value) (S.paths self.now)) (points_of I.value line ∷ []) (shapes_of I.value shapes.shapes.items)) }
-        ensures refused { IfErr result (IsSliceRefused (map (points_of I.value) (S.paths self.now)) (points_of I.value line ∷ [])) }
+            (S.paths self.now) (line ∷ []) (shapes_of I.value shapes.shapes.items)) }
+        ensures refused { IfErr result (IsSliceRefused (S.paths self.now) (line ∷ [])) }
     {
         let mut overlay = StringOverlay::from_shape(alloc, self)?;
         overlay.add_string_path(&line)?;

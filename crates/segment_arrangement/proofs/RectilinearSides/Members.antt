@@ -90,10 +90,10 @@ module _ {I : Type 0} (value : I → ℤ) (es : List (Entry Count)) (v : Point) 
       (0, here, get_or-take (to - from) (drop from es) 0 x (omega (arith, some)) ∙ (get_or-drop from es 0 x ∙ (ap (λ k. get_or es k x) there ∙ get_or_default es from x d inside)))
 
   -- those of the edges to come are those of the point's column, which is the first
-  pub may_here : ((e : Entry Count) → Contains (drop from es) e → MayLive value e.edge.a.x ends live) → MayLive value v.x ends live
+  pub may_here : ((e : Entry Count) → Contains (drop from es) e → MayLive e.edge.a.x ends live) → MayLive value v.x ends live
   may_here may =
       let d : Entry Count = record { edge = record { a = v; b = v }; count = no_count } in
       subst (λ p. MayLive value p.x ends live) (first d) (may (get_or es from d) (at_later_place es from from d (omega arith) inside))
 
-  pub may_on : MayLive value v.x ends live → (e : Entry Count) → Contains (drop from es) e → MayLive value e.edge.a.x ends live
+  pub may_on : MayLive value v.x ends live → (e : Entry Count) → Contains (drop from es) e → MayLive e.edge.a.x ends live
   may_on may e c = may_later value ends v.x e.edge.a.x live (not_left es v from to (omega (arith, some)) starts e c) may

@@ -6,7 +6,6 @@
 //! linear time, and room for the keys where these are copied.
 
 ghost use Rattle.std.specs.Prelude.{◌≡◌, ◌≤◌, true, length, IfOk, OnOk, IfNone, IsTrue, IsOkUnless};
-ghost use Rattle.plane_base.specs.SegmentViews.{edge_of};
 ghost use Rattle.segment_split.specs.RedrawLaws.{with_counts};
 ghost use Rattle.segment_split.specs.Redraws.{Work, listed, CanBeRedrawn, RedrawsOrLeaves};
 ghost use Rattle.segment_split.specs.SegmentViews.{entries_of};
@@ -121,7 +120,8 @@ pub(crate) fn first_datum<C, I: OverlayInt, D: Copy>(segments: &[Segment<C, I, D
     if segments.is_empty() {
         return None;
     }
-    Some(segments[0].datum)
+    let first = &segments[0];
+    Some(first.datum)
 }
 
 // The segments with their sums, and without their data.
@@ -143,7 +143,7 @@ fn keys_of<C: WindingCount, I: OverlayInt, D: Copy>(
 
 pub(crate) fn key_of<C: WindingCount, I: OverlayInt, D: Copy>(segment: Segment<C, I, D>) -> Key<I>
     requires adds { C.ADDS ≡ true }
-    ensures edge { edge_of I.value result.x_segment ≡ edge_of I.value segment.x_segment }
+    ensures edge { result.x_segment ≡ segment.x_segment }
     ensures count { of_count C.of result.count ≡ segment.count }
 {
     Segment {
@@ -171,7 +171,7 @@ pub(crate) fn put_all<C: WindingCount, I: OverlayInt, D: Copy>(
 }
 
 fn segment_of<C: WindingCount, I: OverlayInt, D: Copy>(key: Key<I>, datum: D) -> Segment<C, I, D>
-    ensures edge { edge_of I.value result.x_segment ≡ edge_of I.value key.x_segment }
+    ensures edge { result.x_segment ≡ key.x_segment }
     ensures count { result.count ≡ of_count C.of key.count }
 {
     let count = key.count;

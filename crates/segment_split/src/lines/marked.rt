@@ -1,7 +1,7 @@
 //! Lines laid where they are cut, be it already or by each other. Degenerate cases: where none was cut before and the sweep without steps
 //! (`cut`) meets no stop inside a key, nothing is laid. Else it takes the time of the sweep over lines.
 
-ghost use Rattle.std.specs.Prelude.{◌≡◌, ◌<◌, ◌^◌, ◌↔◌, ℕ, List, true, false, length, IfOk, IfErr, OnOk, IsOkUnless};
+ghost use Rattle.std.specs.Prelude.{◌≡◌, ◌<◌, ◌^◌, ◌↔◌, ℕ, List, true, false, length, IfOk, IfErr, IsOkUnless};
 ghost use Rattle.plane_base.specs.Plane.{Point};
 ghost use Rattle.plane_base.specs.Counts.{boolean, IsNormal};
 ghost use Rattle.plane_base.specs.Crossing.{late_marks};

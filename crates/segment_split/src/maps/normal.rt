@@ -3,7 +3,6 @@
 
 ghost use Rattle.std.specs.Prelude.{◌≡◌, ◌+◌, ◌<◌, ◌≤◌, ◌++◌, ◌∷◌, [], ℕ, length, take, drop, IfOk, IfErr, OnOk, false};
 ghost use Rattle.plane_base.specs.Counts.{normal};
-ghost use Rattle.plane_base.specs.SegmentViews.{edge_of};
 ghost use Rattle.segment_split.specs.Refusals.{IsOverfull, IsRefusal};
 ghost use Rattle.segment_split.specs.SegmentViews.{entry_of, entries_of, AreSorted};
 ghost use Rattle.segment_split.specs.Seen.{carrying, normal_seen, seen_entry_of, seen_entries_of};
@@ -85,9 +84,9 @@ pub(crate) fn both<C: WindingCount, I: OverlayInt, D: OverlayEdgeData<C>>(
     other: Segment<C, I, D>,
     store: &mut D::Store,
 ) -> Result<Segment<C, I, D>, Fault>
-    ensures is { IfOk result (λ sum. entry_of I.value sum ≡ record { edge = edge_of I.value one.x_segment; count = C.counting.join one.count other.count }) }
+    ensures is { IfOk result (λ sum. entry_of I.value sum ≡ record { edge = one.x_segment; count = C.counting.join one.count other.count }) }
     ensures data { IfOk result (λ sum. seen_entry_of I.value D.JOINS sum ≡ record {
-      edge = edge_of I.value one.x_segment;
+      edge = one.x_segment;
       count = (carrying C.counting D.JOINS D.join).join (seen_entry_of I.value D.JOINS one).count (seen_entry_of I.value D.JOINS other).count;
     }) }
     ensures refused { IfErr result (IsRefusal (C.fits (C.counting.join one.count other.count) ≡ false) ⊥) }

@@ -62,12 +62,14 @@ fn look_ahead<C: WindingCount, I: OverlayInt, D, L: Ledger>(
     ensures steps { CountsPairsUpTo steps.old steps.new (length pass.now.edges - (i + 1)) }
 {
     let segments = pass.segments;
-    let s = segments[i].x_segment;
+    let segment = &segments[i];
+    let s = segment.x_segment;
     let is_new = next_from(pass.next_new, i) == i;
     let mut is_off_grid = false;
     let mut j = step_to(pass.next_new, is_new, i + 1);
     while j < segments.len() {
-        if ends_before(s, segments[j].x_segment, steps) {
+        let other = &segments[j];
+        if ends_before(s, other.x_segment, steps) {
             return Ok(is_off_grid);
         }
         let own = look(marks, pass, i, s, j, steps)?;
@@ -100,8 +102,8 @@ fn ends_before<I: OverlayInt, L: Ledger>(
     t: XSegment<I>,
     steps: &mut Steps<L>,
 ) -> bool
-    ensures past { IsTrue result → I.value s.b.x <ℤ I.value t.a.x }
-    ensures reached { IsFalse result → I.value t.a.x ≤ℤ I.value s.b.x }
+    ensures past { IsTrue result → s.b.x <ℤ t.a.x }
+    ensures reached { IsFalse result → t.a.x ≤ℤ s.b.x }
     ensures comparisons { steps.new.comparisons ≡ steps.old.comparisons }
     ensures pairs { steps.new.pairs ≡ steps.old.pairs + cond result 1 0 }
 {

@@ -4,7 +4,6 @@ ghost use Rattle.std.specs.Prelude.{◌≡◌, ◌+◌, ◌<◌, length, IfOk, I
 ghost use Rattle.plane_base.specs.Plane.{Edge};
 ghost use Rattle.plane_base.specs.Crossing.{marks_by};
 ghost use Rattle.plane_base.specs.Sides.{AreSides};
-ghost use Rattle.plane_base.specs.SegmentViews.{edge_of};
 ghost use Rattle.segment_split.specs.MarkLists.{laid_marks, IsAt};
 ghost use Rattle.segment_split.specs.Rows.{Finds};
 
@@ -52,7 +51,7 @@ pub(super) fn look<C: WindingCount, I: OverlayInt, D, L: Ledger>(
     j: usize,
     steps: &mut Steps<L>,
 ) -> Result<bool, Fault>
-    requires at { IsAt pass.now.edges i (edge_of I.value s) }
+    requires at { IsAt pass.now.edges i s }
     requires before { i < j }
     requires within { j < length pass.now.edges }
     ensures found { IfOk result (λ own. Finds I.stride I.least I.greatest (marks_by pass.now.rounding) pass.now.edges (λ h k. (h ≡ i) × (k ≡ j))
@@ -62,7 +61,8 @@ pub(super) fn look<C: WindingCount, I: OverlayInt, D, L: Ledger>(
     ensures memory { IsOkUnless result Fault.Memory }
 {
     let segments = pass.segments;
-    let t = segments[j].x_segment;
+    let other = &segments[j];
+    let t = other.x_segment;
     steps.tick_pair();
     let Some(sides) = sides_unless_apart(s, t) else {
         return Ok(false);
@@ -88,8 +88,10 @@ fn lay_met<C: WindingCount, I: OverlayInt, D>(
     ensures memory { IsOkUnless result Fault.Memory }
 {
     let segments = pass.segments;
-    let s = segments[i].x_segment;
-    let t = segments[j].x_segment;
+    let one = &segments[i];
+    let other = &segments[j];
+    let s = one.x_segment;
+    let t = other.x_segment;
     let found = meet_closely(s, t, sides, pass.rounding);
     lay(marks, i, s, found.target)?;
     lay(marks, j, t, found.other)?;

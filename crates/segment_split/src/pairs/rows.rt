@@ -7,7 +7,7 @@
 //! Degenerate cases: a high segment stands in each row that it reaches; where none is new nothing is laid out. It takes a sort of
 //! places, and a test at most for each pair that shares an x and a row.
 
-ghost use Rattle.std.specs.Prelude.{◌≡◌, ◌||◌, ℕ, Bool, false, IfOk, OnOk, IsOkUnless};
+ghost use Rattle.std.specs.Prelude.{◌≡◌, ◌||◌, Bool, false, IfOk, OnOk, IsOkUnless};
 ghost use Rattle.plane_base.specs.Plane.{Edge};
 ghost use Rattle.plane_base.specs.Crossing.{marks_by};
 ghost use Rattle.segment_split.specs.MarkLists.{laid_marks, AreMarks, SkipsOld};

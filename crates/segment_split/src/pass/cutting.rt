@@ -5,7 +5,6 @@
 ghost use Rattle.std.specs.Prelude.{◌≡◌, ◌≢◌, ◌≤◌, ◌<◌, ◌++◌, ◌∷◌, [], List, All, length, take, drop, map, IfOk, OnOk, IsOkUnless};
 ghost use Rattle.plane_base.specs.Counts.{IsNormal, lay};
 ghost use Rattle.plane_base.specs.Given.{laid_path};
-ghost use Rattle.plane_base.specs.Views.{point_of};
 ghost use Rattle.segment_split.specs.SegmentViews.{entries_of};
 ghost use Rattle.segment_split.specs.Seen.{seen, carrying, seen_entries_of};
 ghost use Rattle.segment_split.specs.MarkLists.{LaidMark, laid_marks, AreInPlace};
@@ -92,10 +91,10 @@ pub(crate) fn lay_run<C: WindingCount, I: OverlayInt, D: OverlayEdgeData<C>>(
 ) -> Result<(), Fault>
     ensures laid { OnOk result (entries_of I.value pieces.new.items ≡
         entries_of I.value pieces.old.items ++ laid_path C.counting segment.count
-        (point_of I.value segment.x_segment.a ∷ (map (λ m. m.point) (laid_marks I.value I.Wide.number run.now) ++ (point_of I.value segment.x_segment.b ∷ [])))) }
+        (segment.x_segment.a ∷ (map (λ m. m.point) (laid_marks I.value I.Wide.number run.now) ++ (segment.x_segment.b ∷ [])))) }
     ensures data { OnOk result (seen_entries_of I.value D.JOINS pieces.new.items ≡ seen_entries_of I.value D.JOINS pieces.old.items ++
         laid_path (carrying C.counting D.JOINS D.join) (segment.count, seen D.JOINS segment.datum)
-        (point_of I.value segment.x_segment.a ∷ (map (λ m. m.point) (laid_marks I.value I.Wide.number run.now) ++ (point_of I.value segment.x_segment.b ∷ [])))) }
+        (segment.x_segment.a ∷ (map (λ m. m.point) (laid_marks I.value I.Wide.number run.now) ++ (segment.x_segment.b ∷ [])))) }
     ensures memory { IsOkUnless result Fault.Memory }
 {
     let XSegment { a, b } = segment.x_segment;
@@ -122,9 +121,9 @@ fn lay_to_mark<C: WindingCount, I: OverlayInt, D: OverlayEdgeData<C>>(
     store: &mut D::Store,
 ) -> Result<D, Fault>
     ensures laid { OnOk result (entries_of I.value pieces.new.items ≡
-        entries_of I.value pieces.old.items ++ lay C.counting (point_of I.value cut.a) (point_of I.value cut.p) count) }
+        entries_of I.value pieces.old.items ++ lay C.counting cut.a cut.p count) }
     ensures data { OnOk result (seen_entries_of I.value D.JOINS pieces.new.items ≡ seen_entries_of I.value D.JOINS pieces.old.items ++
-        lay (carrying C.counting D.JOINS D.join) (point_of I.value cut.a) (point_of I.value cut.p) (count, seen D.JOINS datum)) }
+        lay (carrying C.counting D.JOINS D.join) cut.a cut.p (count, seen D.JOINS datum)) }
     ensures rest { IfOk result (λ rest. seen D.JOINS rest ≡ seen D.JOINS datum) }
     ensures memory { IsOkUnless result Fault.Memory }
 {

@@ -13,7 +13,6 @@ ghost use Rattle.std.specs.Prelude.{◌≡◌, ◌<◌, ◌≤◌, ◌^◌, ◌�
 ghost use Rattle.i_tree.specs.Steps.{Counts};
 ghost use Rattle.plane_base.specs.Plane.{is_before};
 ghost use Rattle.plane_base.specs.Counts.{IsNormal};
-ghost use Rattle.plane_base.specs.SegmentViews.{edge_of};
 ghost use Rattle.segment_split.specs.LineLaws.{is_rectilinear};
 ghost use Rattle.segment_split.specs.MarkLists.{laid_marks, AreInPlace};
 ghost use Rattle.segment_split.specs.Mixed.{TellsOld, IsSearched, IsCutApart, lines_among, laid_through};
@@ -147,7 +146,8 @@ fn tell_old<C: WindingCount, I: OverlayInt, D>(
 {
     next_new.clear();
     for i in 0..segments.len() {
-        if is_rectilinear(segments[i].x_segment) != are_lines_old {
+        let segment = &segments[i];
+        if is_rectilinear(segment.x_segment) != are_lines_old {
             fill(next_new, i)?;
             next_new.push(i)?;
         }
@@ -292,10 +292,10 @@ fn cut_one_by_slope<C: WindingCount, I: OverlayInt, D: OverlayEdgeData<C>>(
 ) -> Result<(), Fault>
     requires adds { C.ADDS ≡ true }
     ensures lines { OnOk result (with_counts (of_count C.of) (entries_of I.value lines.new.items) ≡
-        with_counts (of_count C.of) (entries_of I.value lines.old.items) ++ cond (is_rectilinear (edge_of I.value segment.x_segment))
+        with_counts (of_count C.of) (entries_of I.value lines.old.items) ++ cond (is_rectilinear segment.x_segment)
         (laid_through C.counting (entry_of I.value segment) (laid_marks I.value I.Wide.number run.now)) []) }
     ensures others { OnOk result (entries_of I.value others.new.items ≡
-        entries_of I.value others.old.items ++ cond (is_rectilinear (edge_of I.value segment.x_segment))
+        entries_of I.value others.old.items ++ cond (is_rectilinear segment.x_segment)
         [] (laid_through C.counting (entry_of I.value segment) (laid_marks I.value I.Wide.number run.now))) }
     ensures memory { IsOkUnless result Fault.Memory }
 {

@@ -9,6 +9,6 @@ use Rattle.contour_walk.proofs.bind.bind_shapes.Goals as goal
 
 pub returns-clause-is : goal.returns-clause-is
 returns-clause-is g c =
-    let links = graph_borders g.I.OverlayInt.value (overlay_rule_of c.args.rule) c.args.links.now in
-    let cs = walks_of g.I.OverlayInt.value c.args.contours.now in
+    let links = graph_borders g.I.IntNumber.value (overlay_rule_of c.args.rule) c.args.links.now in
+    let cs = walks_of g.I.IntNumber.value c.args.contours.now in
     c.shapes_with_holes.ensures.is links (subst (AreOwners links cs) (sym c.deref.ensures.value) c.in_ok-owners.ensures.is)

@@ -16,15 +16,15 @@ use Rattle.contour_walk.proofs.bind.owners_of_holes.Goals as goal
 
 pub returns-then-not-has_hole-clause-is : goal.returns-then-not-has_hole-clause-is
 returns-then-not-has_hole-clause-is g c =
-    let f = contour_of g.I.OverlayInt.value in
-    let links = graph_borders g.I.OverlayInt.value (overlay_rule_of c.args.rule) c.args.links.now in
+    let f = contour_of g.I.IntNumber.value in
+    let links = graph_borders g.I.IntNumber.value (overlay_rule_of c.args.rule) c.args.links.now in
     if_answered c.same_owner.result (λ owners same. none_is_owned f c.args.contours.now links owners.items (c.has_hole.ensures c.if-not-has_hole.true)) c.same_owner.ensures.same
 
 pub returns-in-Some-clause-is : goal.returns-in-Some-clause-is
 returns-in-Some-clause-is g c =
-    let f = contour_of g.I.OverlayInt.value in
-    let links = graph_borders g.I.OverlayInt.value (overlay_rule_of c.args.rule) c.args.links.now in
-    let cs = walks_of g.I.OverlayInt.value c.args.contours.now in
+    let f = contour_of g.I.IntNumber.value in
+    let links = graph_borders g.I.IntNumber.value (overlay_rule_of c.args.rule) c.args.links.now in
+    let cs = walks_of g.I.IntNumber.value c.args.contours.now in
     let binds = runs_bind c.args.output links cs c.requires.along in
     if_answered c.same_owner-in-Some.result
     (λ owners same. one_owns_all links cs owners.items c.in-Some.outline binds.owned c.in-Some.ensures (λ n d l. same n d (omega (arith, l, length-map c.args.contours.now f))))
@@ -32,7 +32,7 @@ returns-in-Some-clause-is g c =
 
 pub contours_below-requires-clause-in_range : goal.contours_below-requires-clause-in_range
 contours_below-requires-clause-in_range g c =
-    let value = g.I.OverlayInt.value in
+    let value = g.I.IntNumber.value in
     let links = graph_borders value (overlay_rule_of c.args.rule) c.args.links.now in
     let cs = walks_of value c.args.contours.now in
     let binds = runs_bind c.args.output links cs c.requires.along in
@@ -43,7 +43,7 @@ contours_below-requires-clause-in_range g c =
 
 pub contours_below-requires-clause-sweepable : goal.contours_below-requires-clause-sweepable
 contours_below-requires-clause-sweepable g c =
-    let value = g.I.OverlayInt.value in
+    let value = g.I.IntNumber.value in
     let links = graph_borders value (overlay_rule_of c.args.rule) c.args.links.now in
     let cs = walks_of value c.args.contours.now in
     let binds = runs_bind c.args.output links cs c.requires.along in
@@ -54,7 +54,7 @@ contours_below-requires-clause-sweepable g c =
 
 pub contours_below-requires-clause-anchors_in_range : goal.contours_below-requires-clause-anchors_in_range
 contours_below-requires-clause-anchors_in_range g c =
-    let value = g.I.OverlayInt.value in
+    let value = g.I.IntNumber.value in
     let links = graph_borders value (overlay_rule_of c.args.rule) c.args.links.now in
     let cs = walks_of value c.args.contours.now in
     let binds = runs_bind c.args.output links cs c.requires.along in
@@ -67,7 +67,7 @@ contours_below-requires-clause-anchors_in_range g c =
 
 pub contours_below-requires-clause-sought : goal.contours_below-requires-clause-sought
 contours_below-requires-clause-sought g c =
-    let value = g.I.OverlayInt.value in
+    let value = g.I.IntNumber.value in
     let links = graph_borders value (overlay_rule_of c.args.rule) c.args.links.now in
     let cs = walks_of value c.args.contours.now in
     let binds = runs_bind c.args.output links cs c.requires.along in
@@ -79,11 +79,11 @@ contours_below-requires-clause-sought g c =
     sought c.args.output links cs binds edges moved anchors anchored
 
 pub contours_below-requires-clause-rising : goal.contours_below-requires-clause-rising
-contours_below-requires-clause-rising g c = subst (λ es. AreRising (owned_edges_of g.I.OverlayInt.value es)) (sym c.deref-2.ensures.value) c.in_ok-anchors.ensures.rising
+contours_below-requires-clause-rising g c = subst (λ es. AreRising (owned_edges_of g.I.IntNumber.value es)) (sym c.deref-2.ensures.value) c.in_ok-anchors.ensures.rising
 
 pub contours_below-requires-clause-numbers : goal.contours_below-requires-clause-numbers
 contours_below-requires-clause-numbers g c k d l =
-    let value = g.I.OverlayInt.value in
+    let value = g.I.IntNumber.value in
     let links = graph_borders value (overlay_rule_of c.args.rule) c.args.links.now in
     let cs = walks_of value c.args.contours.now in
     let binds = runs_bind c.args.output links cs c.requires.along in
@@ -98,7 +98,7 @@ contours_below-requires-clause-numbers g c k d l =
 
 pub returns-clause-is : goal.returns-clause-is
 returns-clause-is g c =
-    let value = g.I.OverlayInt.value in
+    let value = g.I.IntNumber.value in
     let links = graph_borders value (overlay_rule_of c.args.rule) c.args.links.now in
     let cs = walks_of value c.args.contours.now in
     let binds = runs_bind c.args.output links cs c.requires.along in

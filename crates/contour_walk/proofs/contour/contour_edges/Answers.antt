@@ -10,12 +10,12 @@ use Rattle.contour_walk.proofs.contour.contour_edges.Goals as goal
 
 pub loop-i-init : goal.loop-i-init
 loop-i-init g c =
-    let points = points_of g.I.OverlayInt.value c.args.points.now in
-    ap (λ es. edges_of g.I.OverlayInt.value es ++ edges_left points 0) c.new-edges.ensures.items ∙ all_edges_left points
+    let points = points_of g.I.IntNumber.value c.args.points.now in
+    ap (λ es. edges_of g.I.IntNumber.value es ++ edges_left points 0) c.new-edges.ensures.items ∙ all_edges_left points
 
 pub loop-i-preserved : goal.loop-i-preserved
 loop-i-preserved g c =
-    let value = g.I.OverlayInt.value in
+    let value = g.I.IntNumber.value in
     let f = point_of value in
     let points = c.args.points.now in
     let i = c.loop-i.i in
@@ -33,7 +33,7 @@ loop-i-preserved g c =
 
 pub returns-clause-is : goal.returns-clause-is
 returns-clause-is g c =
-    let value = g.I.OverlayInt.value in
+    let value = g.I.IntNumber.value in
     let points = points_of value c.args.points.now in
     let end = no_edges_left points c.loop-i.i (omega (arith, length-map c.args.points.now (point_of value), c.loop-i-test.false)) in
     rw (end, append-nil) at c.loop-i.invariant

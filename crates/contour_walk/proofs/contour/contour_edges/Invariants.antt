@@ -8,5 +8,5 @@ use Rattle.contour_walk.proofs.contour.contour_edges.Given as goal
 -- The edges so far and those from this point on are all.
 abbrev pub invariant-loop-i : goal.invariant-loop-i
 invariant-loop-i g l =
-    edges_of g.I.OverlayInt.value l.edges.items ++ edges_left (points_of g.I.OverlayInt.value l.points) l.i
-    ≡ contour_edges (points_of g.I.OverlayInt.value l.points)
+    edges_of g.I.IntNumber.value l.edges.items ++ edges_left (points_of g.I.IntNumber.value l.points) l.i
+    ≡ contour_edges (points_of g.I.IntNumber.value l.points)

@@ -22,7 +22,7 @@ returns-in_err-push-clause-is g c = rw ((err_from_is_err_and c.from_residual.res
 
 pub returns-then-eq-clause-is : goal.returns-then-eq-clause-is
 returns-then-eq-clause-is g c =
-    let f = point_of g.I.OverlayInt.value in
+    let f = point_of g.I.IntNumber.value in
     let xs = map f c.args.kept.now.items in
     let z = turn (f c.args.before) (f c.args.point) (f c.args.after) in
     let straight : int_eq z (pos 0) ≡ true = equal_tells z c.eq.result (c.eq.ensures ∙ ap (λ o. ordering_index o == 1) c.orientation.ensures) ∙ c.if-eq.true in
@@ -33,7 +33,7 @@ returns-then-eq-clause-memory g c = tt
 
 pub returns-clause-is : goal.returns-clause-is
 returns-clause-is g c =
-    let f = point_of g.I.OverlayInt.value in
+    let f = point_of g.I.IntNumber.value in
     let xs = map f c.args.kept.now.items in
     let z = turn (f c.args.before) (f c.args.point) (f c.args.after) in
     let straight : int_eq z (pos 0) ≡ false = equal_tells z c.eq.result (c.eq.ensures ∙ ap (λ o. ordering_index o == 1) c.orientation.ensures) ∙ c.if-eq.false in

@@ -7,4 +7,4 @@ use Rattle.contour_walk.proofs.contour.least_point.Given as goal
 -- The least of the points behind is known.
 abbrev pub invariant-loop-done : goal.invariant-loop-done
 invariant-loop-done g l =
-    point_if_any g.I.OverlayInt.value l.least ≡ least_point (points_of g.I.OverlayInt.value (drop (length l.points - l.done) l.points))
+    point_if_any g.I.IntNumber.value l.least ≡ least_point (points_of g.I.IntNumber.value (drop (length l.points - l.done) l.points))

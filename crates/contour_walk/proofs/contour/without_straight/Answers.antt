@@ -5,14 +5,14 @@ use Rattle.std.proofs.Common.{◌∙◌, sym, ap, ◌++◌, ◌+◌, append_asso
 use Rattle.std.proofs.lemmas.List.{length-map}
 use Rattle.plane_base.specs.Plane.{IsWithin}
 use Rattle.plane_base.specs.Views.{point_of, points_of}
-use Rattle.plane_base.proofs.Facts.Lists.Views.{All-mapped, some_first}
+use Rattle.plane_base.proofs.Facts.Lists.Views.{All-mapped, All_at, some_first}
 use Rattle.contour_walk.specs.ShapeViews.{corner}
 use Rattle.contour_walk.proofs.Facts.Contours.Shapes.{corners_left, all_corners_left, corners_left_more, no_corners_left}
 use Rattle.contour_walk.proofs.contour.without_straight.Goals as goal
 
 pub loop-i-init : goal.loop-i-init
 loop-i-init g c =
-    let value = g.I.OverlayInt.value in
+    let value = g.I.IntNumber.value in
     let f = point_of value in
     let points = c.args.points.now in
     let last = c.index-points-points.result in
@@ -23,11 +23,11 @@ loop-i-init g c =
 
 pub keep_corner-requires-clause-point_in_range : goal.keep_corner-requires-clause-point_in_range
 keep_corner-requires-clause-point_in_range g c =
-    All-mapped (IsWithin g.I.OverlayInt.least g.I.OverlayInt.greatest) (point_of g.I.OverlayInt.value) c.args.points.now c.loop-i.i c.index-points-i.result c.loop-i-test.true c.index-points-i.is c.requires
+    All_at (IsWithin g.I.OverlayInt.least g.I.OverlayInt.greatest) c.args.points.now c.loop-i.i c.index-points-i.result c.loop-i-test.true c.index-points-i.is c.requires
 
 pub loop-i-preserved : goal.loop-i-preserved
 loop-i-preserved g c =
-    let value = g.I.OverlayInt.value in
+    let value = g.I.IntNumber.value in
     let f = point_of value in
     let points = c.args.points.now in
     let i = c.loop-i.i in
@@ -44,7 +44,7 @@ loop-i-preserved g c =
 
 pub returns-clause-is : goal.returns-clause-is
 returns-clause-is g c =
-    let value = g.I.OverlayInt.value in
+    let value = g.I.IntNumber.value in
     let points = points_of value c.args.points.now in
     let end = no_corners_left (point_of value c.loop-i.before) points c.loop-i.i (omega (arith, length-map c.args.points.now (point_of value), c.loop-i-test.false)) in
     rw (end, append-nil) at c.loop-i.invariant.0

@@ -8,6 +8,6 @@ use Rattle.contour_walk.proofs.contour.without_straight.Given as goal
 -- The points that are kept so far and those from this one on are all.
 abbrev pub invariant-loop-i : goal.invariant-loop-i
 invariant-loop-i g l =
-    let value = g.I.OverlayInt.value in
+    let value = g.I.IntNumber.value in
     (points_of value l.kept.items ++ corners_left (point_of value l.before) (points_of value l.points) l.i ≡ without_straight (points_of value l.points))
     × IsWithin g.I.OverlayInt.least g.I.OverlayInt.greatest (point_of value l.before)

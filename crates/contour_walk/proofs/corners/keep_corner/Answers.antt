@@ -33,7 +33,7 @@ returns-then-eq-clause-len g c = refl
 
 pub returns-then-eq-clause-is : goal.returns-then-eq-clause-is
 returns-then-eq-clause-is g c =
-    let f = point_of g.I.OverlayInt.value in
+    let f = point_of g.I.IntNumber.value in
     let xs = map f (take c.args.kept c.args.points.now.items) in
     let z = turn (f c.args.before) (f c.args.point) (f c.args.after) in
     let straight : int_eq z (pos 0) ≡ true = equal_tells z c.eq.result (c.eq.ensures ∙ ap (λ o. ordering_index o == 1) c.orientation.ensures) ∙ c.if-eq.true in
@@ -44,7 +44,7 @@ returns-then-eq-clause-next g c = omega arith
 
 pub returns-clause-is : goal.returns-clause-is
 returns-clause-is g c =
-    let f = point_of g.I.OverlayInt.value in
+    let f = point_of g.I.IntNumber.value in
     let xs = map f (take c.args.kept c.args.points.now.items) in
     let z = turn (f c.args.before) (f c.args.point) (f c.args.after) in
     let straight : int_eq z (pos 0) ≡ false = equal_tells z c.eq.result (c.eq.ensures ∙ ap (λ o. ordering_index o == 1) c.orientation.ensures) ∙ c.if-eq.false in

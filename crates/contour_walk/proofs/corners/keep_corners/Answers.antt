@@ -4,7 +4,7 @@ use Rattle.std.proofs.Common.{◌≡◌, ◌∙◌, sym, ap, refl, subst, ◌+�
 use Rattle.std.proofs.lemmas.List.{get_or_default}
 use Rattle.plane_base.specs.Plane.{IsWithin}
 use Rattle.plane_base.specs.Views.{point_of, points_of}
-use Rattle.plane_base.proofs.Facts.Lists.Views.{All-mapped, some_first}
+use Rattle.plane_base.proofs.Facts.Lists.Views.{All-mapped, All_at, some_first}
 use Rattle.contour_walk.specs.ShapeViews.{corner, next_of}
 use Rattle.contour_walk.proofs.Facts.Contours.Shapes.{corners_left, all_corners_left, corners_left_more}
 use Rattle.contour_walk.proofs.Facts.Contours.InPlace.{alike_later, alike_at, all_behind, behind_is}
@@ -12,7 +12,7 @@ use Rattle.contour_walk.proofs.corners.keep_corners.Goals as goal
 
 pub loop-i-init : goal.loop-i-init
 loop-i-init g c =
-    let f = point_of g.I.OverlayInt.value in
+    let f = point_of g.I.IntNumber.value in
     let points = c.args.points.now.items in
     let last = c.index-before.result.now in
     let len : 0 < c.args.points.now.len = some_first _ c.is_empty.ensures c.if-is_empty.false in
@@ -35,11 +35,11 @@ keep_corner-kept-requires-clause-point_in_range g c =
     let point = c.index-point.result.now in
     let inside : i < length points = omega (arith, c.loop-i-test.true, c.len-i-end.ensures, c.args.points.now.ok.0) in
     let at : point ≡ get_or points i point = c.index-point.ensures ∙ (get_or_default c.loop-i.points.items i _ point (omega (arith, inside, c.loop-i.invariant.many)) ∙ alike_at c.loop-i.points.items points i point c.loop-i.invariant.behind) in
-    All-mapped (IsWithin g.I.OverlayInt.least g.I.OverlayInt.greatest) (point_of g.I.OverlayInt.value) points i point inside at c.requires
+    All_at (IsWithin g.I.OverlayInt.least g.I.OverlayInt.greatest) points i point inside at c.requires
 
 pub keep_corner-kept-requires-clause-after_in_range : goal.keep_corner-kept-requires-clause-after_in_range
 keep_corner-kept-requires-clause-after_in_range g c =
-    let f = point_of g.I.OverlayInt.value in
+    let f = point_of g.I.IntNumber.value in
     let is_within = IsWithin g.I.OverlayInt.least g.I.OverlayInt.greatest in
     let points = c.args.points.now.items in
     let i = c.loop-i.i in
@@ -53,7 +53,7 @@ keep_corner-kept-requires-clause-after_in_range g c =
 
 pub loop-i-preserved : goal.loop-i-preserved
 loop-i-preserved g c =
-    let value = g.I.OverlayInt.value in
+    let value = g.I.IntNumber.value in
     let f = point_of value in
     let points = c.args.points.now.items in
     let now = c.loop-i.points.items in

@@ -8,7 +8,7 @@ use Rattle.contour_walk.proofs.corners.keep_corners.Given as goal
 -- The points that are kept so far and those from this one on, which stand as they stood, are all.
 abbrev pub invariant-loop-i : goal.invariant-loop-i
 invariant-loop-i g l =
-    let value = g.I.OverlayInt.value in
+    let value = g.I.IntNumber.value in
     let points = l.fn.points.items in
     record {
       within : l.kept ≤ l.i;

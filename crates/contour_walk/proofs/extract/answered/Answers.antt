@@ -11,7 +11,7 @@ use Rattle.contour_walk.proofs.extract.answered.Goals as goal
 
 pub returns-then-options-eq0-clause-is : goal.returns-then-options-eq0-clause-is
 returns-then-options-eq0-clause-is g c =
-    let value = g.I.OverlayInt.value in
+    let value = g.I.IntNumber.value in
     let links = graph_borders value (overlay_rule_of c.args.rule) c.args.links.now in
     let cs = walks_of value c.args.contours.now in
     let finish = map (finished c.args.options.preserve_output_collinear) in
@@ -22,7 +22,7 @@ returns-then-options-eq0-clause-is g c =
 
 pub shapes_reaching-requires : goal.shapes_reaching-requires
 shapes_reaching-requires g c =
-    let value = g.I.OverlayInt.value in
+    let value = g.I.IntNumber.value in
     let links = graph_borders value (overlay_rule_of c.args.rule) c.args.links.now in
     let cs = walks_of value c.args.contours.now in
     subst (ShapesAreWithin g.I.OverlayInt.least g.I.OverlayInt.greatest)
@@ -31,7 +31,7 @@ shapes_reaching-requires g c =
 
 pub returns-clause-is : goal.returns-clause-is
 returns-clause-is g c =
-    let value = g.I.OverlayInt.value in
+    let value = g.I.IntNumber.value in
     let links = graph_borders value (overlay_rule_of c.args.rule) c.args.links.now in
     let cs = walks_of value c.args.contours.now in
     let finish = map (finished c.args.options.preserve_output_collinear) in

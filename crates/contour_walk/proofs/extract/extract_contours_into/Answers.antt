@@ -17,7 +17,7 @@ returns-then-is_err-clause-laid g c = λ fill es links_for. when_refused _ c.add
 
 pub returns-clause-laid : goal.returns-clause-laid
 returns-clause-laid g c = λ fill es links_for.
-    let value = g.I.OverlayInt.value in
+    let value = g.I.IntNumber.value in
     let o = answering_of c.args.options in
     let rule = overlay_rule_of c.args.rule in
     let ls = map (overlay_link_of value) c.args.graph.now.links.now in
@@ -34,12 +34,12 @@ returns-clause-laid g c = λ fill es links_for.
 pub returns-clause-is : goal.returns-clause-is
 returns-clause-is g c = λ fill es links_for.
     on_answer c.add_contours-added.result
-    (laid_is g.I.OverlayInt.value (flat_answer (answering_of c.args.options) (borders fill (overlay_rule_of c.args.rule) es)) c.add_contours-added.new.output)
+    (laid_is g.I.IntNumber.value (flat_answer (answering_of c.args.options) (borders fill (overlay_rule_of c.args.rule) es)) c.add_contours-added.new.output)
     (returns-clause-laid g c fill es links_for)
 
 pub returns-clause-well_formed : goal.returns-clause-well_formed
 returns-clause-well_formed g c =
-    let value = g.I.OverlayInt.value in
+    let value = g.I.IntNumber.value in
     let went : is_err c.add_contours-added.result ≡ false = sym c.is_err.ensures.value ∙ c.if-is_err.false in
     laid_is_flat value (flat_contours (answering_of c.args.options) (walks_of value c.deref.result.now)) c.add_contours-added.new.output
     (when_laid c.add_contours-added.result went c.add_contours-added.ensures.laid [] (none_laid value c.clear.new.output c.clear.ensures.points c.clear.ensures.ranges))

@@ -12,11 +12,11 @@ use Rattle.contour_walk.proofs.LaidFlat.{lays_nothing, lays_then, flat_one, flat
 use Rattle.contour_walk.proofs.flat.add_contours.Goals as goal
 
 pub loop-contour-init : goal.loop-contour-init
-loop-contour-init g c = lays_nothing g.I.OverlayInt.value c.args.output.now
+loop-contour-init g c = lays_nothing g.I.IntNumber.value c.args.output.now
 
 pub add_reaching-requires : goal.add_reaching-requires
 add_reaching-requires g c =
-    let value = g.I.OverlayInt.value in
+    let value = g.I.IntNumber.value in
     let is_within = IsWithin g.I.OverlayInt.least g.I.OverlayInt.greatest in record {
       in_range =
           subst (λ ps. All is_within (points_of value ps)) (sym c.deref.ensures.value)
@@ -25,7 +25,7 @@ add_reaching-requires g c =
 
 pub loop-contour-preserved : goal.loop-contour-preserved
 loop-contour-preserved g c =
-    let value = g.I.OverlayInt.value in
+    let value = g.I.IntNumber.value in
     let o = answering_of c.args.options in
     let contours = c.args.contours.now in
     let i = c.loop-contour.contour-index in
@@ -44,7 +44,7 @@ loop-contour-preserved g c =
 
 pub returns-clause-laid : goal.returns-clause-laid
 returns-clause-laid g c =
-    let value = g.I.OverlayInt.value in
+    let value = g.I.IntNumber.value in
     let o = answering_of c.args.options in
     let walks = walks_of value c.args.contours.now in
     let i = c.loop-contour.contour-index in

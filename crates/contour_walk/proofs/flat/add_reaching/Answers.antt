@@ -13,7 +13,7 @@ one_by points is_long keep_all = map (finished keep_all) (cond is_long (points �
 
 pub returns-then-not-reaches-clause-laid : goal.returns-then-not-reaches-clause-laid
 returns-then-not-reaches-clause-laid g c =
-    let value = g.I.OverlayInt.value in
+    let value = g.I.IntNumber.value in
     let points = points_of value c.args.points.now in
     let output = c.args.output.now in
     let short : reaches c.args.options.min_output_area points ≡ false = sym c.reaches.ensures ∙ c.if-not-reaches.true in
@@ -21,7 +21,7 @@ returns-then-not-reaches-clause-laid g c =
 
 pub returns-then-options-clause-laid : goal.returns-then-options-clause-laid
 returns-then-options-clause-laid g c =
-    let value = g.I.OverlayInt.value in
+    let value = g.I.IntNumber.value in
     let points = points_of value c.args.points.now in
     let long : reaches c.args.options.min_output_area points ≡ true = sym c.reaches.ensures ∙ c.if-not-reaches.false in
     lays_same value c.add_flat.result (points ∷ []) (one_by points (reaches c.args.options.min_output_area points) c.args.options.preserve_output_collinear)
@@ -29,7 +29,7 @@ returns-then-options-clause-laid g c =
 
 pub returns-clause-laid : goal.returns-clause-laid
 returns-clause-laid g c =
-    let value = g.I.OverlayInt.value in
+    let value = g.I.IntNumber.value in
     let points = points_of value c.args.points.now in
     let long : reaches c.args.options.min_output_area points ≡ true = sym c.reaches.ensures ∙ c.if-not-reaches.false in
     let corners : points_of value c.deref.result.now ≡ without_straight points = ap (points_of value) c.deref.ensures.value ∙ c.in_ok-corners.ensures.is in

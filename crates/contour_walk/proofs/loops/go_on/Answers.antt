@@ -11,13 +11,13 @@ use Rattle.contour_walk.proofs.loops.go_on.Goals as goal
 
 pub cut_out-requires : goal.cut_out-requires
 cut_out-requires g c =
-    let f = point_of g.I.OverlayInt.value in
+    let f = point_of g.I.IntNumber.value in
     let at : Some c.in-Some.place ≡ place_of (f c.args.point) (map f c.args.kept.now.items) = rw c.deref.ensures.value at c.in-Some.ensures in
     kept_within f c.args.kept.now.items c.args.point c.in-Some.place (sym at)
 
 pub add_if_long-requires : goal.add_if_long-requires
 add_if_long-requires g c =
-    let f = point_of g.I.OverlayInt.value in
+    let f = point_of g.I.IntNumber.value in
     let within = IsWithin g.I.OverlayInt.least g.I.OverlayInt.greatest in
     let kept = c.args.kept.now.items in
     let behind = c.in-Some.place + 1 in
@@ -27,7 +27,7 @@ add_if_long-requires g c =
 
 pub returns-in_default-clause-in_range : goal.returns-in_default-clause-in_range
 returns-in_default-clause-in_range g c =
-    let f = point_of g.I.OverlayInt.value in
+    let f = point_of g.I.IntNumber.value in
     let within = IsWithin g.I.OverlayInt.least g.I.OverlayInt.greatest in
     let kept = c.args.kept.now.items in
     subst (All within) (sym (ap (map f) c.in_ok-keep.ensures.is ∙ map-append f kept (c.args.point ∷ [])))
@@ -35,7 +35,7 @@ returns-in_default-clause-in_range g c =
 
 pub returns-clause-is : goal.returns-clause-is
 returns-clause-is g c =
-    let value = g.I.OverlayInt.value in
+    let value = g.I.IntNumber.value in
     let f = point_of value in
     let kept = c.args.kept.now.items in
     let at : Some c.in-Some.place ≡ place_of (f c.args.point) (map f kept) = rw c.deref.ensures.value at c.in-Some.ensures in
@@ -45,7 +45,7 @@ returns-clause-is g c =
 
 pub returns-clause-in_range : goal.returns-clause-in_range
 returns-clause-in_range g c =
-    let f = point_of g.I.OverlayInt.value in
+    let f = point_of g.I.IntNumber.value in
     let within = IsWithin g.I.OverlayInt.least g.I.OverlayInt.greatest in
     let kept = c.args.kept.now.items in
     let behind = c.in-Some.place + 1 in
@@ -53,6 +53,6 @@ returns-clause-in_range g c =
 
 pub returns-clause-known : goal.returns-clause-known
 returns-clause-known g c =
-    let f = point_of g.I.OverlayInt.value in
+    let f = point_of g.I.IntNumber.value in
     subst (AreKnown f c.args.places.now) (sym c.in_ok-points.ensures.left) (known_taken f c.args.places.now c.args.kept.now.items
     (c.in-Some.place + 1) c.requires.known)

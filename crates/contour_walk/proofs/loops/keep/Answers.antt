@@ -6,7 +6,7 @@ use Rattle.contour_walk.proofs.loops.keep.Goals as goal
 
 pub returns-clause-known : goal.returns-clause-known
 returns-clause-known g c =
-    let f = point_of g.I.OverlayInt.value in
+    let f = point_of g.I.IntNumber.value in
     let many : c.len.result ≡ length c.args.kept.now.items = omega (arith, c.len.ensures, c.args.kept.now.ok.0) in
     subst (AreKnown f c.insert.new.self) (sym c.in_ok-push.ensures.items)
     (known_kept f _ c.order_of_points.ensures.by_values

@@ -9,7 +9,7 @@ use Rattle.contour_walk.proofs.loops.kept_place.Goals as goal
 
 pub returns-then-place-kept : goal.returns-then-place-kept
 returns-then-place-kept g c =
-    let f = point_of g.I.OverlayInt.value in
+    let f = point_of g.I.IntNumber.value in
     let place = c.in_ok-place.field-0.now in
     let got : get_by (λ q. point_order (f c.args.point) (f q)) c.args.places.now ≡ Some place = sym
     (found_by f _ c.order_of_points.ensures.by_values c.args.places.now c.args.point) ∙ sym c.in_ok-place.ensures.value in
@@ -18,7 +18,7 @@ returns-then-place-kept g c =
 
 pub returns-then-not-is_same_point : goal.returns-then-not-is_same_point
 returns-then-not-is_same_point g c =
-    let f = point_of g.I.OverlayInt.value in
+    let f = point_of g.I.IntNumber.value in
     let place = c.in_ok-place.field-0.now in
     let here = c.index-kept-place.result in
     let got : get_by (λ q. point_order (f c.args.point) (f q)) c.args.places.now ≡ Some place = sym
@@ -31,7 +31,7 @@ returns-then-not-is_same_point g c =
 
 pub returns : goal.returns
 returns g c =
-    let f = point_of g.I.OverlayInt.value in
+    let f = point_of g.I.IntNumber.value in
     let place = c.in_ok-place.field-0.now in
     let got : get_by (λ q. point_order (f c.args.point) (f q)) c.args.places.now ≡ Some place = sym
     (found_by f _ c.order_of_points.ensures.by_values c.args.places.now c.args.point) ∙ sym c.in_ok-place.ensures.value in

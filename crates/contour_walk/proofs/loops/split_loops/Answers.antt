@@ -11,7 +11,7 @@ use Rattle.contour_walk.proofs.loops.split_loops.Goals as goal
 
 pub loop-place-init : goal.loop-place-init
 loop-place-init g c =
-    let value = g.I.OverlayInt.value in
+    let value = g.I.IntNumber.value in
     let f = point_of value in
     let within = IsWithin g.I.OverlayInt.least g.I.OverlayInt.greatest in
     let points = points_of value c.args.path.now in
@@ -26,11 +26,11 @@ loop-place-init g c =
 pub go_on-requires-clause-point_in_range : goal.go_on-requires-clause-point_in_range
 go_on-requires-clause-point_in_range g c =
     All-mapped (IsWithin g.I.OverlayInt.least g.I.OverlayInt.greatest)
-    (point_of g.I.OverlayInt.value) c.args.path.now c.loop-place.place c.index-path-place.result c.loop-place-test.true c.index-path-place.is c.requires
+    (point_of g.I.IntNumber.value) c.args.path.now c.loop-place.place c.index-path-place.result c.loop-place-test.true c.index-path-place.is c.requires
 
 pub loop-place-preserved : goal.loop-place-preserved
 loop-place-preserved g c =
-    let value = g.I.OverlayInt.value in
+    let value = g.I.IntNumber.value in
     let f = point_of value in
     let path = c.args.path.now in
     let place = c.loop-place.place in
@@ -49,7 +49,7 @@ loop-place-preserved g c =
 
 pub returns-clause-is : goal.returns-clause-is
 returns-clause-is g c =
-    let value = g.I.OverlayInt.value in
+    let value = g.I.IntNumber.value in
     let path = c.args.path.now in
     c.in_ok-add_if_long.ensures.is
     ∙ (ap (λ ps. contours_of value c.loop-place.loops.items ++ long_from c.args.min_area (points_of value c.loop-place.kept.items)

@@ -10,9 +10,9 @@ use Rattle.contour_walk.proofs.loops.split_loops.Given as goal
 abbrev pub invariant-loop-place : goal.invariant-loop-place
 invariant-loop-place g l = record {
   is :
-      contours_of g.I.OverlayInt.value l.loops.items
-      ++ long_from l.min_area (points_of g.I.OverlayInt.value l.kept.items) (points_of g.I.OverlayInt.value (drop l.place l.path))
-      ≡ long_loops l.min_area (points_of g.I.OverlayInt.value l.path);
-  in_range : All (IsWithin g.I.OverlayInt.least g.I.OverlayInt.greatest) (points_of g.I.OverlayInt.value l.kept.items);
-  known : AreKnown (point_of g.I.OverlayInt.value) l.places l.kept.items;
+      contours_of g.I.IntNumber.value l.loops.items
+      ++ long_from l.min_area (points_of g.I.IntNumber.value l.kept.items) (points_of g.I.IntNumber.value (drop l.place l.path))
+      ≡ long_loops l.min_area (points_of g.I.IntNumber.value l.path);
+  in_range : All (IsWithin g.I.OverlayInt.least g.I.OverlayInt.greatest) (points_of g.I.IntNumber.value l.kept.items);
+  known : AreKnown (point_of g.I.IntNumber.value) l.places l.kept.items;
 }

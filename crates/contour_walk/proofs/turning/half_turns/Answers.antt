@@ -21,7 +21,7 @@ turned_back z opposite h = by (int_lt (pos 0) z) refl
 
 pub returns-then-eq-2 : goal.returns-then-eq-2
 returns-then-eq-2 g c =
-    let value = g.I.OverlayInt.value in
+    let value = g.I.IntNumber.value in
     let center = point_of value c.args.center in
     let from = point_of value c.args.from in
     let point = point_of value c.args.point in

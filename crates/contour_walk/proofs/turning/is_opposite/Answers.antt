@@ -7,7 +7,7 @@ use Rattle.contour_walk.proofs.turning.is_opposite.Goals as goal
 
 pub returns : goal.returns
 returns g c =
-    let value = g.I.OverlayInt.value in
+    let value = g.I.IntNumber.value in
     let is : g.I.Wide.WideIntNumber.number c.inner_product-reach.result ≡ reach (point_of value c.args.center) (point_of value c.args.from) (point_of value c.args.point) =
     c.inner_product-reach.ensures.is
     ∙ rw (to_z-of_z w64 c.difference.result (record { sfits = c.difference.type_inv }), c.difference.ensures.is, to_z-of_z w64 c.difference-2.result (record { sfits = c.difference-2.type_inv }), c.difference-2.ensures.is, to_z-of_z w64 c.difference-3.result (record { sfits = c.difference-3.type_inv }), c.difference-3.ensures.is, to_z-of_z w64 c.difference-4.result (record { sfits = c.difference-4.type_inv }), c.difference-4.ensures.is) refl in

@@ -17,7 +17,7 @@ use Rattle.contour_walk.proofs.walk.contour_from.Goals as goal
 
 pub walk-requires-clause-joined : goal.walk-requires-clause-joined
 walk-requires-clause-joined g c =
-    let value = g.I.OverlayInt.value in
+    let value = g.I.IntNumber.value in
     let links = c.args.graph.now.links.now in
     let top = c.top_link-top.result in
     let link = c.index-links-top.result in
@@ -26,7 +26,7 @@ walk-requires-clause-joined g c =
 
 pub walk-requires-clause-begin_numbered : goal.walk-requires-clause-begin_numbered
 walk-requires-clause-begin_numbered g c =
-    let value = g.I.OverlayInt.value in
+    let value = g.I.IntNumber.value in
     let links = c.args.graph.now.links.now in
     let top = c.top_link-top.result in
     let link = c.index-links-top.result in
@@ -35,7 +35,7 @@ walk-requires-clause-begin_numbered g c =
 
 pub walk-requires-clause-to_numbered : goal.walk-requires-clause-to_numbered
 walk-requires-clause-to_numbered g c =
-    let value = g.I.OverlayInt.value in
+    let value = g.I.IntNumber.value in
     let links = c.args.graph.now.links.now in
     let top = c.top_link-top.result in
     let link = c.index-links-top.result in
@@ -44,7 +44,7 @@ walk-requires-clause-to_numbered g c =
 
 pub walk-requires-clause-begin_in_range : goal.walk-requires-clause-begin_in_range
 walk-requires-clause-begin_in_range g c =
-    let value = g.I.OverlayInt.value in
+    let value = g.I.IntNumber.value in
     let links = c.args.graph.now.links.now in
     let top = c.top_link-top.result in
     let link = c.index-links-top.result in
@@ -53,7 +53,7 @@ walk-requires-clause-begin_in_range g c =
 
 pub walk-requires-clause-to_in_range : goal.walk-requires-clause-to_in_range
 walk-requires-clause-to_in_range g c =
-    let value = g.I.OverlayInt.value in
+    let value = g.I.IntNumber.value in
     let links = c.args.graph.now.links.now in
     let top = c.top_link-top.result in
     let link = c.index-links-top.result in
@@ -62,7 +62,7 @@ walk-requires-clause-to_in_range g c =
 
 pub walk-requires-2-clause-joined : goal.walk-requires-2-clause-joined
 walk-requires-2-clause-joined g c =
-    let value = g.I.OverlayInt.value in
+    let value = g.I.IntNumber.value in
     let links = c.args.graph.now.links.now in
     let top = c.top_link-top.result in
     let link = c.index-links-top.result in
@@ -71,7 +71,7 @@ walk-requires-2-clause-joined g c =
 
 pub walk-requires-2-clause-begin_numbered : goal.walk-requires-2-clause-begin_numbered
 walk-requires-2-clause-begin_numbered g c =
-    let value = g.I.OverlayInt.value in
+    let value = g.I.IntNumber.value in
     let links = c.args.graph.now.links.now in
     let top = c.top_link-top.result in
     let link = c.index-links-top.result in
@@ -80,7 +80,7 @@ walk-requires-2-clause-begin_numbered g c =
 
 pub walk-requires-2-clause-to_numbered : goal.walk-requires-2-clause-to_numbered
 walk-requires-2-clause-to_numbered g c =
-    let value = g.I.OverlayInt.value in
+    let value = g.I.IntNumber.value in
     let links = c.args.graph.now.links.now in
     let top = c.top_link-top.result in
     let link = c.index-links-top.result in
@@ -89,7 +89,7 @@ walk-requires-2-clause-to_numbered g c =
 
 pub walk-requires-2-clause-begin_in_range : goal.walk-requires-2-clause-begin_in_range
 walk-requires-2-clause-begin_in_range g c =
-    let value = g.I.OverlayInt.value in
+    let value = g.I.IntNumber.value in
     let links = c.args.graph.now.links.now in
     let top = c.top_link-top.result in
     let link = c.index-links-top.result in
@@ -98,7 +98,7 @@ walk-requires-2-clause-begin_in_range g c =
 
 pub walk-requires-2-clause-to_in_range : goal.walk-requires-2-clause-to_in_range
 walk-requires-2-clause-to_in_range g c =
-    let value = g.I.OverlayInt.value in
+    let value = g.I.IntNumber.value in
     let links = c.args.graph.now.links.now in
     let top = c.top_link-top.result in
     let link = c.index-links-top.result in
@@ -107,7 +107,7 @@ walk-requires-2-clause-to_in_range g c =
 
 pub returns-then-is_same-clause-is : goal.returns-then-is_same-clause-is
 returns-then-is_same-clause-is g c = λ d.
-    let value = g.I.OverlayInt.value in
+    let value = g.I.IntNumber.value in
     let links = c.args.graph.now.links.now in
     let top = c.top_link-top.result in
     let link = c.index-links-top.result in
@@ -121,7 +121,7 @@ returns-then-is_same-clause-is g c = λ d.
 
 pub returns-clause-is : goal.returns-clause-is
 returns-clause-is g c = λ d.
-    let value = g.I.OverlayInt.value in
+    let value = g.I.IntNumber.value in
     let links = c.args.graph.now.links.now in
     let top = c.top_link-top.result in
     let link = c.index-links-top.result in
@@ -329,10 +329,10 @@ returns-clause-rings g c = c.in_ok-walk-2.ensures.rings
 
 pub returns-then-is_same-clause-in_range : goal.returns-then-is_same-clause-in_range
 returns-then-is_same-clause-in_range g c =
-    let same = ap (points_of g.I.OverlayInt.value) (c.in_ok-points.ensures.items ∙ c.deref-then-is_same.ensures.value) in
+    let same = ap (points_of g.I.IntNumber.value) (c.in_ok-points.ensures.items ∙ c.deref-then-is_same.ensures.value) in
     subst (All (IsWithin g.I.OverlayInt.least g.I.OverlayInt.greatest)) (sym same) c.in_ok-walk.ensures.in_range
 
 pub returns-clause-in_range : goal.returns-clause-in_range
 returns-clause-in_range g c =
-    let same = ap (points_of g.I.OverlayInt.value) (c.in_ok-points-2.ensures.items ∙ c.deref-2.ensures.value) in
+    let same = ap (points_of g.I.IntNumber.value) (c.in_ok-points-2.ensures.items ∙ c.deref-2.ensures.value) in
     subst (All (IsWithin g.I.OverlayInt.least g.I.OverlayInt.greatest)) (sym same) c.in_ok-walk-2.ensures.in_range

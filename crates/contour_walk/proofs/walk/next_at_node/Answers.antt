@@ -14,7 +14,7 @@ only_left-requires g c = subst (λ n. All (λ place. place < n) c.places_at.resu
 
 pub returns : goal.returns
 returns g c =
-    let value = g.I.OverlayInt.value in
+    let value = g.I.IntNumber.value in
     let links = c.args.graph.now.links.now in
     let edges = link_edges value links in
     let states = c.args.states.now in

@@ -25,7 +25,7 @@ all_seen value links ls walkable states v places beside same is =
 
 pub returns-in-None : goal.returns-in-None
 returns-in-None g c =
-    let value = g.I.OverlayInt.value in
+    let value = g.I.IntNumber.value in
     let links = c.args.graph.now.links.now in
     let v = point_of value c.args.at.point in
     let seen =
@@ -37,7 +37,7 @@ returns-in-None g c =
 
 pub returns-in-Some : goal.returns-in-Some
 returns-in-Some g c =
-    let value = g.I.OverlayInt.value in
+    let value = g.I.IntNumber.value in
     let links = c.args.graph.now.links.now in
     let v = point_of value c.args.at.point in
     let from = point_of value c.args.from in

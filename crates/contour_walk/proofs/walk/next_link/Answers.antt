@@ -34,7 +34,7 @@ has_states {I} value links states beside r ring =
 
 pub returns-clause-is : goal.returns-clause-is
 returns-clause-is g c =
-    let value = g.I.OverlayInt.value in
+    let value = g.I.IntNumber.value in
     let links = c.args.graph.now.links.now in
     let edges = link_edges value links in
     let states = c.args.states.now in
@@ -52,7 +52,7 @@ returns-clause-is g c =
 
 pub returns-clause-inside : goal.returns-clause-inside
 returns-clause-inside g c =
-    inside_if g.I.OverlayInt.value c.args.graph.now.links.now c.requires.graph c.args.states.now c.requires.beside c.args.clockwise (point_of g.I.OverlayInt.value c.args.at.point) (point_of g.I.OverlayInt.value c.args.from) c.next_in_ring.result
+    inside_if g.I.IntNumber.value c.args.graph.now.links.now c.requires.graph c.args.states.now c.requires.beside c.args.clockwise (point_of g.I.IntNumber.value c.args.at.point) (point_of g.I.IntNumber.value c.args.from) c.next_in_ring.result
     (returns-clause-is g c)
 
 pub next_at_node-requires-clause-graph : goal.next_at_node-requires-clause-graph
@@ -114,7 +114,7 @@ index_mut-requires g c = subst (λ n. c.in-Some.number < n) (sym c.args.rings.no
 
 pub place_in-requires : goal.place_in-requires
 place_in-requires g c =
-    let value = g.I.OverlayInt.value in
+    let value = g.I.IntNumber.value in
     let links = c.args.graph.now.links.now in
     let states = c.args.states.now in
     record {
@@ -125,7 +125,7 @@ place_in-requires g c =
 
 pub next_in_ring-requires-clause-inside : goal.next_in_ring-requires-clause-inside
 next_in_ring-requires-clause-inside g c =
-    let value = g.I.OverlayInt.value in
+    let value = g.I.IntNumber.value in
     let links = c.args.graph.now.links.now in
     let states = c.args.states.now in
     has_states value links states c.requires.beside c.index_mut.result.now
@@ -133,7 +133,7 @@ next_in_ring-requires-clause-inside g c =
 
 pub next_in_ring-requires-clause-ahead : goal.next_in_ring-requires-clause-ahead
 next_in_ring-requires-clause-ahead g c =
-    let value = g.I.OverlayInt.value in
+    let value = g.I.IntNumber.value in
     let edges = link_edges value c.args.graph.now.links.now in
     let states = c.args.states.now in
     let ring : IsRing value edges states c.index_mut.result.now =
@@ -142,7 +142,7 @@ next_in_ring-requires-clause-ahead g c =
 
 pub next_in_ring-requires-clause-back : goal.next_in_ring-requires-clause-back
 next_in_ring-requires-clause-back g c =
-    let value = g.I.OverlayInt.value in
+    let value = g.I.IntNumber.value in
     let edges = link_edges value c.args.graph.now.links.now in
     let states = c.args.states.now in
     let ring : IsRing value edges states c.index_mut.result.now =
@@ -151,7 +151,7 @@ next_in_ring-requires-clause-back g c =
 
 pub next_in_ring-requires-clause-within : goal.next_in_ring-requires-clause-within
 next_in_ring-requires-clause-within g c =
-    let value = g.I.OverlayInt.value in
+    let value = g.I.IntNumber.value in
     let from = point_of value c.args.from in
     let place = c.in-Some-place_in.place in
     let same : c.index.result.now ≡ c.index_mut.result.now =
@@ -162,7 +162,7 @@ next_in_ring-requires-clause-within g c =
 
 pub next_in_ring-requires-clause-passed : goal.next_in_ring-requires-clause-passed
 next_in_ring-requires-clause-passed g c =
-    let value = g.I.OverlayInt.value in
+    let value = g.I.IntNumber.value in
     let from = point_of value c.args.from in
     let place = c.in-Some-place_in.place in
     let same : c.index.result.now ≡ c.index_mut.result.now =
@@ -173,7 +173,7 @@ next_in_ring-requires-clause-passed g c =
 
 pub returns-clause-rings : goal.returns-clause-rings
 returns-clause-rings g c =
-    let value = g.I.OverlayInt.value in
+    let value = g.I.IntNumber.value in
     let links = c.args.graph.now.links.now in
     let edges = link_edges value links in
     let states = c.args.states.now in

@@ -10,7 +10,7 @@ use Rattle.contour_walk.proofs.walk.search.Goals as goal
 
 pub loop-done-init : goal.loop-done-init
 loop-done-init g c =
-    let value = g.I.OverlayInt.value in
+    let value = g.I.IntNumber.value in
     let v = point_of value c.args.turning.v in
     let f = spoke_at c.args.starts v (link_edges value c.args.links.now) c.args.states.now in (
       λ seen h.
@@ -21,7 +21,7 @@ loop-done-init g c =
 
 pub loop-done-preserved : goal.loop-done-preserved
 loop-done-preserved g c =
-    let value = g.I.OverlayInt.value in
+    let value = g.I.IntNumber.value in
     let v = point_of value c.args.turning.v in
     let f = spoke_at c.args.starts v (link_edges value c.args.links.now) c.args.states.now in
     let places = c.args.places.now in
@@ -38,7 +38,7 @@ loop-done-preserved g c =
 
 pub loop-done-preserved-in_default : goal.loop-done-preserved-in_default
 loop-done-preserved-in_default g c =
-    let value = g.I.OverlayInt.value in
+    let value = g.I.IntNumber.value in
     let v = point_of value c.args.turning.v in
     let f = spoke_at c.args.starts v (link_edges value c.args.links.now) c.args.states.now in
     let places = c.args.places.now in
@@ -55,7 +55,7 @@ loop-done-preserved-in_default g c =
 
 pub returns-clause-is : goal.returns-clause-is
 returns-clause-is g c = λ seen h.
-    let value = g.I.OverlayInt.value in
+    let value = g.I.IntNumber.value in
     let v = point_of value c.args.turning.v in
     let f = spoke_at c.args.starts v (link_edges value c.args.links.now) c.args.states.now in
     subst (λ (l : List Numbered). IfBegun c.loop-done.first l (IsNearest value c.args.turning.clockwise v (point_of value c.args.turning.from) l))

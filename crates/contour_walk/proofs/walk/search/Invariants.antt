@@ -11,7 +11,7 @@ use Rattle.contour_walk.proofs.walk.search.Given as goal
 -- The links at the places behind are seen.
 abbrev pub invariant-loop-done : goal.invariant-loop-done
 invariant-loop-done g l =
-    let value = g.I.OverlayInt.value in
+    let value = g.I.IntNumber.value in
     let v = point_of value l.fn.turning.v in
     let f = spoke_at l.starts v (link_edges value l.links) l.states in
     ((seen : List Numbered) →

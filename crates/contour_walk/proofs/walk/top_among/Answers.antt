@@ -9,7 +9,7 @@ use Rattle.contour_walk.proofs.walk.top_among.Goals as goal
 
 pub loop-done-preserved : goal.loop-done-preserved
 loop-done-preserved g c =
-    let value = g.I.OverlayInt.value in
+    let value = g.I.IntNumber.value in
     let v = point_of value c.args.v in
     let f = spoke_at true v (link_edges value c.args.links.now) c.args.states.now in
     let places = c.args.places.now in
@@ -36,14 +36,14 @@ upper-top-requires-clause-spoke_in_range g c = c.spoke_at-spoke.ensures.in_range
 
 pub returns : goal.returns
 returns g c =
-    let value = g.I.OverlayInt.value in
+    let value = g.I.IntNumber.value in
     let v = point_of value c.args.v in
     let none : length c.args.places.now - c.loop-done.done ≡ 0 = omega (arith, c.loop-done-test.false) in
     c.loop-done.invariant.0 ∙ ap (λ n. top_of v (flat_map (spoke_at true v (link_edges value c.args.links.now) c.args.states.now) (drop n c.args.places.now))) none
 
 pub loop-done-init : goal.loop-done-init
 loop-done-init g c =
-    let value = g.I.OverlayInt.value in
+    let value = g.I.IntNumber.value in
     let v = point_of value c.args.v in
     let long : length c.args.places.now ≤ length c.args.places.now - 0 = omega arith in
     (sym (ap (λ ps. top_of v (flat_map (spoke_at true v (link_edges value c.args.links.now) c.args.states.now) ps)) (drop_of_length-le c.args.places.now long)), tt)

@@ -31,7 +31,7 @@ top_seen value links ls walkable states first k v places beside same inside here
 
 pub returns-in-None : goal.returns-in-None
 returns-in-None g c =
-    let value = g.I.OverlayInt.value in
+    let value = g.I.IntNumber.value in
     let links = c.args.graph.now.links.now in
     let top =
     is_topmost value links c.requires.graph c.args.states.now c.requires.beside c.args.first c.requires.within c.requires.left c.args.first
@@ -46,7 +46,7 @@ returns-in-None g c =
 
 pub returns-in-Some : goal.returns-in-Some
 returns-in-Some g c =
-    let value = g.I.OverlayInt.value in
+    let value = g.I.IntNumber.value in
     let links = c.args.graph.now.links.now in
     let top =
     is_topmost value links c.requires.graph c.args.states.now c.requires.beside c.args.first c.requires.within c.requires.left c.in-Some.top.place
@@ -79,7 +79,7 @@ bounds-links-first-2 g c = rw c.links-links.ensures c.requires.within
 
 pub places_at-places-requires-clause-numbered : goal.places_at-places-requires-clause-numbered
 places_at-places-requires-clause-numbered g c =
-    let value = g.I.OverlayInt.value in
+    let value = g.I.IntNumber.value in
     let links = c.args.graph.now.links.now in
     let link = c.index-links-first.result in
     let here : link ≡ get_or links c.args.first link = c.index-links-first.is ∙ ap (λ ls. get_or ls c.args.first link) c.links-links.ensures in
@@ -87,7 +87,7 @@ places_at-places-requires-clause-numbered g c =
 
 pub top_among-requires-clause-v_in_range : goal.top_among-requires-clause-v_in_range
 top_among-requires-clause-v_in_range g c =
-    let value = g.I.OverlayInt.value in
+    let value = g.I.IntNumber.value in
     let links = c.args.graph.now.links.now in
     let link = c.index-links-first.result in
     let here : link ≡ get_or links c.args.first link = c.index-links-first.is ∙ ap (λ ls. get_or ls c.args.first link) c.links-links.ensures in

@@ -39,7 +39,7 @@ module _ {I D : Type 0} (value : I → ℤ) {least greatest : ℤ} {nodes : List
 
 pub returns-in-None-clause-top : goal.returns-in-None-clause-top
 returns-in-None-clause-top g c =
-    let value = g.I.OverlayInt.value in
+    let value = g.I.IntNumber.value in
     let links = c.args.graph.now.links.now in
     let edges = link_edges value links in
     let states = c.args.states.now in
@@ -54,7 +54,7 @@ returns-in-None-clause-top g c =
 
 pub returns-in-None-clause-rings : goal.returns-in-None-clause-rings
 returns-in-None-clause-rings g c =
-    let value = g.I.OverlayInt.value in
+    let value = g.I.IntNumber.value in
     let links = c.args.graph.now.links.now in
     let edges = link_edges value links in
     let states = c.args.states.now in
@@ -68,7 +68,7 @@ returns-in-None-clause-rings g c =
 
 pub returns-in-Some-top_in_ring : goal.returns-in-Some-top_in_ring
 returns-in-Some-top_in_ring g c =
-    let value = g.I.OverlayInt.value in
+    let value = g.I.IntNumber.value in
     let links = c.args.graph.now.links.now in
     let edges = link_edges value links in
     let states = c.args.states.now in
@@ -132,7 +132,7 @@ index_mut-requires g c = subst (λ n. c.in-Some.number < n) (sym c.args.rings.no
 
 pub top_in_ring-requires-clause-inside : goal.top_in_ring-requires-clause-inside
 top_in_ring-requires-clause-inside g c =
-    let value = g.I.OverlayInt.value in
+    let value = g.I.IntNumber.value in
     let links = c.args.graph.now.links.now in
     let states = c.args.states.now in
     let r = c.index_mut.result.now in
@@ -143,7 +143,7 @@ top_in_ring-requires-clause-inside g c =
 
 pub top_in_ring-requires-clause-back : goal.top_in_ring-requires-clause-back
 top_in_ring-requires-clause-back g c =
-    let value = g.I.OverlayInt.value in
+    let value = g.I.IntNumber.value in
     let edges = link_edges value c.args.graph.now.links.now in
     let states = c.args.states.now in
     let ring : IsRing value edges states c.index_mut.result.now =
@@ -152,7 +152,7 @@ top_in_ring-requires-clause-back g c =
 
 pub top_in_ring-requires-clause-starts : goal.top_in_ring-requires-clause-starts
 top_in_ring-requires-clause-starts g c =
-    let value = g.I.OverlayInt.value in
+    let value = g.I.IntNumber.value in
     let links = c.args.graph.now.links.now in
     let states = c.args.states.now in
     let r = c.index_mut.result.now in

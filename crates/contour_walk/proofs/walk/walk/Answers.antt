@@ -20,7 +20,7 @@ use Rattle.contour_walk.proofs.walk.walk.Goals as goal
 
 pub next_link-requires-clause-rings : goal.next_link-requires-clause-rings
 next_link-requires-clause-rings g c =
-    let value = g.I.OverlayInt.value in
+    let value = g.I.IntNumber.value in
     let links = c.args.graph.now.links.now in
     let edges = link_edges value links in
     let states = c.args.states.now.items in
@@ -31,7 +31,7 @@ next_link-requires-clause-rings g c =
 
 pub returns-in_default-clause-is : goal.returns-in_default-clause-is
 returns-in_default-clause-is g c = λ rule.
-    let value = g.I.OverlayInt.value in
+    let value = g.I.IntNumber.value in
     let links = c.args.graph.now.links.now in
     let first = point_of value c.args.first.begin.point in
     let second = point_of value c.args.first.to.point in
@@ -44,7 +44,7 @@ returns-in_default-clause-is g c = λ rule.
 
 pub returns-in_default-clause-left : goal.returns-in_default-clause-left
 returns-in_default-clause-left g c = λ rule.
-    let value = g.I.OverlayInt.value in
+    let value = g.I.IntNumber.value in
     let links = c.args.graph.now.links.now in
     let first = point_of value c.args.first.begin.point in
     let second = point_of value c.args.first.to.point in
@@ -56,7 +56,7 @@ returns-in_default-clause-left g c = λ rule.
 
 pub returns-clause-is : goal.returns-clause-is
 returns-clause-is g c = λ rule.
-    let value = g.I.OverlayInt.value in
+    let value = g.I.IntNumber.value in
     let links = c.args.graph.now.links.now in
     let first = point_of value c.args.first.begin.point in
     let second = point_of value c.args.first.to.point in
@@ -75,7 +75,7 @@ returns-clause-is g c = λ rule.
 
 pub returns-clause-left : goal.returns-clause-left
 returns-clause-left g c = λ rule.
-    let value = g.I.OverlayInt.value in
+    let value = g.I.IntNumber.value in
     let links = c.args.graph.now.links.now in
     let first = point_of value c.args.first.begin.point in
     let second = point_of value c.args.first.to.point in
@@ -167,9 +167,9 @@ walk_on-requires-clause-from_in_range g c = c.requires.begin_in_range
 pub walk_on-requires-clause-points_in_range : goal.walk_on-requires-clause-points_in_range
 walk_on-requires-clause-points_in_range g c =
     let within = IsWithin g.I.OverlayInt.least g.I.OverlayInt.greatest in
-    let first = point_of g.I.OverlayInt.value c.args.first.begin.point in
-    let begun : points_of g.I.OverlayInt.value c.push.new.self.items ≡ first ∷ [] =
-    ap (points_of g.I.OverlayInt.value) (c.in_ok-push.ensures.items ∙ ap (λ xs. xs ++ c.args.first.begin.point ∷ []) c.clear.ensures.items) in
+    let first = point_of g.I.IntNumber.value c.args.first.begin.point in
+    let begun : points_of g.I.IntNumber.value c.push.new.self.items ≡ first ∷ [] =
+    ap (points_of g.I.IntNumber.value) (c.in_ok-push.ensures.items ∙ ap (λ xs. xs ++ c.args.first.begin.point ∷ []) c.clear.ensures.items) in
     subst (All within) (sym begun) (All-push within [] first (All-nil within) c.requires.begin_in_range)
 
 pub walk_on-requires-clause-rings : goal.walk_on-requires-clause-rings
@@ -201,7 +201,7 @@ returns-in_default-clause-stay g c = set_stays c.args.states.now.items c.args.fi
 
 pub returns-in_default-clause-in_range : goal.returns-in_default-clause-in_range
 returns-in_default-clause-in_range g c =
-    let value = g.I.OverlayInt.value in
+    let value = g.I.IntNumber.value in
     let within = IsWithin g.I.OverlayInt.least g.I.OverlayInt.greatest in
     let first = point_of value c.args.first.begin.point in
     let second = point_of value c.args.first.to.point in

@@ -19,7 +19,7 @@ use Rattle.contour_walk.proofs.walk.walk_boundary.Goals as goal
 
 pub rings_of-requires-clause-graph : goal.rings_of-requires-clause-graph
 rings_of-requires-clause-graph g c =
-    let value = g.I.OverlayInt.value in
+    let value = g.I.IntNumber.value in
     let given = c.requires.links in
     is_walkable value c.args.graph.now.links.now g.I.OverlayInt.least g.I.OverlayInt.greatest c.args.graph.now.nodes.now given.0 (overlay_rule_of c.args.rule) given.1 c.requires.in_range c.requires.nodes c.requires.numbers given.2 given.3
 
@@ -29,7 +29,7 @@ rings_of-requires-clause-beside g c =
 
 pub loop-first-init : goal.loop-first-init
 loop-first-init g c =
-    let value = g.I.OverlayInt.value in
+    let value = g.I.IntNumber.value in
     let rule = overlay_rule_of c.args.rule in
     let links = c.args.graph.now.links.now in
     let states = c.filter_by_overlay_into.new.states.items in
@@ -54,7 +54,7 @@ loop-first-init g c =
 
 pub loop-first-preserved : goal.loop-first-preserved
 loop-first-preserved g c =
-    let value = g.I.OverlayInt.value in
+    let value = g.I.IntNumber.value in
     let rule = overlay_rule_of c.args.rule in
     let links = c.args.graph.now.links.now in
     let loop = c.loop-first in
@@ -82,7 +82,7 @@ loop-first-preserved g c =
 
 pub loop-first-smaller : goal.loop-first-smaller
 loop-first-smaller g c =
-    let value = g.I.OverlayInt.value in
+    let value = g.I.IntNumber.value in
     let rule = overlay_rule_of c.args.rule in
     let links = c.args.graph.now.links.now in
     let loop = c.loop-first in
@@ -96,7 +96,7 @@ loop-first-smaller g c =
 
 pub returns-clause-is : goal.returns-clause-is
 returns-clause-is g c =
-    let value = g.I.OverlayInt.value in
+    let value = g.I.IntNumber.value in
     let rule = overlay_rule_of c.args.rule in
     let links = c.args.graph.now.links.now in
     let loop = c.loop-first in

@@ -13,7 +13,7 @@ use Rattle.contour_walk.proofs.walk.walk_boundary.Given as goal
 -- The contours so far and those of the links that are left are all. The first of these links is known.
 abbrev pub invariant-loop-first : goal.invariant-loop-first
 invariant-loop-first g l =
-    let value = g.I.OverlayInt.value in
+    let value = g.I.IntNumber.value in
     let rule = overlay_rule_of l.rule in
     let links = l.graph.links.now in
     record {
@@ -28,4 +28,4 @@ invariant-loop-first g l =
     }
 
 abbrev pub decreases-loop-first : goal.decreases-loop-first
-decreases-loop-first g l = length (left_of (link_borders g.I.OverlayInt.value (overlay_rule_of l.rule) l.graph.links.now) l.states.items)
+decreases-loop-first g l = length (left_of (link_borders g.I.IntNumber.value (overlay_rule_of l.rule) l.graph.links.now) l.states.items)

@@ -19,7 +19,7 @@ use Rattle.contour_walk.proofs.walk.walk_on.Goals as goal
 
 pub loop-step-init : goal.loop-step-init
 loop-step-init g c =
-    let value = g.I.OverlayInt.value in
+    let value = g.I.IntNumber.value in
     let links = c.args.graph.now.links.now in
     let whole : length links - 0 ≡ length links = omega arith in
     record {
@@ -41,7 +41,7 @@ loop-step-init g c =
 
 pub loop-step-preserved : goal.loop-step-preserved
 loop-step-preserved g c =
-    let value = g.I.OverlayInt.value in
+    let value = g.I.IntNumber.value in
     let within = IsWithin g.I.OverlayInt.least g.I.OverlayInt.greatest in
     let links = c.args.graph.now.links.now in
     let loop = c.loop-step in
@@ -86,7 +86,7 @@ loop-step-preserved g c =
 
 pub returns-in_default-clause-is : goal.returns-in_default-clause-is
 returns-in_default-clause-is g c = λ rule d.
-    let value = g.I.OverlayInt.value in
+    let value = g.I.IntNumber.value in
     let links = c.args.graph.now.links.now in
     let loop = c.loop-step in
     let states = loop.states.items in
@@ -103,7 +103,7 @@ returns-in_default-clause-is g c = λ rule d.
 
 pub returns-in_default-clause-left : goal.returns-in_default-clause-left
 returns-in_default-clause-left g c = λ rule d.
-    let value = g.I.OverlayInt.value in
+    let value = g.I.IntNumber.value in
     let links = c.args.graph.now.links.now in
     let loop = c.loop-step in
     let states = loop.states.items in
@@ -119,7 +119,7 @@ returns-in_default-clause-left g c = λ rule d.
 
 pub returns-in_default-clause-in_range : goal.returns-in_default-clause-in_range
 returns-in_default-clause-in_range g c =
-    let value = g.I.OverlayInt.value in
+    let value = g.I.IntNumber.value in
     let within = IsWithin g.I.OverlayInt.least g.I.OverlayInt.greatest in
     let loop = c.loop-step in
     let pushed : points_of value c.push.new.self.items ≡ points_of value loop.points.items ++ point_of value loop.at.point ∷ [] =
@@ -128,7 +128,7 @@ returns-in_default-clause-in_range g c =
 
 pub returns-then-next-last-clause-is : goal.returns-then-next-last-clause-is
 returns-then-next-last-clause-is g c = λ rule d.
-    let value = g.I.OverlayInt.value in
+    let value = g.I.IntNumber.value in
     let links = c.args.graph.now.links.now in
     let loop = c.loop-step in
     let states = loop.states.items in
@@ -152,7 +152,7 @@ returns-then-next-last-clause-is g c = λ rule d.
 
 pub returns-then-next-last-clause-left : goal.returns-then-next-last-clause-left
 returns-then-next-last-clause-left g c = λ rule d.
-    let value = g.I.OverlayInt.value in
+    let value = g.I.IntNumber.value in
     let links = c.args.graph.now.links.now in
     let loop = c.loop-step in
     let states = loop.states.items in
@@ -179,7 +179,7 @@ returns-then-next-last-clause-stay g c = λ i h. set_stays c.loop-step.states.it
 
 pub returns-then-next-last-clause-in_range : goal.returns-then-next-last-clause-in_range
 returns-then-next-last-clause-in_range g c =
-    let value = g.I.OverlayInt.value in
+    let value = g.I.IntNumber.value in
     let within = IsWithin g.I.OverlayInt.least g.I.OverlayInt.greatest in
     let loop = c.loop-step in
     let pushed : points_of value c.push.new.self.items ≡ points_of value loop.points.items ++ point_of value loop.at.point ∷ [] =
@@ -188,7 +188,7 @@ returns-then-next-last-clause-in_range g c =
 
 pub returns-clause-is : goal.returns-clause-is
 returns-clause-is g c = λ rule d.
-    let value = g.I.OverlayInt.value in
+    let value = g.I.IntNumber.value in
     let links = c.args.graph.now.links.now in
     let loop = c.loop-step in
     let steps : length c.links-step-end.result.now ≡ length links = ap length c.links-step-end.ensures in
@@ -198,7 +198,7 @@ returns-clause-is g c = λ rule d.
 
 pub returns-clause-left : goal.returns-clause-left
 returns-clause-left g c = λ rule d.
-    let value = g.I.OverlayInt.value in
+    let value = g.I.IntNumber.value in
     let links = c.args.graph.now.links.now in
     let loop = c.loop-step in
     let steps : length c.links-step-end.result.now ≡ length links = ap length c.links-step-end.ensures in
@@ -208,7 +208,7 @@ returns-clause-left g c = λ rule d.
 
 pub returns-then-next-last-clause-rings : goal.returns-then-next-last-clause-rings
 returns-then-next-last-clause-rings g c =
-    let value = g.I.OverlayInt.value in
+    let value = g.I.IntNumber.value in
     let links = c.args.graph.now.links.now in
     let edges = link_edges value links in
     let loop = c.loop-step in

@@ -14,7 +14,7 @@ use Rattle.contour_walk.proofs.walk.walk_on.Given as goal
 -- The points so far and those that are to come are those of the walk.
 abbrev pub invariant-loop-step : goal.invariant-loop-step
 invariant-loop-step g l =
-    let value = g.I.OverlayInt.value in
+    let value = g.I.IntNumber.value in
     let within = IsWithin g.I.OverlayInt.least g.I.OverlayInt.greatest in
     let links = l.graph.links.now in
     record {

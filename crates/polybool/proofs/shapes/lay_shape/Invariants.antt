@@ -8,4 +8,4 @@ use Rattle.polybool.proofs.shapes.lay_shape.Given as goal
 abbrev pub invariant-loop-contour : goal.invariant-loop-contour
 invariant-loop-contour g l =
     Laid (g.W.Write.contents l.fn.writer) (g.W.Write.contents l.writer) (text_of_piece l.fn.piece) (text_of_piece l.piece)
-    (codes "shape " ++ decimal (length l.shape.contours.items) ++ end ++ flat_map (λ c. contour_text (points_of g.I.OverlayInt.value c.points.items)) (take l.contour-index l.contour-items))
+    (codes "shape " ++ decimal (length l.shape.contours.items) ++ end ++ flat_map (λ c. contour_text (points_of g.I.IntNumber.value c.points.items)) (take l.contour-index l.contour-items))

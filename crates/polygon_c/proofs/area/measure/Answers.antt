@@ -8,7 +8,7 @@ use Rattle.polygon_c.proofs.area.measure.Goals as goal
 
 pub doubled_area-requires-clause-in_range : goal.doubled_area-requires-clause-in_range
 doubled_area-requires-clause-in_range g c =
-    subst (λ points. All (IsWithin g.I.OverlayInt.least g.I.OverlayInt.greatest) (points_of g.I.OverlayInt.value points)) (sym c.deref.ensures.value)
+    subst (λ points. All (IsWithin g.I.OverlayInt.least g.I.OverlayInt.greatest) (points_of g.I.IntNumber.value points)) (sym c.deref.ensures.value)
     (subst (All (IsWithin g.I.OverlayInt.least g.I.OverlayInt.greatest)) (sym c.in_ok-contour.ensures.points) (c.are_in_range.ensures.0 c.if-not-are_in_range.false))
 
 pub doubled_area-requires-clause-few : goal.doubled_area-requires-clause-few

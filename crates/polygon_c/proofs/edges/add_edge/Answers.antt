@@ -17,7 +17,7 @@ add_edge-requires g c =
 
 pub returns : goal.returns
 returns g c =
-    let value = g.I.OverlayInt.value in
+    let value = g.I.IntNumber.value in
     let plane = g.P.CPointOf.plane in
     let kind = carried boolean g.D.OverlayEdgeData.join in
     let count = count_of_type c.args.shape_type in

@@ -9,7 +9,7 @@ abbrev pub invariant-loop-path : goal.invariant-loop-path
 invariant-loop-path g l =
     let all = edges_of_paths l.shape.paths.items in
     let rest = edges_of_paths (drop l.path-index l.shape.paths.items) in
-    let value = g.I.OverlayInt.value in
+    let value = g.I.IntNumber.value in
     record {
       points : l.found.laid.points.items ++ flat_points g.P.CPointOf.at (starts_in value rest) ≡ l.fn.found.laid.points.items ++ flat_points g.P.CPointOf.at (starts_in value all);
       contours : l.found.laid.contours.items ++ map length (starts_in value rest) ≡ l.fn.found.laid.contours.items ++ map length (starts_in value all);

@@ -5,4 +5,4 @@ use Rattle.polygon_c.proofs.given.engine_points.Given as goal
 
 -- The points so far are those of the array before this one.
 abbrev pub invariant-loop-point : goal.invariant-loop-point
-invariant-loop-point g l = points_of g.I.OverlayInt.value l.found.items ≡ plane_points g.P.CPointOf.plane (take l.point-index l.points)
+invariant-loop-point g l = points_of g.I.IntNumber.value l.found.items ≡ plane_points g.P.CPointOf.plane (take l.point-index l.points)

@@ -7,7 +7,7 @@ abbrev pub invariant-loop-point : goal.invariant-loop-point
 invariant-loop-point g l =
     let all = l.contour.points.items in
     record {
-      points : l.laid.points.items ++ map g.P.CPointOf.at (points_of g.I.OverlayInt.value (drop l.point-index all)) ≡ l.fn.laid.points.items ++ map g.P.CPointOf.at (points_of g.I.OverlayInt.value all);
+      points : l.laid.points.items ++ map g.P.CPointOf.at (points_of g.I.IntNumber.value (drop l.point-index all)) ≡ l.fn.laid.points.items ++ map g.P.CPointOf.at (points_of g.I.IntNumber.value all);
       contours : l.laid.contours.items ≡ l.fn.laid.contours.items;
       shapes : l.laid.shapes.items ≡ l.fn.laid.shapes.items;
     }

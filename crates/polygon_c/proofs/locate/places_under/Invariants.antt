@@ -5,4 +5,4 @@ use Rattle.polygon_c.proofs.locate.places_under.Given as goal
 
 -- The numbers so far are those of the places before this one.
 abbrev pub invariant-loop-place : goal.invariant-loop-place
-invariant-loop-place g l = l.numbers.items ≡ map (place_of l.locator) (points_of g.I.OverlayInt.value (take l.place-index l.places))
+invariant-loop-place g l = l.numbers.items ≡ map (place_of l.locator) (points_of g.I.IntNumber.value (take l.place-index l.places))

@@ -10,7 +10,7 @@ use Rattle.polygon_overlay.proofs.checks.difference.Goals as goal
 
 pub returns-in_err-overlay-clause-refused : goal.returns-in_err-overlay-clause-refused
 returns-in_err-overlay-clause-refused g c =
-    let value = g.I.OverlayInt.value in
+    let value = g.I.IntNumber.value in
     let p = err_from_is_err_and c.from_residual.result c.from_residual.ensures.1 in
     rw p.1
     (inl
@@ -20,7 +20,7 @@ returns-in_err-overlay-clause-refused g c =
 
 pub returns-clause-is : goal.returns-clause-is
 returns-clause-is g c =
-    let value = g.I.OverlayInt.value in
+    let value = g.I.IntNumber.value in
     let made = c.in_ok-overlay.overlay in
     let new = c.in_ok-overlay.ensures.made in
     let one = contours_of value (g.R.IntShapeResource.paths c.args.one.now) in
@@ -37,7 +37,7 @@ returns-clause-is g c =
 
 pub returns-clause-refused : goal.returns-clause-refused
 returns-clause-refused g c =
-    let value = g.I.OverlayInt.value in
+    let value = g.I.IntNumber.value in
     let made = c.in_ok-overlay.overlay in
     let new = c.in_ok-overlay.ensures.made in
     if_refused c.overlay.result

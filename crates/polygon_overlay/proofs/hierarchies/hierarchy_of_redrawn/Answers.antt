@@ -22,7 +22,7 @@ hierarchy_of_arrangement-found-requires-clause-arrangement g c = subst IsArrange
 -- the map that was swept is the redrawn one
 pub returns-in-Ok-clause-answered : goal.returns-in-Ok-clause-answered
 returns-in-Ok-clause-answered g c before was same_map =
-    let value = g.I.OverlayInt.value in
+    let value = g.I.IntNumber.value in
     let precision = c.args.query.solver.precision in
     let fill = fill_rule_of c.args.query.fill_rule in
     let rule = overlay_rule_of c.args.query.overlay_rule in

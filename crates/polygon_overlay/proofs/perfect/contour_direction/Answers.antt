@@ -9,7 +9,7 @@ use Rattle.polygon_overlay.proofs.perfect.contour_direction.Goals as goal
 
 pub returns-then-not-fills_inside : goal.returns-then-not-fills_inside
 returns-then-not-fills_inside g c =
-    let points = points_of g.I.OverlayInt.value c.args.points.now in
+    let points = points_of g.I.IntNumber.value c.args.points.now in
     let b = c.is_clockwise_ordered-runs_clockwise.result in
     let so = cond (is_clockwise c.args.output_direction) b (not b) in
     ap (λ f. cond f (cond so Correct Reverse) Empty) (sym c.if-not-fills_inside.true)
@@ -19,7 +19,7 @@ returns-then-not-fills_inside g c =
 
 pub returns-then-runs_in : goal.returns-then-runs_in
 returns-then-runs_in g c =
-    let points = points_of g.I.OverlayInt.value c.args.points.now in
+    let points = points_of g.I.IntNumber.value c.args.points.now in
     let b = c.is_clockwise_ordered-runs_clockwise.result in
     ap₂ (λ f s. cond f (cond s Correct Reverse) Empty) (sym c.if-not-fills_inside.false) (sym c.if-runs_in.true)
     ∙ direction_by (is_clockwise c.args.output_direction) (fill_rule_of c.args.fill_rule) points b c.fills_inside.result c.runs_in.result
@@ -28,7 +28,7 @@ returns-then-runs_in g c =
 
 pub returns : goal.returns
 returns g c =
-    let points = points_of g.I.OverlayInt.value c.args.points.now in
+    let points = points_of g.I.IntNumber.value c.args.points.now in
     let b = c.is_clockwise_ordered-runs_clockwise.result in
     ap₂ (λ f s. cond f (cond s Correct Reverse) Empty) (sym c.if-not-fills_inside.false) (sym c.if-runs_in.false)
     ∙ direction_by (is_clockwise c.args.output_direction) (fill_rule_of c.args.fill_rule) points b c.fills_inside.result c.runs_in.result

@@ -10,14 +10,14 @@ use Rattle.polygon_overlay.proofs.perfect.has_each_once.Goals as goal
 
 pub are_apart-requires : goal.are_apart-requires
 are_apart-requires g c =
-    let value = g.I.OverlayInt.value in
+    let value = g.I.IntNumber.value in
     subst (λ xs. AllPairs (λ p q. point_order p q ≢ Greater) (points_of value xs)) (sym c.deref.ensures.value)
     (sorted_rises (point_of value) _ (λ p q. ap₂ ordering_then (g.met.I.OverlayInt.ordered p.x q.x) (g.met.I.OverlayInt.ordered p.y q.y))
     c.sort_unstable.new.self.items c.sort_unstable.ensures.sorted)
 
 pub returns-clause-is : goal.returns-clause-is
 returns-clause-is g c =
-    let value = g.I.OverlayInt.value in
+    let value = g.I.IntNumber.value in
     let given = points_of value c.args.points.now in
     let sorted = points_of value c.sort_unstable.new.self.items in
     let order : IsPermutation given sorted =

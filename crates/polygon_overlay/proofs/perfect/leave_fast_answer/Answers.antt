@@ -13,7 +13,7 @@ use Rattle.polygon_overlay.proofs.perfect.leave_fast_answer.Goals as goal
 
 pub contour_direction-fate-requires : goal.contour_direction-fate-requires
 contour_direction-fate-requires g c =
-    let value = g.I.OverlayInt.value in
+    let value = g.I.IntNumber.value in
     let inside = IsWithin g.I.OverlayInt.least g.I.OverlayInt.greatest in
     let buffer = c.args.buffer.now in
     All-head (All inside) (points_of value c.as_first_contour.result.now) []
@@ -21,7 +21,7 @@ contour_direction-fate-requires g c =
 
 pub returns-in-Empty-clause-is : goal.returns-in-Empty-clause-is
 returns-in-Empty-clause-is g c points was =
-    let value = g.I.OverlayInt.value in
+    let value = g.I.IntNumber.value in
     let buffer = c.args.buffer.now in
     let clockwise = is_clockwise c.args.output_direction in
     let fill = fill_rule_of c.args.fill_rule in
@@ -32,7 +32,7 @@ returns-in-Empty-clause-is g c points was =
 
 pub returns-in-Correct-clause-is : goal.returns-in-Correct-clause-is
 returns-in-Correct-clause-is g c points was =
-    let value = g.I.OverlayInt.value in
+    let value = g.I.IntNumber.value in
     let buffer = c.args.buffer.now in
     let clockwise = is_clockwise c.args.output_direction in
     let fill = fill_rule_of c.args.fill_rule in
@@ -42,7 +42,7 @@ returns-in-Correct-clause-is g c points was =
 
 pub returns-in-Reverse-clause-is : goal.returns-in-Reverse-clause-is
 returns-in-Reverse-clause-is g c points was =
-    let value = g.I.OverlayInt.value in
+    let value = g.I.IntNumber.value in
     let buffer = c.args.buffer.now in
     let clockwise = is_clockwise c.args.output_direction in
     let fill = fill_rule_of c.args.fill_rule in

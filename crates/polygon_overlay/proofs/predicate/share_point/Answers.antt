@@ -9,7 +9,7 @@ use Rattle.polygon_overlay.proofs.predicate.share_point.Goals as goal
 
 pub loop-i-preserved-in-Less : goal.loop-i-preserved-in-Less
 loop-i-preserved-in-Less g c =
-    let value = g.I.OverlayInt.value in
+    let value = g.I.IntNumber.value in
     let ps = c.args.ps.now in
     let qs = c.args.qs.now in
     record {
@@ -26,7 +26,7 @@ loop-i-preserved-in-Less g c =
 
 pub returns-in-Equal : goal.returns-in-Equal
 returns-in-Equal g c =
-    let value = g.I.OverlayInt.value in
+    let value = g.I.IntNumber.value in
     let ps = c.args.ps.now in
     let qs = c.args.qs.now in
     sym (c.loop-i.invariant.same
@@ -38,7 +38,7 @@ returns-in-Equal g c =
 
 pub loop-i-preserved : goal.loop-i-preserved
 loop-i-preserved g c =
-    let value = g.I.OverlayInt.value in
+    let value = g.I.IntNumber.value in
     let ps = c.args.ps.now in
     let qs = c.args.qs.now in
     record {
@@ -55,7 +55,7 @@ loop-i-preserved g c =
 
 pub returns-else-j-qs : goal.returns-else-j-qs
 returns-else-j-qs g c =
-    let value = g.I.OverlayInt.value in
+    let value = g.I.IntNumber.value in
     let ps = points_of value c.args.ps.now in
     let qs = points_of value c.args.qs.now in
     sym (c.loop-i.invariant.same

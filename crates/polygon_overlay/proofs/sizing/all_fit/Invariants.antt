@@ -7,4 +7,4 @@ use Rattle.polygon_overlay.proofs.sizing.all_fit.Given as goal
 -- The points before this one stay in range.
 abbrev pub invariant-loop-point : goal.invariant-loop-point
 invariant-loop-point g l =
-    All (StaysInRange g.I.OverlayInt.least g.I.OverlayInt.greatest (amounts_of g.I.OverlayInt.value l.by)) (points_of g.I.OverlayInt.value (take l.point-index l.points))
+    All (StaysInRange g.I.OverlayInt.least g.I.OverlayInt.greatest (amounts_of g.I.IntNumber.value l.by)) (points_of g.I.IntNumber.value (take l.point-index l.points))

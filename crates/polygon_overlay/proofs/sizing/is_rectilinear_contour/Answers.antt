@@ -13,16 +13,16 @@ IsStraight s = is_rectilinear s ≡ true
 
 pub loop-place-init : goal.loop-place-init
 loop-place-init g c =
-    let points = points_of g.I.OverlayInt.value c.args.points.now in
+    let points = points_of g.I.IntNumber.value c.args.points.now in
     (subst AllRectilinear (sym (all_steps_left points)), subst AllRectilinear (all_steps_left points))
 
 pub returns-then-not-is_rectilinear : goal.returns-then-not-is_rectilinear
 returns-then-not-is_rectilinear g c =
-    let f = point_of g.I.OverlayInt.value in
+    let f = point_of g.I.IntNumber.value in
     let points = c.args.points.now in
     let s : Edge = record { a = f c.index-points-place.result; b = f c.point_after.result } in
-    let rest = steps_left (points_of g.I.OverlayInt.value points) (c.loop-place.place + 1) in
-    let more : steps_left (points_of g.I.OverlayInt.value points) c.loop-place.place ≡ s ∷ rest =
+    let rest = steps_left (points_of g.I.IntNumber.value points) (c.loop-place.place + 1) in
+    let more : steps_left (points_of g.I.IntNumber.value points) c.loop-place.place ≡ s ∷ rest =
     steps_left_more f points c.loop-place.place c.index-points-place.result (f c.point_after.result) c.loop-place-test.true c.index-points-place.is c.point_after.ensures.is in (
       λ up. absurd (false≢true up),
       λ all. sym c.if-not-is_rectilinear.true
@@ -31,11 +31,11 @@ returns-then-not-is_rectilinear g c =
 
 pub loop-place-preserved : goal.loop-place-preserved
 loop-place-preserved g c =
-    let f = point_of g.I.OverlayInt.value in
+    let f = point_of g.I.IntNumber.value in
     let points = c.args.points.now in
     let s : Edge = record { a = f c.index-points-place.result; b = f c.point_after.result } in
-    let rest = steps_left (points_of g.I.OverlayInt.value points) (c.loop-place.place + 1) in
-    let more : steps_left (points_of g.I.OverlayInt.value points) c.loop-place.place ≡ s ∷ rest =
+    let rest = steps_left (points_of g.I.IntNumber.value points) (c.loop-place.place + 1) in
+    let more : steps_left (points_of g.I.IntNumber.value points) c.loop-place.place ≡ s ∷ rest =
     steps_left_more f points c.loop-place.place c.index-points-place.result (f c.point_after.result) c.loop-place-test.true c.index-points-place.is c.point_after.ensures.is in
     let here : IsStraight s = sym c.is_rectilinear.ensures ∙ c.if-not-is_rectilinear.false in (
       λ all. All-tail IsStraight s rest (subst AllRectilinear more (c.loop-place.invariant.0 all)),
@@ -44,6 +44,6 @@ loop-place-preserved g c =
 
 pub returns : goal.returns
 returns g c =
-    let points = points_of g.I.OverlayInt.value c.args.points.now in
-    let none = no_steps_left points c.loop-place.place (omega (arith, length-map c.args.points.now (point_of g.I.OverlayInt.value), c.loop-place-test.false)) in
+    let points = points_of g.I.IntNumber.value c.args.points.now in
+    let none = no_steps_left points c.loop-place.place (omega (arith, length-map c.args.points.now (point_of g.I.IntNumber.value), c.loop-place-test.false)) in
     (λ up. c.loop-place.invariant.1 (subst AllRectilinear (sym none) (All-nil IsStraight)), λ all. refl)

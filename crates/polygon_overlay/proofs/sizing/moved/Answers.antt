@@ -5,7 +5,7 @@ use Rattle.plane_base.specs.Flat.{part, parts}
 use Rattle.plane_base.specs.GivenViews as given
 use Rattle.plane_base.specs.Views.{points_of}
 use Rattle.plane_base.specs.declared.path.IntPath.{IntPath}
-use Rattle.plane_base.proofs.Facts.Lists.Views.{All-mapped, drop-mapped}
+use Rattle.plane_base.proofs.Facts.Lists.Views.{All_at, drop_at}
 use Rattle.polygon_overlay.specs.Calls.{contours_of}
 use Rattle.polygon_overlay.specs.Sizing.{moved}
 use Rattle.polygon_overlay.specs.SizingCalls.{HasRoomAlong, moved_along}
@@ -15,24 +15,24 @@ use Rattle.polygon_overlay.proofs.sizing.moved.Goals as goal
 
 pub moved_contour-requires : goal.moved_contour-requires
 moved_contour-requires g c =
-    let value = g.I.OverlayInt.value in
+    let value = g.I.IntNumber.value in
     let region = c.args.region.now in
     let Room = All (HasRoomAlong g.I.OverlayInt.least g.I.OverlayInt.greatest c.args.is_across (amounts_of value c.args.by)) in
     let paths = parts region.points.items region.ranges.items in
     let inside : c.loop-index.index < length paths = omega (arith, length-map region.ranges.items (part region.points.items), c.loop-index-test.true) in
-    All-mapped Room (points_of value) paths c.loop-index.index c.path.result.now inside
+    All_at Room paths c.loop-index.index c.path.result.now inside
     (c.path.ensures ∙ get_or_default paths c.loop-index.index [] c.path.result.now inside) c.requires.room
 
 pub loop-index-init : goal.loop-index-init
 loop-index-init g c =
-    let value = g.I.OverlayInt.value in
+    let value = g.I.IntNumber.value in
     let region = c.args.region.now in
     let move = moved (moved_along c.args.is_across (amounts_of value c.args.by)) in
     ap (λ cs. given.contours_of value cs ++ map move (contours_of value (parts region.points.items region.ranges.items))) c.in_ok-contours.ensures.items
 
 pub loop-index-preserved : goal.loop-index-preserved
 loop-index-preserved g c =
-    let value = g.I.OverlayInt.value in
+    let value = g.I.IntNumber.value in
     let region = c.args.region.now in
     let paths = parts region.points.items region.ranges.items in
     let f = λ (contour : IntPath g.row.I.Denot). points_of value contour.points.items in
@@ -43,7 +43,7 @@ loop-index-preserved g c =
     let rest = map move (drop (i + 1) (contours_of value paths)) in
     let inside : i < length paths = omega (arith, length-map region.ranges.items (part region.points.items), c.loop-index-test.true) in
     let next =
-    drop-mapped (points_of value) paths i c.path.result.now inside (c.path.ensures ∙ get_or_default paths i [] c.path.result.now inside) in
+    drop_at paths i c.path.result.now inside (c.path.ensures ∙ get_or_default paths i [] c.path.result.now inside) in
     let pushed : given.contours_of value c.push.new.self.items ≡ so_far ++ here ∷ [] =
     ap (given.contours_of value) c.in_ok-push.ensures.items
     ∙ (map-append f c.loop-index.contours.items (c.in_ok-moved_contour.field-0 ∷ []) ∙ ap (λ ps. so_far ++ ps ∷ []) c.in_ok-moved_contour.ensures.is) in
@@ -53,7 +53,7 @@ loop-index-preserved g c =
 
 pub returns-clause-is : goal.returns-clause-is
 returns-clause-is g c =
-    let value = g.I.OverlayInt.value in
+    let value = g.I.IntNumber.value in
     let region = c.args.region.now in
     let paths = parts region.points.items region.ranges.items in
     let move = moved (moved_along c.args.is_across (amounts_of value c.args.by)) in

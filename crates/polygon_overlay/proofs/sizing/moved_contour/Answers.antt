@@ -13,25 +13,25 @@ use Rattle.polygon_overlay.proofs.sizing.moved_contour.Goals as goal
 
 pub loop-place-init : goal.loop-place-init
 loop-place-init g c =
-    let value = g.I.OverlayInt.value in
+    let value = g.I.IntNumber.value in
     let move = moved_along c.args.is_across (amounts_of value c.args.by) in
     ap (λ ps. points_of value ps ++ flat_map move (steps_left (points_of value c.args.points.now) 0)) c.in_ok-kept.ensures.items
     ∙ ap (flat_map move) (all_steps_left (points_of value c.args.points.now))
 
 pub push_moved-requires-clause-from_has_room : goal.push_moved-requires-clause-from_has_room
 push_moved-requires-clause-from_has_room g c =
-    All-mapped (HasRoomAlong g.I.OverlayInt.least g.I.OverlayInt.greatest c.args.is_across (amounts_of g.I.OverlayInt.value c.args.by)) (point_of g.I.OverlayInt.value)
+    All-mapped (HasRoomAlong g.I.OverlayInt.least g.I.OverlayInt.greatest c.args.is_across (amounts_of g.I.IntNumber.value c.args.by)) (point_of g.I.IntNumber.value)
     c.args.points.now c.loop-place.place c.index-points-place.result c.loop-place-test.true c.index-points-place.is c.requires
 
 pub push_moved-requires-clause-to_has_room : goal.push_moved-requires-clause-to_has_room
 push_moved-requires-clause-to_has_room g c =
     let (at, inside, is) = c.point_after.ensures.listed in
-    All-mapped (HasRoomAlong g.I.OverlayInt.least g.I.OverlayInt.greatest c.args.is_across (amounts_of g.I.OverlayInt.value c.args.by)) (point_of g.I.OverlayInt.value)
+    All-mapped (HasRoomAlong g.I.OverlayInt.least g.I.OverlayInt.greatest c.args.is_across (amounts_of g.I.IntNumber.value c.args.by)) (point_of g.I.IntNumber.value)
     c.args.points.now at c.point_after.result inside is c.requires
 
 pub loop-place-preserved : goal.loop-place-preserved
 loop-place-preserved g c =
-    let value = g.I.OverlayInt.value in
+    let value = g.I.IntNumber.value in
     let f = point_of value in
     let points = c.args.points.now in
     let move = moved_along c.args.is_across (amounts_of value c.args.by) in
@@ -44,7 +44,7 @@ loop-place-preserved g c =
 
 pub returns-clause-is : goal.returns-clause-is
 returns-clause-is g c =
-    let value = g.I.OverlayInt.value in
+    let value = g.I.IntNumber.value in
     let points = points_of value c.args.points.now in
     let move = moved_along c.args.is_across (amounts_of value c.args.by) in
     let so_far = points_of value c.loop-place.kept.items in

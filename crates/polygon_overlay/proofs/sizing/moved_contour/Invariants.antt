@@ -10,6 +10,6 @@ use Rattle.polygon_overlay.proofs.sizing.moved_contour.Given as goal
 -- The points so far and those of the steps that are left are all.
 abbrev pub invariant-loop-place : goal.invariant-loop-place
 invariant-loop-place g l =
-    let value = g.I.OverlayInt.value in
+    let value = g.I.IntNumber.value in
     let move = moved_along l.is_across (amounts_of value l.by) in
     points_of value l.kept.items ++ flat_map move (steps_left (points_of value l.points) l.place) ≡ moved move (points_of value l.points)

@@ -21,12 +21,12 @@ returns-in_err-contours_of_source-clause-refused g c =
     let new = c.in_ok-overlay.ensures.made in
     let p = err_from_is_err_and c.from_residual-in_err-contours_of_source.result c.from_residual-in_err-contours_of_source.ensures.1 in
     rw p.1
-    (region_refused default_options made.options c.args.solver made.solver (contours_of g.I.OverlayInt.value (g.R.IntShapeResource.paths c.args.source.now))
+    (region_refused default_options made.options c.args.solver made.solver (contours_of g.I.IntNumber.value (g.R.IntShapeResource.paths c.args.source.now))
     _ p.0 (new.options ∙ c.default-corners.ensures) new.solver p.2 c.in_err-contours_of_source.ensures.laid.refused)
 
 pub returns-clause-is : goal.returns-clause-is
 returns-clause-is g c =
-    let value = g.I.OverlayInt.value in
+    let value = g.I.IntNumber.value in
     let made = c.in_ok-overlay.overlay in
     let new = c.in_ok-overlay.ensures.made in
     let region = c.contours_of_source.new.output in

@@ -15,7 +15,7 @@ returns-in_err-overlay-clause-refused g c =
 
 pub returns-clause-is : goal.returns-clause-is
 returns-clause-is g c =
-    let value = g.I.OverlayInt.value in
+    let value = g.I.IntNumber.value in
     let made = c.in_ok-overlay.overlay in
     let new = c.in_ok-overlay.ensures.made in
     if_answered c.overlay_of_source.result
@@ -30,7 +30,7 @@ returns-clause-refused g c =
     let made = c.in_ok-overlay.overlay in
     let new = c.in_ok-overlay.ensures.made in
     if_refused c.overlay_of_source.result
-    (λ fault. region_refused c.args.options made.options c.args.solver made.solver (contours_of g.I.OverlayInt.value (paths_of_shape c.args.shifted.now)) fault
+    (λ fault. region_refused c.args.options made.options c.args.solver made.solver (contours_of g.I.IntNumber.value (paths_of_shape c.args.shifted.now)) fault
     fault new.options
     new.solver refl)
     c.overlay_of_source.ensures.refused

@@ -13,7 +13,7 @@ use Rattle.polygon_overlay.proofs.sizing.sized.Goals as goal
 
 pub shapes_of_shifted-requires : goal.shapes_of_shifted-requires
 shapes_of_shifted-requires g c =
-    let value = g.I.OverlayInt.value in
+    let value = g.I.IntNumber.value in
     let are = c.in_ok-shifted.ensures.is in
     shifted_in_range c.regions_stay_in_the_box.ensures g.I.OverlayInt.least g.I.OverlayInt.greatest (amounts_of value c.args.by) are.region
     (region_fits c.regions_stay_in_the_box.ensures g.I.OverlayInt.least g.I.OverlayInt.greatest (fill_rule_of c.args.fill_rule) c.args.solver.precision
@@ -23,7 +23,7 @@ shapes_of_shifted-requires g c =
 
 pub returns-in_err-shifted-clause-refused : goal.returns-in_err-shifted-clause-refused
 returns-in_err-shifted-clause-refused g c =
-    let value = g.I.OverlayInt.value in
+    let value = g.I.IntNumber.value in
     let p = err_from_is_err_and c.from_residual.result c.from_residual.ensures.1 in
     rw p.1
     (inl
@@ -33,7 +33,7 @@ returns-in_err-shifted-clause-refused g c =
 
 pub returns-clause-sized : goal.returns-clause-sized
 returns-clause-sized g c =
-    let value = g.I.OverlayInt.value in
+    let value = g.I.IntNumber.value in
     if_answered c.shapes_of_shifted.result
     (λ shapes told.
     sized_answer g.I.OverlayInt.least g.I.OverlayInt.greatest (amounts_of value c.args.by) (fill_rule_of c.args.fill_rule) c.args.solver.precision
@@ -44,5 +44,5 @@ returns-clause-sized g c =
 pub returns-clause-refused : goal.returns-clause-refused
 returns-clause-refused g c =
     if_refused c.shapes_of_shifted.result
-    (λ fault why. inr (contours_of g.I.OverlayInt.value (paths_of_shape c.in_ok-shifted.shifted), c.in_ok-shifted.ensures.is, why))
+    (λ fault why. inr (contours_of g.I.IntNumber.value (paths_of_shape c.in_ok-shifted.shifted), c.in_ok-shifted.ensures.is, why))
     c.shapes_of_shifted.ensures.refused

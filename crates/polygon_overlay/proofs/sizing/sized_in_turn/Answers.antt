@@ -13,13 +13,13 @@ use Rattle.polygon_overlay.proofs.sizing.sized_in_turn.Goals as goal
 
 pub moved_source-requires-clause-fits : goal.moved_source-requires-clause-fits
 moved_source-requires-clause-fits g c =
-    let value = g.I.OverlayInt.value in
+    let value = g.I.IntNumber.value in
     fits_first c.regions_stay_in_the_box.ensures g.I.OverlayInt.least g.I.OverlayInt.greatest (amounts_of value c.args.first) (amounts_of value c.args.second)
     (contours_of value (g.R.IntShapeResource.paths c.args.source.now)) c.requires.fits
 
 pub sized-requires-clause-in_range : goal.sized-requires-clause-in_range
 sized-requires-clause-in_range g c =
-    let value = g.I.OverlayInt.value in
+    let value = g.I.IntNumber.value in
     let are = c.in_ok-shifted.ensures.is in
     shifted_in_range c.regions_stay_in_the_box.ensures g.I.OverlayInt.least g.I.OverlayInt.greatest (amounts_of value c.args.first) are.region
     (fits_first c.regions_stay_in_the_box.ensures g.I.OverlayInt.least g.I.OverlayInt.greatest (amounts_of value c.args.first)
@@ -31,7 +31,7 @@ sized-requires-clause-in_range g c =
 
 pub sized-requires-clause-straight : goal.sized-requires-clause-straight
 sized-requires-clause-straight g c =
-    let value = g.I.OverlayInt.value in
+    let value = g.I.IntNumber.value in
     (c.moved_fill_the_sized.ensures.moved g.I.OverlayInt.least g.I.OverlayInt.greatest (amounts_of value c.args.first) (fill_rule_of c.args.fill_rule)
     c.args.solver.precision
     (contours_of value (g.R.IntShapeResource.paths c.args.source.now)) (contours_of value (paths_of_shape c.in_ok-shifted.shifted)) c.requires.straight
@@ -39,7 +39,7 @@ sized-requires-clause-straight g c =
 
 pub sized-requires-clause-fits : goal.sized-requires-clause-fits
 sized-requires-clause-fits g c =
-    let value = g.I.OverlayInt.value in
+    let value = g.I.IntNumber.value in
     let are = c.in_ok-shifted.ensures.is in
     fits_again c.regions_stay_in_the_box.ensures g.I.OverlayInt.least g.I.OverlayInt.greatest (amounts_of value c.args.first) (amounts_of value c.args.second)
     are.region
@@ -50,7 +50,7 @@ sized-requires-clause-fits g c =
 
 pub returns-in_err-shifted-clause-refused : goal.returns-in_err-shifted-clause-refused
 returns-in_err-shifted-clause-refused g c =
-    let value = g.I.OverlayInt.value in
+    let value = g.I.IntNumber.value in
     let p = err_from_is_err_and c.from_residual.result c.from_residual.ensures.1 in
     rw p.1
     (inl
@@ -60,7 +60,7 @@ returns-in_err-shifted-clause-refused g c =
 
 pub returns-clause-sized : goal.returns-clause-sized
 returns-clause-sized g c =
-    let value = g.I.OverlayInt.value in
+    let value = g.I.IntNumber.value in
     if_answered c.sized.result
     (λ shapes.
     in_turn_answer g.I.OverlayInt.least g.I.OverlayInt.greatest c.moved_fill_the_sized.ensures (amounts_of value c.args.first)
@@ -72,4 +72,4 @@ returns-clause-sized g c =
 pub returns-clause-refused : goal.returns-clause-refused
 returns-clause-refused g c =
     if_refused c.sized.result
-    (λ fault why. inr (contours_of g.I.OverlayInt.value (paths_of_shape c.in_ok-shifted.shifted), c.in_ok-shifted.ensures.is, why)) c.sized.ensures.refused
+    (λ fault why. inr (contours_of g.I.IntNumber.value (paths_of_shape c.in_ok-shifted.shifted), c.in_ok-shifted.ensures.is, why)) c.sized.ensures.refused

@@ -2,7 +2,6 @@
 //! there is no graph. It takes the time of redrawing and of the sweep.
 
 ghost use Rattle.std.specs.Prelude.{◌≡◌, ◌↔◌, [], map, IsTrue, IfOk, OnOk};
-ghost use Rattle.segment_arrangement.specs.LentGraphs.{string_links_kept_by};
 ghost use Rattle.segment_arrangement.specs.LinkViews.{overlay_link_of};
 ghost use Rattle.segment_arrangement.specs.RuleViews.{fill_rule_of};
 ghost use Rattle.segment_arrangement.specs.SideLaws.{IsArrangement};

@@ -37,7 +37,7 @@ as_given entries es all lent kept is same given = is ∙ (ap entries same ∙ gi
 
 pub returns-then-can_be_split-clause-is : goal.returns-then-can_be_split-clause-is
 returns-then-can_be_split-clause-is g c =
-    let value = g.I.OverlayInt.value in
+    let value = g.I.IntNumber.value in
     let subjects = contours_of value c.args.subjects.now in
     let clips = contours_of value c.args.clips.now in
     let laid = rw c.in-Some.is at c.in_ok-segments.ensures in
@@ -46,7 +46,7 @@ returns-then-can_be_split-clause-is g c =
 
 pub returns-then-can_be_split-clause-arrangement : goal.returns-then-can_be_split-clause-arrangement
 returns-then-can_be_split-clause-arrangement g c =
-    let value = g.I.OverlayInt.value in
+    let value = g.I.IntNumber.value in
     let subjects = contours_of value c.args.subjects.now in
     let clips = contours_of value c.args.clips.now in
     let precision = c.args.solver.now.precision in
@@ -58,7 +58,7 @@ returns-then-can_be_split-clause-arrangement g c =
 
 pub returns-then-can_be_split-clause-in_range : goal.returns-then-can_be_split-clause-in_range
 returns-then-can_be_split-clause-in_range g c =
-    let value = g.I.OverlayInt.value in
+    let value = g.I.IntNumber.value in
     subst (λ xs. AreWithin g.I.OverlayInt.least g.I.OverlayInt.greatest (entries_of value xs)) c.deref-3.ensures.value (c.if-can_be_split.ensures.in_range refl)
 
 pub returns-in_err-edges-clause-is : goal.returns-in_err-edges-clause-is
@@ -106,12 +106,12 @@ can_be_split-requires-2 g c κs = λ h. (⊑_static κs.1.0, (h.0, (⊑_static �
 
 pub split-requires-clause-in_range : goal.split-requires-clause-in_range
 split-requires-clause-in_range g c =
-    let value = g.I.OverlayInt.value in
+    let value = g.I.IntNumber.value in
     subst (λ xs. AreWithin g.I.OverlayInt.least g.I.OverlayInt.greatest (entries_of value xs)) c.deref-2.ensures.value (c.if-not-can_be_split.ensures.in_range refl)
 
 pub split-requires-clause-counted : goal.split-requires-clause-counted
 split-requires-clause-counted g c =
-    let value = g.I.OverlayInt.value in
+    let value = g.I.IntNumber.value in
     subst (λ xs. AreCounted boolean (entries_of value xs)) c.deref-2.ensures.value (c.if-not-can_be_split.ensures.counted refl)
 
 pub returns-then-can_be_split-clause-few : goal.returns-then-can_be_split-clause-few

@@ -7,5 +7,5 @@ use Rattle.reference.proofs.contours.is_one_of.Given as goal
 -- None of the edges before this one is it.
 abbrev pub invariant-loop-i : goal.invariant-loop-i
 invariant-loop-i g l =
-    is_one_of (edges_of g.I.OverlayInt.value l.edges) (edge_of g.I.OverlayInt.value l.edge)
-    ≡ is_one_of (drop l.i (edges_of g.I.OverlayInt.value l.edges)) (edge_of g.I.OverlayInt.value l.edge)
+    is_one_of (edges_of g.I.IntNumber.value l.edges) (edge_of g.I.IntNumber.value l.edge)
+    ≡ is_one_of (drop l.i (edges_of g.I.IntNumber.value l.edges)) (edge_of g.I.IntNumber.value l.edge)

@@ -14,7 +14,7 @@ use Rattle.reference.proofs.contours.walks.Goals as goal
 
 pub returns-in_default-clause-is : goal.returns-in_default-clause-is
 returns-in_default-clause-is g c =
-    let value = g.I.OverlayInt.value in
+    let value = g.I.IntNumber.value in
     let loop = c.loop-walk in
     let left = borders_of value loop.left.items in
     let n = length c.args.links.now in
@@ -29,7 +29,7 @@ left_by-requires g c = rw c.deref-in-loop-walk-2.ensures.value c.loop-walk.invar
 
 pub loop-walk-preserved : goal.loop-walk-preserved
 loop-walk-preserved g c =
-    let value = g.I.OverlayInt.value in
+    let value = g.I.IntNumber.value in
     let loop = c.loop-walk in
     let left = borders_of value loop.left.items in
     let left_now = borders_of value c.in_ok-left-2.left.items in
@@ -56,7 +56,7 @@ loop-walk-preserved g c =
 
 pub returns-clause-is : goal.returns-clause-is
 returns-clause-is g c =
-    let value = g.I.OverlayInt.value in
+    let value = g.I.IntNumber.value in
     let loop = c.loop-walk in
     let so_far = walks_of value loop.contours.items in
     let end : 0 ≡ length c.args.links.now - loop._walk = omega (arith, c.loop-walk-test.false) in

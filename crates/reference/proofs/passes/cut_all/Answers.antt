@@ -12,11 +12,11 @@ use Rattle.reference.proofs.passes.cut_all.Goals as goal
 
 pub find_marks-requires-clause-s_in_range : goal.find_marks-requires-clause-s_in_range
 find_marks-requires-clause-s_in_range g c =
-    All-mapped (λ e. IsEdgeWithin g.I.OverlayInt.least g.I.OverlayInt.greatest e.edge) (entry_of g.I.OverlayInt.value) c.args.segments.now _ c.segment-item.result c.loop-segment-test.true c.segment-item.is c.requires.in_range
+    All-mapped (λ e. IsEdgeWithin g.I.OverlayInt.least g.I.OverlayInt.greatest e.edge) (entry_of g.I.IntNumber.value) c.args.segments.now _ c.segment-item.result c.loop-segment-test.true c.segment-item.is c.requires.in_range
 
 pub loop-segment-preserved : goal.loop-segment-preserved
 loop-segment-preserved g c =
-    let value = g.I.OverlayInt.value in
+    let value = g.I.IntNumber.value in
     let segments = c.args.segments.now in
     let i = c.loop-segment.segment-index in
     let segment = c.segment-item.result in

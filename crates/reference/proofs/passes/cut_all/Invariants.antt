@@ -6,6 +6,6 @@ use Rattle.reference.proofs.passes.cut_all.Given as goal
 -- The segments before this one are cut.
 abbrev pub invariant-loop-segment : goal.invariant-loop-segment
 invariant-loop-segment g l =
-    let value = g.I.OverlayInt.value in
+    let value = g.I.IntNumber.value in
     let edges = edges_of (entries_of value l.segments) in
     entries_of value l.pieces.items ≡ flat_map (cut g.C.WindingCount.counting (marks_in l.precision l.pass) edges) (entries_of value (take l.segment-index l.segments))

@@ -9,7 +9,7 @@ use Rattle.reference.proofs.passes.ends_inside.Goals as goal
 
 pub returns : goal.returns
 returns g c =
-    let value = g.I.OverlayInt.value in
+    let value = g.I.IntNumber.value in
     map-append (point_of value) (option_to_list c.if_inside.result) (option_to_list c.if_inside-2.result)
     ∙ (ap₂ (λ l m. l ++ m) c.if_inside.ensures c.if_inside-2.ensures
     ∙ filter_two (λ p. strictly_inside p (edge_of value c.args.s)) (point_of value c.args.t.a) (point_of value c.args.t.b))

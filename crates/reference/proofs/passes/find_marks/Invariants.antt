@@ -9,7 +9,7 @@ use Rattle.reference.proofs.passes.find_marks.Given as goal
 -- The marks are those of the segments from this place on.
 abbrev pub invariant-loop-left : goal.invariant-loop-left
 invariant-loop-left g l =
-    let value = g.I.OverlayInt.value in
+    let value = g.I.IntNumber.value in
     (l.left ≤ length l.segments)
     × (points_of value l.marks.items ≡ along (edge_of value l.s) (marks_on (marks_in l.precision l.pass) (edges_of (entries_of value (drop l.left l.segments))) (edge_of value l.s)))
 

@@ -7,7 +7,7 @@ use Rattle.reference.proofs.passes.lay_path.Given as goal
 -- What is laid, and then what the path lays from this mark on, is all.
 abbrev pub invariant-loop-mark : goal.invariant-loop-mark
 invariant-loop-mark g l =
-    let value = g.I.OverlayInt.value in
+    let value = g.I.IntNumber.value in
     let lays = laid_path g.C.WindingCount.counting l.fn.segment.count in
     let rest = points_of value (drop l.mark-index l.marks) ++ (point_of value l.fn.segment.x_segment.b ∷ []) in
     entries_of value l.pieces.items ++ lays (point_of value l.from ∷ rest)

@@ -14,14 +14,14 @@ use Rattle.reference.proofs.shapes.add_hole.Goals as goal
 
 pub returns-then-not-contour-clause-is : goal.returns-then-not-contour-clause-is
 returns-then-not-contour-clause-is g c = λ links e.
-    let value = g.I.OverlayInt.value in
+    let value = g.I.IntNumber.value in
     let paths = contours_of value c.args.paths.now.items in
     let none = no_hole_of_outline (contour_of value) c.args.contours.now links c.args.hole c.index-contours-hole.result c.requires.within c.index-contours-hole.is c.args.outline c.if-not-contour.true in
     sym (ap (λ hs. paths ++ map (finished c.args.keep_all) hs) none ∙ append-nil paths)
 
 pub returns-then-not-is_owned_by-clause-is : goal.returns-then-not-is_owned_by-clause-is
 returns-then-not-is_owned_by-clause-is g c = λ links e.
-    let value = g.I.OverlayInt.value in
+    let value = g.I.IntNumber.value in
     let paths = contours_of value c.args.paths.now.items in
     let contours = walks_of value c.args.contours.now in
     let inside : c.args.hole < length contours = omega (arith, c.requires.within, length-map c.args.contours.now (contour_of value)) in
@@ -35,11 +35,11 @@ returns-then-not-is_owned_by-clause-is g c = λ links e.
 pub finished-requires : goal.finished-requires
 finished-requires g c =
     rw c.deref.ensures.value
-    (All-mapped (λ (k : Contour). All (IsWithin g.I.OverlayInt.least g.I.OverlayInt.greatest) k.points) (contour_of g.I.OverlayInt.value) c.args.contours.now c.args.hole c.index-contours-hole.result c.requires.within c.index-contours-hole.is c.requires.in_range)
+    (All-mapped (λ (k : Contour). All (IsWithin g.I.OverlayInt.least g.I.OverlayInt.greatest) k.points) (contour_of g.I.IntNumber.value) c.args.contours.now c.args.hole c.index-contours-hole.result c.requires.within c.index-contours-hole.is c.requires.in_range)
 
 pub returns-clause-is : goal.returns-clause-is
 returns-clause-is g c = λ links e.
-    let value = g.I.OverlayInt.value in
+    let value = g.I.IntNumber.value in
     let paths = contours_of value c.args.paths.now.items in
     let contours = walks_of value c.args.contours.now in
     let here = contour_of value c.index-contours-hole.result in

@@ -13,7 +13,7 @@ use Rattle.reference.proofs.shapes.add_shape.Goals as goal
 
 pub returns-then-outline-clause-is : goal.returns-then-outline-clause-is
 returns-then-outline-clause-is g c = λ links e.
-    let value = g.I.OverlayInt.value in
+    let value = g.I.IntNumber.value in
     let shapes = shapes_of value c.args.shapes.now.items in
     let none = shape_of_hole (contour_of value) c.args.contours.now links c.args.number c.index-contours-number.result c.requires.within c.index-contours-number.is c.if-outline.true in
     sym (ap (λ ss. shapes ++ map (map (finished c.args.keep_all)) ss) none ∙ append-nil shapes)
@@ -21,11 +21,11 @@ returns-then-outline-clause-is g c = λ links e.
 pub finished-requires : goal.finished-requires
 finished-requires g c =
     rw c.deref.ensures.value
-    (All-mapped (λ (k : Contour). All (IsWithin g.I.OverlayInt.least g.I.OverlayInt.greatest) k.points) (contour_of g.I.OverlayInt.value) c.args.contours.now c.args.number c.index-contours-number.result c.requires.within c.index-contours-number.is c.requires.in_range)
+    (All-mapped (λ (k : Contour). All (IsWithin g.I.OverlayInt.least g.I.OverlayInt.greatest) k.points) (contour_of g.I.IntNumber.value) c.args.contours.now c.args.number c.index-contours-number.result c.requires.within c.index-contours-number.is c.requires.in_range)
 
 pub loop-hole-preserved : goal.loop-hole-preserved
 loop-hole-preserved g c = λ links e.
-    let value = g.I.OverlayInt.value in
+    let value = g.I.IntNumber.value in
     let contours = walks_of value c.args.contours.now in
     let i = c.loop-hole.hole in
     let n = c.args.number in
@@ -41,7 +41,7 @@ loop-hole-preserved g c = λ links e.
 
 pub returns-clause-is : goal.returns-clause-is
 returns-clause-is g c = λ links e.
-    let value = g.I.OverlayInt.value in
+    let value = g.I.IntNumber.value in
     let contours = walks_of value c.args.contours.now in
     let n = c.args.number in
     let shapes = shapes_of value c.args.shapes.now.items in

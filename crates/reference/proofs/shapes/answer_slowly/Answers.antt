@@ -10,7 +10,7 @@ use Rattle.reference.proofs.shapes.answer_slowly.Goals as goal
 
 pub add_shape-requires-clause-all_owned : goal.add_shape-requires-clause-all_owned
 add_shape-requires-clause-all_owned g c =
-    let value = g.I.OverlayInt.value in
+    let value = g.I.IntNumber.value in
     let links = borders_of value c.args.links.now in
     let contours = c.in_ok-contours.contours.items in
     let many : length c.in_ok-owners.owners.items ≡ length contours =
@@ -20,7 +20,7 @@ add_shape-requires-clause-all_owned g c =
 
 pub loop-number-preserved : goal.loop-number-preserved
 loop-number-preserved g c =
-    let value = g.I.OverlayInt.value in
+    let value = g.I.IntNumber.value in
     let links = borders_of value c.args.links.now in
     let contours = walks_of value c.in_ok-contours.contours.items in
     let i = c.loop-number.number in

@@ -6,7 +6,7 @@ use Rattle.reference.proofs.thinning.is_straight.Goals as goal
 
 pub returns : goal.returns
 returns g c =
-    let value = g.I.OverlayInt.value in
+    let value = g.I.IntNumber.value in
     let t = turn (point_of value c.args.a) (point_of value c.args.b) (point_of value c.args.c) in (
       λ h. int_equal t (pos 0) (sym c.orientation.ensures ∙ is_equal c.orientation.result (sym c.is_eq.ensures ∙ h)),
       λ h. rw (c.is_eq.ensures, c.orientation.ensures, h) refl,

@@ -9,5 +9,5 @@ use Rattle.reference.proofs.turning.first_by_turn.Given as goal
 -- The first of the points behind is known.
 abbrev pub invariant-loop-done : goal.invariant-loop-done
 invariant-loop-done g l =
-    (point_if_any g.I.OverlayInt.value l.first ≡ first_by_turn l.clockwise (point_of g.I.OverlayInt.value l.center) (point_of g.I.OverlayInt.value l.from) (points_of g.I.OverlayInt.value (drop (length l.points - l.done) l.points)))
-    × IfSome l.first (λ p. IsWithin g.I.OverlayInt.least g.I.OverlayInt.greatest (point_of g.I.OverlayInt.value p))
+    (point_if_any g.I.IntNumber.value l.first ≡ first_by_turn l.clockwise (point_of g.I.IntNumber.value l.center) (point_of g.I.IntNumber.value l.from) (points_of g.I.IntNumber.value (drop (length l.points - l.done) l.points)))
+    × IfSome l.first (λ p. IsWithin g.I.OverlayInt.least g.I.OverlayInt.greatest (point_of g.I.IntNumber.value p))

@@ -10,6 +10,6 @@ greater_tells z b e = grind (arith, ints)
 
 pub returns : goal.returns
 returns g c =
-    let value = g.I.OverlayInt.value in
+    let value = g.I.IntNumber.value in
     greater_tells (turn (point_of value c.args.other.now.edge.a) (point_of value c.args.other.now.edge.b) (point_of value c.args.one.now.edge.b)) c.eq.result
     (c.eq.ensures ∙ ap (λ o. ordering_index o == 2) c.orientation.ensures)

@@ -10,5 +10,5 @@ use Rattle.reference.proofs.walks.top_link.Given as goal
 -- The topmost of the links behind is known.
 abbrev pub invariant-loop-done : goal.invariant-loop-done
 invariant-loop-done g l =
-    (border_if_any g.I.OverlayInt.value l.top ≡ top_link (point_of g.I.OverlayInt.value l.v) (borders_of g.I.OverlayInt.value (drop (length l.links - l.done) l.links)))
-    × IfSome l.top (λ l. IsEdgeWithin g.I.OverlayInt.least g.I.OverlayInt.greatest (edge_of g.I.OverlayInt.value l.edge))
+    (border_if_any g.I.IntNumber.value l.top ≡ top_link (point_of g.I.IntNumber.value l.v) (borders_of g.I.IntNumber.value (drop (length l.links - l.done) l.links)))
+    × IfSome l.top (λ l. IsEdgeWithin g.I.OverlayInt.least g.I.OverlayInt.greatest (edge_of g.I.IntNumber.value l.edge))

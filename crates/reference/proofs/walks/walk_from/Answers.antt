@@ -14,7 +14,7 @@ use Rattle.reference.proofs.walks.walk_from.Goals as goal
 
 pub returns-clause-is : goal.returns-clause-is
 returns-clause-is g c =
-    let value = g.I.OverlayInt.value in
+    let value = g.I.IntNumber.value in
     let links = borders_of value c.args.links.now in
     let left = borders_of value c.in_ok-left.left.items in
     let first = point_of value c.args.first in
@@ -158,13 +158,13 @@ returns-clause-in_range g c = c.in_ok-walk_on.ensures.in_range
 pub walk_on-requires-clause-points_in_range : goal.walk_on-requires-clause-points_in_range
 walk_on-requires-clause-points_in_range g c =
     let within = IsWithin g.I.OverlayInt.least g.I.OverlayInt.greatest in
-    let seen : points_of g.I.OverlayInt.value c.push.new.self.items ≡ point_of g.I.OverlayInt.value c.args.first ∷ [] =
-    ap (points_of g.I.OverlayInt.value) (c.in_ok-push.ensures.items ∙ ap (λ ps. ps ++ c.args.first ∷ []) c.new-points.ensures.items) in
-    subst (All within) (sym seen) (All-cons within (point_of g.I.OverlayInt.value c.args.first) [] c.requires.first_in_range (All-nil within))
+    let seen : points_of g.I.IntNumber.value c.push.new.self.items ≡ point_of g.I.IntNumber.value c.args.first ∷ [] =
+    ap (points_of g.I.IntNumber.value) (c.in_ok-push.ensures.items ∙ ap (λ ps. ps ++ c.args.first ∷ []) c.new-points.ensures.items) in
+    subst (All within) (sym seen) (All-cons within (point_of g.I.IntNumber.value c.args.first) [] c.requires.first_in_range (All-nil within))
 
 pub returns-in_default-clause-in_range : goal.returns-in_default-clause-in_range
 returns-in_default-clause-in_range g c =
-    let value = g.I.OverlayInt.value in
+    let value = g.I.IntNumber.value in
     let within = IsWithin g.I.OverlayInt.least g.I.OverlayInt.greatest in
     let first = point_of value c.args.first in
     let second = point_of value c.args.second in
@@ -184,7 +184,7 @@ ended clockwise links left first second left_is none =
 
 pub returns-in_default-clause-is : goal.returns-in_default-clause-is
 returns-in_default-clause-is g c =
-    let value = g.I.OverlayInt.value in
+    let value = g.I.IntNumber.value in
     let links = borders_of value c.args.links.now in
     let left = borders_of value c.in_ok-left.left.items in
     let first = point_of value c.args.first in

@@ -14,7 +14,7 @@ use Rattle.reference.proofs.walks.walk_on.Goals as goal
 
 pub returns-in_default-clause-is : goal.returns-in_default-clause-is
 returns-in_default-clause-is g c =
-    let value = g.I.OverlayInt.value in
+    let value = g.I.IntNumber.value in
     let loop = c.loop-step in
     let so_far = points_of value loop.points.items in
     let n = c.args.steps in
@@ -27,7 +27,7 @@ returns-in_default-clause-is g c =
 
 pub returns-then-is_same_edge-clause-is : goal.returns-then-is_same_edge-clause-is
 returns-then-is_same_edge-clause-is g c =
-    let value = g.I.OverlayInt.value in
+    let value = g.I.IntNumber.value in
     let loop = c.loop-step in
     let so_far = points_of value loop.points.items in
     let last = edge_of value c.args.last in
@@ -47,7 +47,7 @@ without-requires g c = rw c.deref-in-loop-step.ensures.value c.loop-step.invaria
 
 pub loop-step-preserved : goal.loop-step-preserved
 loop-step-preserved g c =
-    let value = g.I.OverlayInt.value in
+    let value = g.I.IntNumber.value in
     let loop = c.loop-step in
     let so_far = points_of value loop.points.items in
     let last = edge_of value c.args.last in
@@ -72,7 +72,7 @@ loop-step-preserved g c =
 
 pub returns-clause-is : goal.returns-clause-is
 returns-clause-is g c =
-    let value = g.I.OverlayInt.value in
+    let value = g.I.IntNumber.value in
     let loop = c.loop-step in
     let so_far = points_of value loop.points.items in
     let n = c.args.steps in
@@ -83,7 +83,7 @@ returns-clause-is g c =
 
 pub returns-in_default-clause-in_range : goal.returns-in_default-clause-in_range
 returns-in_default-clause-in_range g c =
-    let value = g.I.OverlayInt.value in
+    let value = g.I.IntNumber.value in
     let loop = c.loop-step in
     let within = IsWithin g.I.OverlayInt.least g.I.OverlayInt.greatest in
     let pushed : points_of value c.push.new.self.items ≡ points_of value loop.points.items ++ point_of value loop.at ∷ [] = ap (points_of value) c.in_ok-push.ensures.items ∙ map-append (point_of value) loop.points.items (loop.at ∷ []) in
@@ -91,7 +91,7 @@ returns-in_default-clause-in_range g c =
 
 pub returns-then-is_same_edge-clause-in_range : goal.returns-then-is_same_edge-clause-in_range
 returns-then-is_same_edge-clause-in_range g c =
-    let value = g.I.OverlayInt.value in
+    let value = g.I.IntNumber.value in
     let loop = c.loop-step in
     let within = IsWithin g.I.OverlayInt.least g.I.OverlayInt.greatest in
     let pushed : points_of value c.push.new.self.items ≡ points_of value loop.points.items ++ point_of value loop.at ∷ [] = ap (points_of value) c.in_ok-push.ensures.items ∙ map-append (point_of value) loop.points.items (loop.at ∷ []) in

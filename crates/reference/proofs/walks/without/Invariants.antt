@@ -6,4 +6,4 @@ use Rattle.reference.proofs.walks.without.Given as goal
 
 -- The links before this one are kept or left out.
 abbrev pub invariant-loop-link : goal.invariant-loop-link
-invariant-loop-link g l = borders_of g.I.OverlayInt.value l.left.items ≡ without (edge_of g.I.OverlayInt.value l.edge) (borders_of g.I.OverlayInt.value (take l.link-index l.links))
+invariant-loop-link g l = borders_of g.I.IntNumber.value l.left.items ≡ without (edge_of g.I.IntNumber.value l.edge) (borders_of g.I.IntNumber.value (take l.link-index l.links))

@@ -9,8 +9,8 @@ use Rattle.reference.proofs.windings.is_on.Goals as goal
 
 pub returns-then-side_of-ne0 : goal.returns-then-side_of-ne0
 returns-then-side_of-ne0 g c =
-    let a = point_of g.I.OverlayInt.value c.args.edge.a in
-    let b = point_of g.I.OverlayInt.value c.args.edge.b in
+    let a = point_of g.I.IntNumber.value c.args.edge.a in
+    let b = point_of g.I.IntNumber.value c.args.edge.b in
     let place : RationalPoint = record { x = c.args.x; y = c.args.y; q = c.args.q } in
     let beside = rw (to_z-of_z w64 c.args.x c.ranges.x, to_z-of_z w64 c.args.y c.ranges.y) at c.side_of.ensures in
     off_line (side a b place) (is_le (point_order (scaled c.args.q a) (numerators place))) (is_le (point_order (numerators place) (scaled c.args.q b)))
@@ -18,8 +18,8 @@ returns-then-side_of-ne0 g c =
 
 pub returns : goal.returns
 returns g c =
-    let a = point_of g.I.OverlayInt.value c.args.edge.a in
-    let b = point_of g.I.OverlayInt.value c.args.edge.b in
+    let a = point_of g.I.IntNumber.value c.args.edge.a in
+    let b = point_of g.I.IntNumber.value c.args.edge.b in
     let place : RationalPoint = record { x = c.args.x; y = c.args.y; q = c.args.q } in
     let beside = rw (to_z-of_z w64 c.args.x c.ranges.x, to_z-of_z w64 c.args.y c.ranges.y) at c.side_of.ensures in
     let from = rw (to_z-of_z w64 c.args.x c.ranges.x, to_z-of_z w64 c.args.y c.ranges.y) at c.is_from.ensures in

@@ -18,7 +18,7 @@ either f (inr (inr c)) = inr c
 
 pub returns-clause-ok : goal.returns-clause-ok
 returns-clause-ok g c =
-    let value = g.I.OverlayInt.value in
+    let value = g.I.IntNumber.value in
     let passes = g.F.InclusionFilterStrategy.includes in
     let es = all_seen g.C.FilledCount.sides value c.args.segments.now in
     IfOk-weaker c.run_with_fill_rule.result _ _ (λ out told.
@@ -29,7 +29,7 @@ returns-clause-ok g c =
 
 pub returns-clause-err : goal.returns-clause-err
 returns-clause-err g c =
-    let value = g.I.OverlayInt.value in
+    let value = g.I.IntNumber.value in
     let passes = g.F.InclusionFilterStrategy.includes in
     let es = all_seen g.C.FilledCount.sides value c.args.segments.now in
     IfErr-weaker c.run_with_fill_rule.result _ _

@@ -26,7 +26,7 @@ returns-clause-err g c = IfErr-weaker c.find_sides.result _ _ (λ fault h. inr h
 
 pub returns-then-segments-eq1-clause-ok : goal.returns-then-segments-eq1-clause-ok
 returns-then-segments-eq1-clause-ok g c = λ es v i d e arranged all is l.
-    alone_sides (seen_of g.C.FilledCount.sides g.I.OverlayInt.value) c.args.segments.now (slice_index_or c.args.segments.now 0 c.index-segments-0.result) c.if-segments-eq1.true (ap (slice_index_or c.args.segments.now 0) c.index-segments-0.is) es v arranged all c.args.below is (λ lower s. sides_between g.C.FilledCount.sides g.C.FilledCount.filled (fill_rule_of c.args.rule) lower s.count) c.push.new.self.items
+    alone_sides (seen_of g.C.FilledCount.sides g.I.IntNumber.value) c.args.segments.now (slice_index_or c.args.segments.now 0 c.index-segments-0.result) c.if-segments-eq1.true (ap (slice_index_or c.args.segments.now 0) c.index-segments-0.is) es v arranged all c.args.below is (λ lower s. sides_between g.C.FilledCount.sides g.C.FilledCount.filled (fill_rule_of c.args.rule) lower s.count) c.push.new.self.items
     (c.in_ok-push.ensures.items ∙ (λ k. c.clear.ensures.items k ++ c.in_ok-sides_of.ensures.is k ∷ [])) i d e l
 
 pub returns-in_err-sides_of-clause-err : goal.returns-in_err-sides_of-clause-err
@@ -37,5 +37,5 @@ returns-in_err-sides_of-clause-err g c =
     (inr (
       told.0,
       λ es v d arranged all is.
-          alone_beyond (seen_of g.C.FilledCount.sides g.I.OverlayInt.value) c.args.segments.now (slice_index_or c.args.segments.now 0 c.index-segments-0.result) c.if-segments-eq1.true (ap (slice_index_or c.args.segments.now 0) c.index-segments-0.is) es v arranged all c.args.below is d told.1,
+          alone_beyond (seen_of g.C.FilledCount.sides g.I.IntNumber.value) c.args.segments.now (slice_index_or c.args.segments.now 0 c.index-segments-0.result) c.if-segments-eq1.true (ap (slice_index_or c.args.segments.now 0) c.index-segments-0.is) es v arranged all c.args.below is d told.1,
     ))

@@ -7,16 +7,16 @@ use Rattle.segment_arrangement.proofs.live.below_start.Goals as goal
 
 pub returns-clause-answer : goal.returns-clause-answer
 returns-clause-answer g c = λ es list e arranged is holds here start.
-    let edge = edge_of g.I.OverlayInt.value in
-    let p = point_of g.I.OverlayInt.value c.args.start in
+    let edge = edge_of g.I.IntNumber.value in
+    let p = point_of g.I.IntNumber.value c.args.start in
     let rising = rw c.seek.ensures.kept.entries at c.seek.ensures.sound.rising in
     answer_is_winding edge es list _ p arranged is holds e here start c.answers_are_greatest.ensures.answer _ rising
     (c.seek.ensures.answer (λ k. order_against (edge k) p) (λ i d h r f. search rules) (monotone edge es list _ p arranged is holds e here start rising))
 
 pub returns-clause-place : goal.returns-clause-place
 returns-clause-place g c = λ es list e arranged is holds here start.
-    let edge = edge_of g.I.OverlayInt.value in
-    let p = point_of g.I.OverlayInt.value c.args.start in
+    let edge = edge_of g.I.IntNumber.value in
+    let p = point_of g.I.IntNumber.value c.args.start in
     let rising = rw c.seek.ensures.kept.entries at c.seek.ensures.sound.rising in
     place_is_at edge es list _ p arranged is holds e here start _ _
     (rw c.seek.ensures.kept.entries at (c.seek.ensures.place (λ k. order_against (edge k) p) (λ i d h r f. search rules) (monotone edge es list _ p arranged is holds e here start rising)))

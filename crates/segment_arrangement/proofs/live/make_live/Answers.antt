@@ -13,7 +13,7 @@ use Rattle.segment_arrangement.proofs.live.make_live.Goals as goal
 
 pub from_segment-requires : goal.from_segment-requires
 from_segment-requires g c =
-    let value = g.I.OverlayInt.value in
+    let value = g.I.IntNumber.value in
     let s = c.index-segments-at.result in
     let within : c.args.at < length (all_seen g.C.FilledCount.sides value c.args.segments.now) = rw length-map c.requires.within in
     let same = get_or-map (seen_of g.C.FilledCount.sides value) c.args.segments.now c.args.at s (seen_of g.C.FilledCount.sides value s) c.requires.within in
@@ -21,21 +21,21 @@ from_segment-requires g c =
 
 pub insert_at-requires-clause-in_time : goal.insert_at-requires-clause-in_time
 insert_at-requires-clause-in_time g c =
-    let value = g.I.OverlayInt.value in
+    let value = g.I.IntNumber.value in
     let s = c.index-segments-at.result in
     let same = get_or-map (seen_of g.C.FilledCount.sides value) c.args.segments.now c.args.at s (seen_of g.C.FilledCount.sides value s) c.requires.within in
     time_goes_on value g.I.Ord.cmp g.met.I.OverlayInt.ordered (λ k. k.b.x) (edge_of value) (λ k. refl) (all_seen g.C.FilledCount.sides value c.args.segments.now) c.args.at _ _ (seen_of g.C.FilledCount.sides value s) c.requires.swept (rw length-map c.requires.within) (ap (λ e. e.edge.a.x) (sym same))
 
-beyond : (g : Over) (c : goal.After-insert_at-arg-then-lt-1 g) → (get_or (all_seen g.C.FilledCount.sides g.I.OverlayInt.value c.args.segments.now) c.args.at (seen_of g.C.FilledCount.sides g.I.OverlayInt.value c.index-segments-at.result)).edge.a.x <ℤ (get_or (all_seen g.C.FilledCount.sides g.I.OverlayInt.value c.args.segments.now) c.args.at (seen_of g.C.FilledCount.sides g.I.OverlayInt.value c.index-segments-at.result)).edge.b.x
+beyond : (g : Over) (c : goal.After-insert_at-arg-then-lt-1 g) → (get_or (all_seen g.C.FilledCount.sides g.I.IntNumber.value c.args.segments.now) c.args.at (seen_of g.C.FilledCount.sides g.I.IntNumber.value c.index-segments-at.result)).edge.a.x <ℤ (get_or (all_seen g.C.FilledCount.sides g.I.IntNumber.value c.args.segments.now) c.args.at (seen_of g.C.FilledCount.sides g.I.IntNumber.value c.index-segments-at.result)).edge.b.x
 beyond g c =
-    let value = g.I.OverlayInt.value in
+    let value = g.I.IntNumber.value in
     let s = c.index-segments-at.result in
     let same = get_or-map (seen_of g.C.FilledCount.sides value) c.args.segments.now c.args.at s (seen_of g.C.FilledCount.sides value s) c.requires.within in
     subst (λ e. e.edge.a.x <ℤ e.edge.b.x) (sym same) (less_if value g.I.Ord.cmp g.met.I.OverlayInt.ordered g.I.PartialOrd.partial_cmp g.met.I.Ord.matches_partial_cmp _ _ (sym c.lt.ensures ∙ c.if-lt.true))
 
 pub insert_at-requires-clause-lawful : goal.insert_at-requires-clause-lawful
 insert_at-requires-clause-lawful g c =
-    let value = g.I.OverlayInt.value in
+    let value = g.I.IntNumber.value in
     let s = c.index-segments-at.result in
     let same = get_or-map (seen_of g.C.FilledCount.sides value) c.args.segments.now c.args.at s (seen_of g.C.FilledCount.sides value s) c.requires.within in
     lawful value g.I.Ord.cmp g.met.I.OverlayInt.ordered (λ k. k.b.x) (edge_of value) (λ k. refl) (all_seen g.C.FilledCount.sides value c.args.segments.now) c.args.at (seen_of g.C.FilledCount.sides value s) (rw length-map c.requires.within)
@@ -43,7 +43,7 @@ insert_at-requires-clause-lawful g c =
 
 pub insert_at-requires-clause-new_key : goal.insert_at-requires-clause-new_key
 insert_at-requires-clause-new_key g c =
-    let value = g.I.OverlayInt.value in
+    let value = g.I.IntNumber.value in
     let s = c.index-segments-at.result in
     let same = get_or-map (seen_of g.C.FilledCount.sides value) c.args.segments.now c.args.at s (seen_of g.C.FilledCount.sides value s) c.requires.within in
     new_key value g.I.Ord.cmp g.met.I.OverlayInt.ordered (λ k. k.b.x) (edge_of value) (λ k. refl) (all_seen g.C.FilledCount.sides value c.args.segments.now) c.args.at (seen_of g.C.FilledCount.sides value s) (rw length-map c.requires.within)
@@ -51,23 +51,23 @@ insert_at-requires-clause-new_key g c =
 
 pub insert_at-requires-clause-below : goal.insert_at-requires-clause-below
 insert_at-requires-clause-below g c =
-    let value = g.I.OverlayInt.value in
+    let value = g.I.IntNumber.value in
     let s = c.index-segments-at.result in
     all_below (edge_of value) _ _ _ (c.requires.place s) c.from_segment.result (ap (λ k. point_of value k.a) c.from_segment.ensures)
 
 pub insert_at-requires-clause-above : goal.insert_at-requires-clause-above
 insert_at-requires-clause-above g c =
-    let value = g.I.OverlayInt.value in
+    let value = g.I.IntNumber.value in
     let s = c.index-segments-at.result in
     all_above (edge_of value) _ _ _ (c.requires.place s) c.from_segment.result (ap (λ k. point_of value k.a) c.from_segment.ensures)
 
 pub returns-then-lt-clause-place : goal.returns-then-lt-clause-place
 returns-then-lt-clause-place g c = λ d.
-    place_stays (edge_of g.I.OverlayInt.value) _ _ _ _ _ _ (c.requires.place d) c.in_ok-next.ensures.before c.in_ok-next.ensures.after
+    place_stays (edge_of g.I.IntNumber.value) _ _ _ _ _ _ (c.requires.place d) c.in_ok-next.ensures.before c.in_ok-next.ensures.after
 
 pub returns-then-lt-clause-ok : goal.returns-then-lt-clause-ok
 returns-then-lt-clause-ok g c =
-    let value = g.I.OverlayInt.value in
+    let value = g.I.IntNumber.value in
     let s = c.index-segments-at.result in
     let same = get_or-map (seen_of g.C.FilledCount.sides value) c.args.segments.now c.args.at s (seen_of g.C.FilledCount.sides value s) c.requires.within in
     let laws = c.entries_are_new_or_old.ensures in
@@ -80,7 +80,7 @@ returns-then-lt-clause-now g c = c.in_ok-next.ensures.ok.latest_time ∙ sym (c.
 
 pub returns-clause-ok : goal.returns-clause-ok
 returns-clause-ok g c =
-    let value = g.I.OverlayInt.value in
+    let value = g.I.IntNumber.value in
     let s = c.index-segments-at.result in
     let same = get_or-map (seen_of g.C.FilledCount.sides value) c.args.segments.now c.args.at s (seen_of g.C.FilledCount.sides value s) c.requires.within in
     let vertical = not_less_if value g.I.Ord.cmp g.met.I.OverlayInt.ordered g.I.PartialOrd.partial_cmp g.met.I.Ord.matches_partial_cmp _ _ (sym c.lt.ensures ∙ c.if-lt.false) in
@@ -89,7 +89,7 @@ returns-clause-ok g c =
 
 pub returns-in_err-next-clause-cost : goal.returns-in_err-next-clause-cost
 returns-in_err-next-clause-cost g c =
-    let value = g.I.OverlayInt.value in
+    let value = g.I.IntNumber.value in
     let es = all_seen g.C.FilledCount.sides value c.args.segments.now in
     let s = c.index-segments-at.result in
     let same = get_or-map (seen_of g.C.FilledCount.sides value) c.args.segments.now c.args.at s (seen_of g.C.FilledCount.sides value s) c.requires.within in
@@ -100,7 +100,7 @@ returns-in_err-next-clause-cost g c =
 
 pub returns-then-lt-clause-cost : goal.returns-then-lt-clause-cost
 returns-then-lt-clause-cost g c =
-    let value = g.I.OverlayInt.value in
+    let value = g.I.IntNumber.value in
     let es = all_seen g.C.FilledCount.sides value c.args.segments.now in
     let s = c.index-segments-at.result in
     let same = get_or-map (seen_of g.C.FilledCount.sides value) c.args.segments.now c.args.at s (seen_of g.C.FilledCount.sides value s) c.requires.within in
@@ -111,5 +111,5 @@ returns-then-lt-clause-cost g c =
 
 pub returns-clause-cost : goal.returns-clause-cost
 returns-clause-cost g c =
-    let es = all_seen g.C.FilledCount.sides g.I.OverlayInt.value c.args.segments.now in
+    let es = all_seen g.C.FilledCount.sides g.I.IntNumber.value c.args.segments.now in
     no_call _ (slanted (take c.args.at es)) (slanted (take (c.args.at + 1) es)) (g.K.KeyExpCollection.most_comparisons (length c.args.segments.now)) (slanted_rises es c.args.at (c.args.at + 1) (omega arith))

@@ -10,7 +10,7 @@ use Rattle.segment_arrangement.proofs.node.join_ends.Given as goal
 
 abbrev pub invariant-loop-start : goal.invariant-loop-start
 invariant-loop-start g l =
-    let value = g.I.OverlayInt.value in
+    let value = g.I.IntNumber.value in
     let edges = map (link_edge_of value) l.fn.links in
     let starts = ends_of_kind false 0 edges in
     let lasts = map (end_of g.N.EndNumber.half g.N.EndNumber.room g.N.EndNumber.number) l.ends.items in

@@ -11,11 +11,11 @@ use Rattle.segment_arrangement.proofs.node.number_starts.Goals as goal
 
 pub of_end-requires-clause-within : goal.of_end-requires-clause-within
 of_end-requires-clause-within g c =
-    (kept_within g.I.OverlayInt.value c.loop-to.links c.args.links.now c.loop-to.invariant.kept (HasRoomForEnds g.N.EndNumber.half) c.requires.within c.loop-to.to c.index-links-to.result c.loop-to-test.true).0
+    (kept_within g.I.IntNumber.value c.loop-to.links c.args.links.now c.loop-to.invariant.kept (HasRoomForEnds g.N.EndNumber.half) c.requires.within c.loop-to.to c.index-links-to.result c.loop-to-test.true).0
 
 pub returns-then-not-lies_with-clause-run : goal.returns-then-not-lies_with-clause-run
 returns-then-not-lies_with-clause-run g c =
-    let value = g.I.OverlayInt.value in
+    let value = g.I.IntNumber.value in
     let kept = c.loop-to.invariant.kept in
     record {
       low = c.loop-to.invariant.low;
@@ -29,7 +29,7 @@ returns-then-not-lies_with-clause-run g c =
 
 pub loop-to-preserved : goal.loop-to-preserved
 loop-to-preserved g c =
-    let value = g.I.OverlayInt.value in
+    let value = g.I.IntNumber.value in
     let links = c.loop-to.links in
     let old = c.args.links.now in
     let to = c.loop-to.to in
@@ -61,7 +61,7 @@ loop-to-preserved g c =
 
 pub returns-clause-run : goal.returns-clause-run
 returns-clause-run g c =
-    let value = g.I.OverlayInt.value in
+    let value = g.I.IntNumber.value in
     let kept = c.loop-to.invariant.kept in
     let len = starts_length value c.loop-to.links c.args.links.now kept in
     record {

@@ -6,7 +6,7 @@ use Rattle.segment_arrangement.proofs.node.number_starts.Given as goal
 
 abbrev pub invariant-loop-to : goal.invariant-loop-to
 invariant-loop-to g l =
-    let value = g.I.OverlayInt.value in
+    let value = g.I.IntNumber.value in
     let starts = ends_of_kind false 0 (map (link_edge_of value) l.fn.links) in
     record {
       low : l.from ≤ l.to;

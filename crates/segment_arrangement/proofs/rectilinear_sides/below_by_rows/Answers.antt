@@ -13,7 +13,7 @@ live_below-requires-clause-within g c = rw c.deref.ensures.value (omega (arith, 
 
 pub live_below-requires-clause-may : goal.live_below-requires-clause-may
 live_below-requires-clause-may g c =
-    let value = g.I.OverlayInt.value in
+    let value = g.I.IntNumber.value in
     let es = all_seen g.C.FilledCount.sides value c.args.segments.now in
     let rows = c.args.rows.now in
     subst (λ ends. MayLive value (value c.args.start.x) ends rows.live) (sym c.deref.ensures.value)
@@ -23,7 +23,7 @@ live_below-requires-clause-may g c =
 
 pub returns-in-Some-clause-is : goal.returns-in-Some-clause-is
 returns-in-Some-clause-is g c =
-    let value = g.I.OverlayInt.value in
+    let value = g.I.IntNumber.value in
     let es = all_seen g.C.FilledCount.sides value c.args.segments.now in
     let v = point_of value c.args.start in
     let rows = c.args.rows.now in
@@ -35,7 +35,7 @@ returns-in-Some-clause-is g c =
 
 pub returns-in-Some-clause-ends : goal.returns-in-Some-clause-ends
 returns-in-Some-clause-ends g c =
-    let value = g.I.OverlayInt.value in
+    let value = g.I.IntNumber.value in
     let es = all_seen g.C.FilledCount.sides value c.args.segments.now in
     let v = point_of value c.args.start in
     let ends = c.args.rows.now.ends.items in
@@ -52,7 +52,7 @@ returns-in-Some-clause-cost g c = searched _ _ _ _ c.live_below.result c.live_be
 
 pub returns-in-None-clause-is : goal.returns-in-None-clause-is
 returns-in-None-clause-is g c =
-    let value = g.I.OverlayInt.value in
+    let value = g.I.IntNumber.value in
     let es = all_seen g.C.FilledCount.sides value c.args.segments.now in
     let v = point_of value c.args.start in
     let rows = c.args.rows.now in
@@ -61,7 +61,7 @@ returns-in-None-clause-is g c =
 
 pub returns-in-None-clause-ends : goal.returns-in-None-clause-ends
 returns-in-None-clause-ends g c =
-    let value = g.I.OverlayInt.value in
+    let value = g.I.IntNumber.value in
     let es = all_seen g.C.FilledCount.sides value c.args.segments.now in
     let v = point_of value c.args.start in
     let ends = c.args.rows.now.ends.items in

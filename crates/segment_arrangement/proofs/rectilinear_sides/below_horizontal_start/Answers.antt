@@ -7,7 +7,7 @@ use Rattle.segment_arrangement.proofs.rectilinear_sides.below_horizontal_start.G
 
 pub returns-then-eq-clause-is : goal.returns-then-eq-clause-is
 returns-then-eq-clause-is g c =
-    let value = g.I.OverlayInt.value in
+    let value = g.I.IntNumber.value in
     let same = (c.equality_of_segments.ensures.of_points c.in-Some.end.point c.args.start).0 (sym c.if-eq.ensures) in
     vertical_tells value (all_seen g.C.FilledCount.sides value c.args.segments.now) c.requires.arrangement c.in-Some.end (rw c.in-Some.is at c.requires.vertical) (point_of value c.args.start) (ap (point_of value) same)
 

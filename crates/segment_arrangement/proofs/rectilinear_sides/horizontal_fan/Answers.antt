@@ -22,13 +22,13 @@ below_horizontal_start-below-requires-clause-starts g c = c.requires.starts c.in
 
 pub below_horizontal_start-below-requires-clause-place : goal.below_horizontal_start-below-requires-clause-place
 below_horizontal_start-below-requires-clause-place g c =
-    let value = g.I.OverlayInt.value in
+    let value = g.I.IntNumber.value in
     let y = (get_or c.args.segments.now c.args.from c.index-segments-from.result).x_segment.a.y in
     subst (λ hs. IsPlaceOf value hs (value y) c.place_of-place.result) c.deref.ensures.value c.place_of-place.ensures.is
 
 pub keep_fan-requires-clause-place : goal.keep_fan-requires-clause-place
 keep_fan-requires-clause-place g c = λ i d l m.
-    let value = g.I.OverlayInt.value in
+    let value = g.I.IntNumber.value in
     let segments = c.args.segments.now in
     let s = c.index-segments-from.result in
     let place = c.place_of-place.result in
@@ -41,7 +41,7 @@ keep_fan-requires-clause-place g c = λ i d l m.
 
 pub sides_of_pair-requires-clause-two : goal.sides_of_pair-requires-clause-two
 sides_of_pair-requires-clause-two g c =
-    let value = g.I.OverlayInt.value in
+    let value = g.I.IntNumber.value in
     let s = c.index-segments-from.result in
     let len = fan_length (seen_of g.C.FilledCount.sides value) c.args.segments.now c.args.from c.args.to (omega arith) c.requires.within in
     let few =
@@ -51,12 +51,12 @@ sides_of_pair-requires-clause-two g c =
 
 pub sides_of_pair-requires-clause-some : goal.sides_of_pair-requires-clause-some
 sides_of_pair-requires-clause-some g c =
-    let len = fan_length (seen_of g.C.FilledCount.sides g.I.OverlayInt.value) c.args.segments.now c.args.from c.args.to (omega arith) c.requires.within in
+    let len = fan_length (seen_of g.C.FilledCount.sides g.I.IntNumber.value) c.args.segments.now c.args.from c.args.to (omega arith) c.requires.within in
     omega (arith, len, c.requires.some)
 
 pub returns-in_err-right-clause-err : goal.returns-in_err-right-clause-err
 returns-in_err-right-clause-err g c =
-    let value = g.I.OverlayInt.value in
+    let value = g.I.IntNumber.value in
     let es = all_seen g.C.FilledCount.sides value c.args.segments.now in
     let s = c.index-segments-from.result in
     let order : c.args.from ≤ c.args.to = omega arith in
@@ -74,11 +74,11 @@ returns-in_err-right-clause-err g c =
 
 pub keep_fan-requires-clause-one_each : goal.keep_fan-requires-clause-one_each
 keep_fan-requires-clause-one_each g c =
-    ap length c.deref-2.ensures.value ∙ (c.in_ok-right.ensures.len ∙ fan_length (seen_of g.C.FilledCount.sides g.I.OverlayInt.value) c.args.segments.now c.args.from c.args.to (omega arith) c.requires.within)
+    ap length c.deref-2.ensures.value ∙ (c.in_ok-right.ensures.len ∙ fan_length (seen_of g.C.FilledCount.sides g.I.IntNumber.value) c.args.segments.now c.args.from c.args.to (omega arith) c.requires.within)
 
 pub keep_fan-requires-clause-uppers : goal.keep_fan-requires-clause-uppers
 keep_fan-requires-clause-uppers g c = λ i d e l.
-    let value = g.I.OverlayInt.value in
+    let value = g.I.IntNumber.value in
     let es = all_seen g.C.FilledCount.sides value c.args.segments.now in
     let s = c.index-segments-from.result in
     let order : c.args.from ≤ c.args.to = omega arith in
@@ -90,11 +90,11 @@ keep_fan-requires-clause-uppers g c = λ i d e l.
     ∙ ap (λ x. upper_side es (seen_of g.C.FilledCount.sides value x)) (fan_at (seen_of g.C.FilledCount.sides value) c.args.segments.now c.args.from c.args.to order c.requires.within i d l))
 
 pub returns-clause-len : goal.returns-clause-len
-returns-clause-len g c = c.in_ok-right.ensures.len ∙ fan_length (seen_of g.C.FilledCount.sides g.I.OverlayInt.value) c.args.segments.now c.args.from c.args.to (omega arith) c.requires.within
+returns-clause-len g c = c.in_ok-right.ensures.len ∙ fan_length (seen_of g.C.FilledCount.sides g.I.IntNumber.value) c.args.segments.now c.args.from c.args.to (omega arith) c.requires.within
 
 pub returns-clause-fills : goal.returns-clause-fills
 returns-clause-fills g c =
-    let value = g.I.OverlayInt.value in
+    let value = g.I.IntNumber.value in
     let es = all_seen g.C.FilledCount.sides value c.args.segments.now in
     let s = c.index-segments-from.result in
     let order : c.args.from ≤ c.args.to = omega arith in
@@ -105,7 +105,7 @@ returns-clause-fills g c =
 
 pub returns-clause-vertical : goal.returns-clause-vertical
 returns-clause-vertical g c =
-    let value = g.I.OverlayInt.value in
+    let value = g.I.IntNumber.value in
     let es = all_seen g.C.FilledCount.sides value c.args.segments.now in
     let s = c.index-segments-from.result in
     let t = c.index-segments-from-2.result in
@@ -124,7 +124,7 @@ returns-clause-vertical g c =
 
 pub returns-clause-cost : goal.returns-clause-cost
 returns-clause-cost g c =
-    let value = g.I.OverlayInt.value in
+    let value = g.I.IntNumber.value in
     let segments = c.args.segments.now in
     let es = all_seen g.C.FilledCount.sides value segments in
     let s = c.index-segments-from.result in
@@ -145,7 +145,7 @@ returns-clause-cost g c =
 
 pub returns-in_err-right-clause-cost : goal.returns-in_err-right-clause-cost
 returns-in_err-right-clause-cost g c =
-    let value = g.I.OverlayInt.value in
+    let value = g.I.IntNumber.value in
     let segments = c.args.segments.now in
     let es = all_seen g.C.FilledCount.sides value segments in
     let s = c.index-segments-from.result in

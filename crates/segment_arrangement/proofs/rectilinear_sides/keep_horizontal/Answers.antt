@@ -12,7 +12,7 @@ use Rattle.segment_arrangement.proofs.rectilinear_sides.keep_horizontal.Goals as
 
 pub index_mut-requires : goal.index_mut-requires
 index_mut-requires g c =
-    let value = g.I.OverlayInt.value in
+    let value = g.I.IntNumber.value in
     let s = c.index-segments-at.result in
     let rows = c.args.rows.now in
     let inside : c.args.place < length rows.ends.items =
@@ -22,7 +22,7 @@ index_mut-requires g c =
 
 pub change-requires : goal.change-requires
 change-requires g c =
-    let value = g.I.OverlayInt.value in
+    let value = g.I.IntNumber.value in
     let s = c.index-segments-at.result in
     let rows = c.args.rows.now in
     let es = all_seen g.C.FilledCount.sides value c.args.segments.now in
@@ -35,7 +35,7 @@ change-requires g c =
 
 pub returns-then-to_i64-clause-ends : goal.returns-then-to_i64-clause-ends
 returns-then-to_i64-clause-ends g c =
-    let value = g.I.OverlayInt.value in
+    let value = g.I.IntNumber.value in
     let s = c.index-segments-at.result in
     let rows = c.args.rows.now in
     let es = all_seen g.C.FilledCount.sides value c.args.segments.now in
@@ -53,7 +53,7 @@ returns-then-to_i64-clause-ends g c =
 
 pub returns-then-to_i64-clause-few : goal.returns-then-to_i64-clause-few
 returns-then-to_i64-clause-few g c =
-    let value = g.I.OverlayInt.value in
+    let value = g.I.IntNumber.value in
     let s = c.index-segments-at.result in
     let rows = c.args.rows.now in
     let es = all_seen g.C.FilledCount.sides value c.args.segments.now in
@@ -70,7 +70,7 @@ returns-then-to_i64-clause-few g c =
 
 pub returns-else-to_i64-clause-ends : goal.returns-else-to_i64-clause-ends
 returns-else-to_i64-clause-ends g c =
-    let value = g.I.OverlayInt.value in
+    let value = g.I.IntNumber.value in
     let s = c.index-segments-at.result in
     let es = all_seen g.C.FilledCount.sides value c.args.segments.now in
     record {
@@ -81,5 +81,5 @@ returns-else-to_i64-clause-ends g c =
 
 pub returns-else-to_i64-clause-few : goal.returns-else-to_i64-clause-few
 returns-else-to_i64-clause-few g c =
-    let es = all_seen g.C.FilledCount.sides g.I.OverlayInt.value c.args.segments.now in
+    let es = all_seen g.C.FilledCount.sides g.I.IntNumber.value c.args.segments.now in
     omega (arith, slanted_rises es c.args.at (c.args.at + 1) (omega arith))

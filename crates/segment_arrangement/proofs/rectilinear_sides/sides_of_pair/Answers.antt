@@ -20,16 +20,16 @@ returns-in_err-sides_of-clause-err g c =
     (inr (
       told.0,
       λ es v d arranged horizontal all is.
-          alone_beyond (seen_of g.C.FilledCount.sides g.I.OverlayInt.value) c.args.segments.now (slice_index_or c.args.segments.now 0 c.index-segments-0.result) c.if-segments-eq1.true (ap (slice_index_or c.args.segments.now 0) c.index-segments-0.is) es v arranged all c.args.below is d told.1,
+          alone_beyond (seen_of g.C.FilledCount.sides g.I.IntNumber.value) c.args.segments.now (slice_index_or c.args.segments.now 0 c.index-segments-0.result) c.if-segments-eq1.true (ap (slice_index_or c.args.segments.now 0) c.index-segments-0.is) es v arranged all c.args.below is d told.1,
     ))
 
 pub returns-then-segments-eq1-clause-lower : goal.returns-then-segments-eq1-clause-lower
 returns-then-segments-eq1-clause-lower g c = λ es v d arranged horizontal all is.
-    alone_sides (seen_of g.C.FilledCount.sides g.I.OverlayInt.value) c.args.segments.now (slice_index_or c.args.segments.now 0 c.index-segments-0.result) c.if-segments-eq1.true (ap (slice_index_or c.args.segments.now 0) c.index-segments-0.is) es v arranged all c.args.below is (λ lower s. lower) (c.args.below ∷ []) refl 0 d c.args.below c.requires.some
+    alone_sides (seen_of g.C.FilledCount.sides g.I.IntNumber.value) c.args.segments.now (slice_index_or c.args.segments.now 0 c.index-segments-0.result) c.if-segments-eq1.true (ap (slice_index_or c.args.segments.now 0) c.index-segments-0.is) es v arranged all c.args.below is (λ lower s. lower) (c.args.below ∷ []) refl 0 d c.args.below c.requires.some
 
 pub returns-then-segments-eq1-clause-ok : goal.returns-then-segments-eq1-clause-ok
 returns-then-segments-eq1-clause-ok g c = λ es v i d e arranged horizontal all is l.
-    alone_sides (seen_of g.C.FilledCount.sides g.I.OverlayInt.value) c.args.segments.now (slice_index_or c.args.segments.now 0 c.index-segments-0.result) c.if-segments-eq1.true (ap (slice_index_or c.args.segments.now 0) c.index-segments-0.is) es v arranged all c.args.below is (λ lower s. sides_between g.C.FilledCount.sides g.C.FilledCount.filled (fill_rule_of c.args.rule) lower s.count) c.push.new.self.items
+    alone_sides (seen_of g.C.FilledCount.sides g.I.IntNumber.value) c.args.segments.now (slice_index_or c.args.segments.now 0 c.index-segments-0.result) c.if-segments-eq1.true (ap (slice_index_or c.args.segments.now 0) c.index-segments-0.is) es v arranged all c.args.below is (λ lower s. sides_between g.C.FilledCount.sides g.C.FilledCount.filled (fill_rule_of c.args.rule) lower s.count) c.push.new.self.items
     (c.in_ok-push.ensures.items ∙ (λ k. c.clear.ensures.items k ++ c.in_ok-sides_of.ensures.is k ∷ [])) i d e l
 
 -- ---- a vertical one and a horizontal one
@@ -46,7 +46,7 @@ returns-in_err-horizontal-clause-err g c =
     (inr (
       told.0,
       λ es v d arranged horizontal all is.
-          horizontal_beyond (seen_of g.C.FilledCount.sides g.I.OverlayInt.value) segments x y two (get_or_default segments 0 c.index-segments-1.result x (omega (arith, two))) (ap (slice_index_or segments 1) c.index-segments-1.is) es v arranged horizontal all c.args.below is d told.1,
+          horizontal_beyond (seen_of g.C.FilledCount.sides g.I.IntNumber.value) segments x y two (get_or_default segments 0 c.index-segments-1.result x (omega (arith, two))) (ap (slice_index_or segments 1) c.index-segments-1.is) es v arranged horizontal all c.args.below is d told.1,
     ))
 
 pub returns-in_err-sides_of-2-clause-err : goal.returns-in_err-sides_of-2-clause-err
@@ -61,7 +61,7 @@ returns-in_err-sides_of-2-clause-err g c =
     (inr (
       told.0,
       λ es v d arranged horizontal all is.
-          vertical_beyond (seen_of g.C.FilledCount.sides g.I.OverlayInt.value) segments x y two (ap (slice_index_or segments 0) c.index-segments-0-2.is) (ap (slice_index_or segments 1) c.index-segments-1.is) es v arranged horizontal all c.args.below is d
+          vertical_beyond (seen_of g.C.FilledCount.sides g.I.IntNumber.value) segments x y two (ap (slice_index_or segments 0) c.index-segments-0-2.is) (ap (slice_index_or segments 1) c.index-segments-1.is) es v arranged horizontal all c.args.below is d
           (subst (λ t. count_fits (boolean.join t (g.C.FilledCount.sides x.count)) ≡ false) (ap (λ t. t.top) c.in_ok-horizontal.ensures.is) told.1),
     ))
 
@@ -72,7 +72,7 @@ returns-clause-lower g c = λ es v d arranged horizontal all is.
     let x = slice_index_or segments 0 c.index-segments-0-2.result in
     let y = slice_index_or segments 1 c.index-segments-1.result in
     ap (λ t. t.top) c.in_ok-horizontal.ensures.is
-    ∙ pair_sides (seen_of g.C.FilledCount.sides g.I.OverlayInt.value) segments x y two (ap (slice_index_or segments 0) c.index-segments-0-2.is) (ap (slice_index_or segments 1) c.index-segments-1.is) es v arranged horizontal all c.args.below is (λ lower s. lower)
+    ∙ pair_sides (seen_of g.C.FilledCount.sides g.I.IntNumber.value) segments x y two (ap (slice_index_or segments 0) c.index-segments-0-2.is) (ap (slice_index_or segments 1) c.index-segments-1.is) es v arranged horizontal all c.args.below is (λ lower s. lower)
     (boolean.join c.args.below (g.C.FilledCount.sides y.count) ∷ c.args.below ∷ []) refl 0 d c.args.below c.requires.some
 
 pub returns-clause-ok : goal.returns-clause-ok
@@ -82,6 +82,6 @@ returns-clause-ok g c = λ es v i d e arranged horizontal all is l.
     let x = slice_index_or segments 0 c.index-segments-0-2.result in
     let y = slice_index_or segments 1 c.index-segments-1.result in
     let above = c.in_ok-sides_of-2.ensures.is ∙ ap (λ t. sides_between g.C.FilledCount.sides g.C.FilledCount.filled (fill_rule_of c.args.rule) t.top x.count) c.in_ok-horizontal.ensures.is in
-    pair_sides (seen_of g.C.FilledCount.sides g.I.OverlayInt.value) segments x y two (ap (slice_index_or segments 0) c.index-segments-0-2.is) (ap (slice_index_or segments 1) c.index-segments-1.is) es v arranged horizontal all c.args.below is
+    pair_sides (seen_of g.C.FilledCount.sides g.I.IntNumber.value) segments x y two (ap (slice_index_or segments 0) c.index-segments-0-2.is) (ap (slice_index_or segments 1) c.index-segments-1.is) es v arranged horizontal all c.args.below is
     (λ lower s. sides_between g.C.FilledCount.sides g.C.FilledCount.filled (fill_rule_of c.args.rule) lower s.count) c.push-3.new.self.items
     (c.in_ok-push-3.ensures.items ∙ (λ k. (c.in_ok-push-2.ensures.items ∙ (λ m. c.clear.ensures.items m ++ above m ∷ [])) k ++ c.in_ok-horizontal.ensures.is k ∷ [])) i d e l

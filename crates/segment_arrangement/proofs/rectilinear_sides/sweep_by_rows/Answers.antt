@@ -15,14 +15,14 @@ use Rattle.segment_arrangement.proofs.rectilinear_sides.sweep_by_rows.Goals as g
 
 pub horizontal_fan-requires-clause-starts : goal.horizontal_fan-requires-clause-starts
 horizontal_fan-requires-clause-starts g c = λ d.
-    let value = g.I.OverlayInt.value in
+    let value = g.I.IntNumber.value in
     let fan = c.end_of_fan-to.ensures in
     starts_there (seen_of g.C.FilledCount.sides value) c.args.segments.now c.loop-from.from c.end_of_fan-to.result d c.requires.arrangement.rising fan.beyond fan.within c.loop-from.invariant.seam
     (λ i l m. ap (point_of value) (fan.together i d l m)) (λ l same. fan.ended d l (known_by_values value g.met.I.OverlayInt.value_tells _ _ same))
 
 pub returns-in-Some-clause-ok : goal.returns-in-Some-clause-ok
 returns-in-Some-clause-ok g c =
-    let value = g.I.OverlayInt.value in
+    let value = g.I.IntNumber.value in
     let es = all_seen g.C.FilledCount.sides value c.args.segments.now in
     let from = c.loop-from.from in
     let to = c.end_of_fan-to.result in
@@ -36,19 +36,19 @@ pub loop-from-preserved : goal.loop-from-preserved
 loop-from-preserved g c = record {
   within = c.end_of_fan-to.ensures.within;
   seam =
-      let value = g.I.OverlayInt.value in
+      let value = g.I.IntNumber.value in
       let fan = c.end_of_fan-to.ensures in
       seam_after (seen_of g.C.FilledCount.sides value) c.args.segments.now c.loop-from.from c.end_of_fan-to.result c.requires.arrangement.rising fan.beyond fan.within c.loop-from.invariant.seam
       (λ d i l m. ap (point_of value) (fan.together i d l m)) (λ d l same. fan.ended d l (known_by_values value g.met.I.OverlayInt.value_tells _ _ same));
-  heights = subst (AreHeights g.I.OverlayInt.value (all_seen g.C.FilledCount.sides g.I.OverlayInt.value c.args.segments.now)) (sym c.horizontal_fan.ensures.heights) c.loop-from.invariant.heights;
+  heights = subst (AreHeights g.I.IntNumber.value (all_seen g.C.FilledCount.sides g.I.IntNumber.value c.args.segments.now)) (sym c.horizontal_fan.ensures.heights) c.loop-from.invariant.heights;
   ends = c.in_ok-horizontal_fan.ensures.ends;
   vertical = c.in_ok-horizontal_fan.ensures.vertical;
   cost =
-      let es = all_seen g.C.FilledCount.sides g.I.OverlayInt.value c.args.segments.now in
+      let es = all_seen g.C.FilledCount.sides g.I.IntNumber.value c.args.segments.now in
       let most = most_comparisons (length c.args.segments.now) in
       and_then _ _ _ [] _ _ 0 (calls_of (take c.loop-from.from es) * most) (calls_of (take c.end_of_fan-to.result es) * most) c.loop-from.invariant.cost c.horizontal_fan.ensures.cost;
   led = λ output told.
-      let value = g.I.OverlayInt.value in
+      let value = g.I.IntNumber.value in
       let es = all_seen g.C.FilledCount.sides value c.args.segments.now in
       let from = c.loop-from.from in
       let to = c.end_of_fan-to.result in
@@ -59,7 +59,7 @@ loop-from-preserved g c = record {
       let after : from + length (take (to - from) (drop from c.args.segments.now)) ≡ to = omega (arith, order, fan_length (seen_of g.C.FilledCount.sides value) c.args.segments.now from to order c.end_of_fan-to.ensures.within) in
       c.loop-from.invariant.led output (rw (sym whole_rest) ((rw c.in_default.is at call) output (rw after told)));
   so_far = λ fault refused.
-      let value = g.I.OverlayInt.value in
+      let value = g.I.IntNumber.value in
       let es = all_seen g.C.FilledCount.sides value c.args.segments.now in
       let from = c.loop-from.from in
       let to = c.end_of_fan-to.result in
@@ -73,7 +73,7 @@ loop-from-preserved g c = record {
 
 pub returns-in_err-output-clause-err : goal.returns-in_err-output-clause-err
 returns-in_err-output-clause-err g c =
-    let value = g.I.OverlayInt.value in
+    let value = g.I.IntNumber.value in
     let es = all_seen g.C.FilledCount.sides value c.args.segments.now in
     let from = c.loop-from.from in
     let to = c.end_of_fan-to.result in
@@ -87,10 +87,10 @@ returns-in_err-output-clause-err g c =
 pub loop-from-init : goal.loop-from-init
 loop-from-init g c = record {
   within = omega arith;
-  seam = first_seam (all_seen g.C.FilledCount.sides g.I.OverlayInt.value c.args.segments.now);
+  seam = first_seam (all_seen g.C.FilledCount.sides g.I.IntNumber.value c.args.segments.now);
   heights = c.in_ok-lay_rows.ensures.heights;
   ends = c.in_ok-lay_rows.ensures.ends;
-  vertical = subst (HoldsVertical g.I.OverlayInt.value (all_seen g.C.FilledCount.sides g.I.OverlayInt.value c.args.segments.now)) (sym c.in_ok-lay_rows.ensures.vertical) tt;
+  vertical = subst (HoldsVertical g.I.IntNumber.value (all_seen g.C.FilledCount.sides g.I.IntNumber.value c.args.segments.now)) (sym c.in_ok-lay_rows.ensures.vertical) tt;
   cost = nothing_yet c.args.steps.now c.lay_rows.new.rows.live _ c.in_ok-lay_rows.ensures.none;
   led = λ output told. told;
   so_far = λ fault refused. refused;
@@ -101,13 +101,13 @@ returns-clause-ok g c = c.loop-from.invariant.led c.finish.result (rw (drop_all 
 
 pub returns-clause-cost : goal.returns-clause-cost
 returns-clause-cost g c =
-    let es = all_seen g.C.FilledCount.sides g.I.OverlayInt.value c.args.segments.now in
+    let es = all_seen g.C.FilledCount.sides g.I.IntNumber.value c.args.segments.now in
     let most = most_comparisons (length c.args.segments.now) in
     in_all _ _ _ (calls_of (take c.loop-from.from es)) (calls_of es) most c.loop-from.invariant.cost (calls_whole es c.loop-from.from c.loop-from.invariant.seam)
 
 pub returns-in_err-horizontal_fan-clause-cost : goal.returns-in_err-horizontal_fan-clause-cost
 returns-in_err-horizontal_fan-clause-cost g c =
-    let value = g.I.OverlayInt.value in
+    let value = g.I.IntNumber.value in
     let es = all_seen g.C.FilledCount.sides value c.args.segments.now in
     let from = c.loop-from.from in
     let to = c.end_of_fan-to.result in
@@ -120,7 +120,7 @@ returns-in_err-horizontal_fan-clause-cost g c =
 
 pub returns-in_err-output-clause-cost : goal.returns-in_err-output-clause-cost
 returns-in_err-output-clause-cost g c =
-    let value = g.I.OverlayInt.value in
+    let value = g.I.IntNumber.value in
     let es = all_seen g.C.FilledCount.sides value c.args.segments.now in
     let from = c.loop-from.from in
     let to = c.end_of_fan-to.result in
@@ -133,7 +133,7 @@ returns-in_err-output-clause-cost g c =
 
 pub returns-in-Some-clause-cost : goal.returns-in-Some-clause-cost
 returns-in-Some-clause-cost g c =
-    let value = g.I.OverlayInt.value in
+    let value = g.I.IntNumber.value in
     let es = all_seen g.C.FilledCount.sides value c.args.segments.now in
     let from = c.loop-from.from in
     let to = c.end_of_fan-to.result in

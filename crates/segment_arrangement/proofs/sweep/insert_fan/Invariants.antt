@@ -8,8 +8,8 @@ use Rattle.segment_arrangement.proofs.sweep.insert_fan.Given as goal
 
 abbrev pub invariant-loop-i : goal.invariant-loop-i
 invariant-loop-i g l = record {
-  swept : IsSwept g.I.OverlayInt.value g.I.Ord.cmp (λ k. k.b.x) (edge_of g.I.OverlayInt.value) (all_seen g.C.FilledCount.sides g.I.OverlayInt.value l.segments) l.i (g.K.KeyExpCollection.live_list l.live);
-  place : (d : _) → IsPlaceAt (edge_of g.I.OverlayInt.value) (point_of g.I.OverlayInt.value (get_or l.segments l.from d).x_segment.a) (g.K.KeyExpCollection.before_place l.live l.next) (g.K.KeyExpCollection.after_place l.live l.next);
+  swept : IsSwept g.I.IntNumber.value g.I.Ord.cmp (λ k. k.b.x) (edge_of g.I.IntNumber.value) (all_seen g.C.FilledCount.sides g.I.IntNumber.value l.segments) l.i (g.K.KeyExpCollection.live_list l.live);
+  place : (d : _) → IsPlaceAt (edge_of g.I.IntNumber.value) (point_of g.I.IntNumber.value (get_or l.segments l.from d).x_segment.a) (g.K.KeyExpCollection.before_place l.live l.next) (g.K.KeyExpCollection.after_place l.live l.next);
   now : (d : _) → (g.K.KeyExpCollection.live_list l.live).latest_time ≡ Some (get_or l.segments l.from d).x_segment.a.x;
-  cost : MakesCalls l.fn.steps l.steps (slanted (take l.from (all_seen g.C.FilledCount.sides g.I.OverlayInt.value l.segments))) (slanted (take l.i (all_seen g.C.FilledCount.sides g.I.OverlayInt.value l.segments))) (g.K.KeyExpCollection.most_comparisons (length l.segments));
+  cost : MakesCalls l.fn.steps l.steps (slanted (take l.from (all_seen g.C.FilledCount.sides g.I.IntNumber.value l.segments))) (slanted (take l.i (all_seen g.C.FilledCount.sides g.I.IntNumber.value l.segments))) (g.K.KeyExpCollection.most_comparisons (length l.segments));
 }

@@ -14,14 +14,14 @@ use Rattle.segment_arrangement.proofs.sweep.sweep.Goals as goal
 
 pub sweep_fan-requires-clause-starts : goal.sweep_fan-requires-clause-starts
 sweep_fan-requires-clause-starts g c = λ d.
-    let value = g.I.OverlayInt.value in
+    let value = g.I.IntNumber.value in
     let fan = c.end_of_fan-to.ensures in
     starts_there (seen_of g.C.FilledCount.sides value) c.args.segments.now c.loop-from.from c.end_of_fan-to.result d c.requires.arrangement.rising fan.beyond fan.within c.loop-from.invariant.seam
     (λ i l m. ap (point_of value) (fan.together i d l m)) (λ l same. fan.ended d l (known_by_values value g.met.I.OverlayInt.value_tells _ _ same))
 
 pub returns-in-Some-clause-ok : goal.returns-in-Some-clause-ok
 returns-in-Some-clause-ok g c =
-    let value = g.I.OverlayInt.value in
+    let value = g.I.IntNumber.value in
     let es = all_seen g.C.FilledCount.sides value c.args.segments.now in
     let from = c.loop-from.from in
     let to = c.end_of_fan-to.result in
@@ -35,14 +35,14 @@ pub loop-from-preserved : goal.loop-from-preserved
 loop-from-preserved g c = record {
   within = c.end_of_fan-to.ensures.within;
   seam =
-      let value = g.I.OverlayInt.value in
+      let value = g.I.IntNumber.value in
       let fan = c.end_of_fan-to.ensures in
       seam_after (seen_of g.C.FilledCount.sides value) c.args.segments.now c.loop-from.from c.end_of_fan-to.result c.requires.arrangement.rising fan.beyond fan.within c.loop-from.invariant.seam
       (λ d i l m. ap (point_of value) (fan.together i d l m)) (λ d l same. fan.ended d l (known_by_values value g.met.I.OverlayInt.value_tells _ _ same));
   cost = and_then _ _ _ _ _ _ (g.K.KeyExpCollection.most_comparisons (length c.args.segments.now)) c.loop-from.invariant.cost c.sweep_fan.ensures.cost;
   swept = c.in_ok-sweep_fan.ensures.swept;
   led = λ output told.
-      let value = g.I.OverlayInt.value in
+      let value = g.I.IntNumber.value in
       let es = all_seen g.C.FilledCount.sides value c.args.segments.now in
       let from = c.loop-from.from in
       let to = c.end_of_fan-to.result in
@@ -53,7 +53,7 @@ loop-from-preserved g c = record {
       let after : from + length (take (to - from) (drop from c.args.segments.now)) ≡ to = omega (arith, order, fan_length (seen_of g.C.FilledCount.sides value) c.args.segments.now from to order c.end_of_fan-to.ensures.within) in
       c.loop-from.invariant.led output (rw (sym whole_rest) ((rw c.in_default.is at call) output (rw after told)));
   so_far = λ fault refused.
-      let value = g.I.OverlayInt.value in
+      let value = g.I.IntNumber.value in
       let es = all_seen g.C.FilledCount.sides value c.args.segments.now in
       let from = c.loop-from.from in
       let to = c.end_of_fan-to.result in
@@ -67,7 +67,7 @@ loop-from-preserved g c = record {
 
 pub returns-in_err-output-clause-err : goal.returns-in_err-output-clause-err
 returns-in_err-output-clause-err g c =
-    let value = g.I.OverlayInt.value in
+    let value = g.I.IntNumber.value in
     let es = all_seen g.C.FilledCount.sides value c.args.segments.now in
     let from = c.loop-from.from in
     let to = c.end_of_fan-to.result in
@@ -81,8 +81,8 @@ returns-in_err-output-clause-err g c =
 pub loop-from-init : goal.loop-from-init
 loop-from-init g c = record {
   within = omega arith;
-  seam = first_seam (all_seen g.C.FilledCount.sides g.I.OverlayInt.value c.args.segments.now);
-  swept = nothing_swept g.I.OverlayInt.value g.I.Ord.cmp g.met.I.OverlayInt.ordered (λ k. k.b.x) (edge_of g.I.OverlayInt.value) (λ k. refl) (all_seen g.C.FilledCount.sides g.I.OverlayInt.value c.args.segments.now) _ c.requires.nothing;
+  seam = first_seam (all_seen g.C.FilledCount.sides g.I.IntNumber.value c.args.segments.now);
+  swept = nothing_swept g.I.IntNumber.value g.I.Ord.cmp g.met.I.OverlayInt.ordered (λ k. k.b.x) (edge_of g.I.IntNumber.value) (λ k. refl) (all_seen g.C.FilledCount.sides g.I.IntNumber.value c.args.segments.now) _ c.requires.nothing;
   led = λ output told. told;
   so_far = λ fault refused. refused;
   cost = no_call _ 0 0 (g.K.KeyExpCollection.most_comparisons (length c.args.segments.now)) (omega arith);
@@ -90,12 +90,12 @@ loop-from-init g c = record {
 
 pub returns-clause-ok : goal.returns-clause-ok
 returns-clause-ok g c =
-    let value = g.I.OverlayInt.value in
+    let value = g.I.IntNumber.value in
     c.loop-from.invariant.led c.finish.result (rw (drop_all c.loop-from.from c.args.segments.now (omega arith)) c.finish.ensures)
 
 pub returns-in_err-sweep_fan-clause-cost : goal.returns-in_err-sweep_fan-clause-cost
 returns-in_err-sweep_fan-clause-cost g c =
-    let value = g.I.OverlayInt.value in
+    let value = g.I.IntNumber.value in
     let es = all_seen g.C.FilledCount.sides value c.args.segments.now in
     let fan = c.end_of_fan-to.ensures in
     let most = g.K.KeyExpCollection.most_comparisons (length c.args.segments.now) in
@@ -106,7 +106,7 @@ returns-in_err-sweep_fan-clause-cost g c =
 
 pub returns-in_err-output-clause-cost : goal.returns-in_err-output-clause-cost
 returns-in_err-output-clause-cost g c =
-    let value = g.I.OverlayInt.value in
+    let value = g.I.IntNumber.value in
     let es = all_seen g.C.FilledCount.sides value c.args.segments.now in
     let fan = c.end_of_fan-to.ensures in
     let most = g.K.KeyExpCollection.most_comparisons (length c.args.segments.now) in
@@ -117,7 +117,7 @@ returns-in_err-output-clause-cost g c =
 
 pub returns-in-Some-clause-cost : goal.returns-in-Some-clause-cost
 returns-in-Some-clause-cost g c =
-    let value = g.I.OverlayInt.value in
+    let value = g.I.IntNumber.value in
     let es = all_seen g.C.FilledCount.sides value c.args.segments.now in
     let fan = c.end_of_fan-to.ensures in
     let most = g.K.KeyExpCollection.most_comparisons (length c.args.segments.now) in
@@ -128,6 +128,6 @@ returns-in-Some-clause-cost g c =
 
 pub returns-clause-cost : goal.returns-clause-cost
 returns-clause-cost g c =
-    let es = all_seen g.C.FilledCount.sides g.I.OverlayInt.value c.args.segments.now in
+    let es = all_seen g.C.FilledCount.sides g.I.IntNumber.value c.args.segments.now in
     let most = g.K.KeyExpCollection.most_comparisons (length c.args.segments.now) in
     in_all _ _ (calls_of (take c.loop-from.from es)) (calls_of es) most c.loop-from.invariant.cost (calls_whole es c.loop-from.from c.loop-from.invariant.seam)

@@ -18,7 +18,7 @@ use Rattle.segment_arrangement.proofs.sweep.sweep_fan.Goals as goal
 
 pub below_start-sought-requires-clause-in_time : goal.below_start-sought-requires-clause-in_time
 below_start-sought-requires-clause-in_time g c =
-    let value = g.I.OverlayInt.value in
+    let value = g.I.IntNumber.value in
     let s = c.index-segments-from.result in
     let inside : c.args.from < length c.args.segments.now = omega arith in
     let same = get_or-map (seen_of g.C.FilledCount.sides value) c.args.segments.now c.args.from s (seen_of g.C.FilledCount.sides value s) inside in
@@ -26,7 +26,7 @@ below_start-sought-requires-clause-in_time g c =
 
 pub below_start-sought-requires-clause-in_range : goal.below_start-sought-requires-clause-in_range
 below_start-sought-requires-clause-in_range g c =
-    let value = g.I.OverlayInt.value in
+    let value = g.I.IntNumber.value in
     let s = c.index-segments-from.result in
     let inside : c.args.from < length c.args.segments.now = omega arith in
     let same = get_or-map (seen_of g.C.FilledCount.sides value) c.args.segments.now c.args.from s (seen_of g.C.FilledCount.sides value s) inside in
@@ -35,7 +35,7 @@ below_start-sought-requires-clause-in_range g c =
 
 pub sides_of_fan-requires : goal.sides_of_fan-requires
 sides_of_fan-requires g c =
-    let value = g.I.OverlayInt.value in
+    let value = g.I.IntNumber.value in
     record {
       within = All-take (λ x. IsEdgeWithin g.I.OverlayInt.least g.I.OverlayInt.greatest (edge_of value x.x_segment)) (c.args.to - c.args.from) (drop c.args.from c.args.segments.now)
           (All-drop (λ x. IsEdgeWithin g.I.OverlayInt.least g.I.OverlayInt.greatest (edge_of value x.x_segment)) c.args.from c.args.segments.now (λ i d l.
@@ -44,7 +44,7 @@ sides_of_fan-requires g c =
 
 pub returns-in_err-sides_of_fan-clause-err : goal.returns-in_err-sides_of_fan-clause-err
 returns-in_err-sides_of_fan-clause-err g c =
-    let value = g.I.OverlayInt.value in
+    let value = g.I.IntNumber.value in
     let es = all_seen g.C.FilledCount.sides value c.args.segments.now in
     let s = c.index-segments-from.result in
     let inside : c.args.from < length c.args.segments.now = omega arith in
@@ -66,7 +66,7 @@ returns-in_err-sides_of_fan-clause-err g c =
 
 pub insert_fan-requires-clause-uppers : goal.insert_fan-requires-clause-uppers
 insert_fan-requires-clause-uppers g c = λ i d e l.
-    let value = g.I.OverlayInt.value in
+    let value = g.I.IntNumber.value in
     let es = all_seen g.C.FilledCount.sides value c.args.segments.now in
     let s = c.index-segments-from.result in
     let inside : c.args.from < length c.args.segments.now = omega arith in
@@ -83,7 +83,7 @@ insert_fan-requires-clause-uppers g c = λ i d e l.
 
 pub insert_fan-requires-clause-swept : goal.insert_fan-requires-clause-swept
 insert_fan-requires-clause-swept g c =
-    let value = g.I.OverlayInt.value in
+    let value = g.I.IntNumber.value in
     let es = all_seen g.C.FilledCount.sides value c.args.segments.now in
     let s = c.index-segments-from.result in
     let inside : c.args.from < length c.args.segments.now = omega arith in
@@ -96,11 +96,11 @@ insert_fan-requires-clause-swept g c =
 
 pub returns-clause-len : goal.returns-clause-len
 returns-clause-len g c =
-    on_ok_weaker c.insert_fan.result (λ done. c.in_ok-sides_of_fan.ensures.len ∙ fan_length (seen_of g.C.FilledCount.sides g.I.OverlayInt.value) c.args.segments.now c.args.from c.args.to (omega arith) c.requires.within) c.insert_fan.ensures.ok
+    on_ok_weaker c.insert_fan.result (λ done. c.in_ok-sides_of_fan.ensures.len ∙ fan_length (seen_of g.C.FilledCount.sides g.I.IntNumber.value) c.args.segments.now c.args.from c.args.to (omega arith) c.requires.within) c.insert_fan.ensures.ok
 
 pub returns-clause-fills : goal.returns-clause-fills
 returns-clause-fills g c =
-    let value = g.I.OverlayInt.value in
+    let value = g.I.IntNumber.value in
     let es = all_seen g.C.FilledCount.sides value c.args.segments.now in
     let s = c.index-segments-from.result in
     let inside : c.args.from < length c.args.segments.now = omega arith in
@@ -119,7 +119,7 @@ returns-clause-err g c = IfErr-weaker c.insert_fan.result _ _ (λ fault h. inl h
 
 pub returns-in_err-sides_of_fan-clause-cost : goal.returns-in_err-sides_of_fan-clause-cost
 returns-in_err-sides_of_fan-clause-cost g c =
-    let value = g.I.OverlayInt.value in
+    let value = g.I.IntNumber.value in
     let es = all_seen g.C.FilledCount.sides value c.args.segments.now in
     let s = c.index-segments-from.result in
     let most = g.K.KeyExpCollection.most_comparisons (length c.args.segments.now) in
@@ -130,7 +130,7 @@ returns-in_err-sides_of_fan-clause-cost g c =
 
 pub returns-clause-cost : goal.returns-clause-cost
 returns-clause-cost g c =
-    let value = g.I.OverlayInt.value in
+    let value = g.I.IntNumber.value in
     let es = all_seen g.C.FilledCount.sides value c.args.segments.now in
     let s = c.index-segments-from.result in
     let most = g.K.KeyExpCollection.most_comparisons (length c.args.segments.now) in
@@ -142,7 +142,7 @@ returns-clause-cost g c =
 
 pub insert_fan-requires-clause-place : goal.insert_fan-requires-clause-place
 insert_fan-requires-clause-place g c = λ d.
-    let value = g.I.OverlayInt.value in
+    let value = g.I.IntNumber.value in
     let es = all_seen g.C.FilledCount.sides value c.args.segments.now in
     let s = c.index-segments-from.result in
     let inside : c.args.from < length c.args.segments.now = omega arith in

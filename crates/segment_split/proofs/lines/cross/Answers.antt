@@ -14,17 +14,17 @@ none_runs n e l = absurd (omega (arith, e, l))
 
 pub returns-then-lines-eq0-clause-crossed : goal.returns-then-lines-eq0-clause-crossed
 returns-then-lines-eq0-clause-crossed g c =
-    let value = g.I.OverlayInt.value in
+    let value = g.I.IntNumber.value in
     crosses_none (point_of value c.args.point) (lines_of value c.args.lines.now) (entries_of value c.args.laid.now.items) c.args.steps.now.pairs (λ l q e. none_runs c.args.lines.now.column.running c.if-lines-eq0.true l)
 
 pub returns-in_default-clause-crossed : goal.returns-in_default-clause-crossed
 returns-in_default-clause-crossed g c =
-    let value = g.I.OverlayInt.value in
+    let value = g.I.IntNumber.value in
     crosses_none (point_of value c.args.point) (lines_of value c.args.lines.now) (entries_of value c.args.laid.now.items) c.args.steps.now.pairs (λ l q e. none_some q (sym (ap (next_of value) c.in_default.is) ∙ e))
 
 pub cross_from-requires-clause-placed : goal.cross_from-requires-clause-placed
 cross_from-requires-clause-placed g c =
-    let value = g.I.OverlayInt.value in
+    let value = g.I.IntNumber.value in
     record {
       top = point_of value c.in-Some.last;
       next = ap (next_of value) c.in-Some.is;

@@ -11,7 +11,7 @@ use Rattle.segment_split.proofs.lines.cross_from.Goals as goal
 
 pub loop-next-init : goal.loop-next-init
 loop-next-init g c =
-    let value = g.I.OverlayInt.value in (
+    let value = g.I.IntNumber.value in (
       c.requires.rising,
       c.requires.seen,
       c.requires.placed,
@@ -28,7 +28,7 @@ loop-next-smaller g c =
 
 pub loop-next-preserved : goal.loop-next-preserved
 loop-next-preserved g c =
-    let value = g.I.OverlayInt.value in
+    let value = g.I.IntNumber.value in
     let p = point_of value c.args.point in
     let lines = lines_of value c.args.lines.now in
     let laid = entries_of value c.args.laid.now.items in
@@ -53,21 +53,21 @@ loop-next-preserved g c =
 
 pub cross_next-requires-clause-above : goal.cross_next-requires-clause-above
 cross_next-requires-clause-above g c =
-    let value = g.I.OverlayInt.value in
-    subst (λ hs. IsPlaceAbove (value c.args.point.y) hs c.args.low) (sym c.loop-next.invariant.7) c.requires.above
+    let value = g.I.IntNumber.value in
+    subst (λ hs. IsPlaceAbove c.args.point.y hs c.args.low) (sym c.loop-next.invariant.7) c.requires.above
 
 pub returns-clause-rising : goal.returns-clause-rising
 returns-clause-rising g c = c.loop-next.invariant.0
 
 pub returns-clause-crossed : goal.returns-clause-crossed
 returns-clause-crossed g c =
-    let value = g.I.OverlayInt.value in
+    let value = g.I.IntNumber.value in
     crosses_by (point_of value c.args.point) (lines_of value c.args.lines.now) (entries_of value c.args.laid.now.items) c.args.steps.now.pairs (lines_of value c.loop-next.lines) (entries_of value c.loop-next.laid.items) c.loop-next.steps.pairs c.loop-next.is_crossed
     c.loop-next.invariant.4 (c.loop-next.invariant.5 (not_false c.loop-next.next.is_done c.loop-next-test.false))
 
 pub returns-in_err-next-clause-some : goal.returns-in_err-next-clause-some
 returns-in_err-next-clause-some g c =
-    let value = g.I.OverlayInt.value in
+    let value = g.I.IntNumber.value in
     let p = err_from_is_err_and c.from_residual.result c.from_residual.ensures.1 in
     rw p.1 (some_by (point_of value c.args.point) (lines_of value c.args.lines.now) (entries_of value c.args.laid.now.items) c.args.steps.now.pairs (lines_of value c.loop-next.lines) (entries_of value c.loop-next.laid.items) c.loop-next.steps.pairs c.cross_next.new.steps.pairs c.loop-next.is_crossed
     c.loop-next.invariant.4 c.in_err-next.ensures.none)

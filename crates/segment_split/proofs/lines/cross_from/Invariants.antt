@@ -10,7 +10,7 @@ use Rattle.segment_split.proofs.lines.cross_from.Given as goal
 -- The sweep came to some crossings. In the end no row below the last of them is to be met.
 abbrev pub invariant-loop-next : goal.invariant-loop-next
 invariant-loop-next g l =
-    let value = g.I.OverlayInt.value in
+    let value = g.I.IntNumber.value in
     let p = point_of value l.point in
     AreRising (rows_of value l.lines.rows.items)
     × AreSeen value l.lines

@@ -19,11 +19,11 @@ inside k place n l h = omega (arith, l, h)
 pub last_met-requires-clause-within : goal.last_met-requires-clause-within
 last_met-requires-clause-within g c =
     let placed = c.requires.placed in
-    place_within (row_of g.I.OverlayInt.value) c.args.lines.now.rows.items placed.top.y c.args.place placed.placed
+    place_within (row_of g.I.IntNumber.value) c.args.lines.now.rows.items placed.top.y c.args.place placed.placed
 
 pub returns-in_default-clause-done : goal.returns-in_default-clause-done
 returns-in_default-clause-done g c = λ _.
-    let value = g.I.OverlayInt.value in
+    let value = g.I.IntNumber.value in
     let lines = lines_of value c.args.lines.now in
     let p = point_of value c.args.point in
     let none = rw c.in_default.is at c.last_met.ensures.none in
@@ -37,7 +37,7 @@ returns-in_default-clause-done g c = λ _.
 
 pub visit-requires-clause-placed : goal.visit-requires-clause-placed
 visit-requires-clause-placed g c =
-    let value = g.I.OverlayInt.value in
+    let value = g.I.IntNumber.value in
     let rows = c.args.lines.now.rows.items in
     let placed = c.requires.placed in
     row_place (row_of value) rows c.requires.rising c.in-Some.row c.index.result.now
@@ -45,13 +45,13 @@ visit-requires-clause-placed g c =
 
 pub returns-clause-heights : goal.returns-clause-heights
 returns-clause-heights g c =
-    let value = g.I.OverlayInt.value in
-    let stop : Point = record { x = value c.args.point.x; y = value c.index.result.now.y } in
+    let value = g.I.IntNumber.value in
+    let stop : Point = record { x = c.args.point.x; y = value c.index.result.now.y } in
     ap (λ l. heights_in l.rows) c.in_ok-visit.ensures.lines ∙ heights_kept stop.y (stopped stop) (rows_of value c.args.lines.now.rows.items)
 
 pub returns-clause-placed : goal.returns-clause-placed
 returns-clause-placed g c =
-    let value = g.I.OverlayInt.value in
+    let value = g.I.IntNumber.value in
     let rows = c.args.lines.now.rows.items in
     let r = c.index.result.now in
     let p = point_of value c.args.point in
@@ -63,7 +63,7 @@ returns-clause-placed g c =
 
 pub returns-clause-crossed : goal.returns-clause-crossed
 returns-clause-crossed g c = λ _.
-    let value = g.I.OverlayInt.value in
+    let value = g.I.IntNumber.value in
     let rows = c.args.lines.now.rows.items in
     let lines = lines_of value c.args.lines.now in
     let r = c.index.result.now in

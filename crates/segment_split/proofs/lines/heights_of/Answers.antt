@@ -10,7 +10,7 @@ use Rattle.segment_split.proofs.lines.heights_of.Goals as goal
 
 pub loop-key-preserved : goal.loop-key-preserved
 loop-key-preserved g c =
-    let value = g.I.OverlayInt.value in
+    let value = g.I.IntNumber.value in
     let i = c.loop-key.key-index in
     let keys = c.args.keys.now in
     let key = c.key-item.result in
@@ -21,11 +21,11 @@ loop-key-preserved g c =
     ap (entries_of value) (taken_to keys i (i + 1) key refl (omega (arith, c.loop-key-test.true)) c.key-item.is) ∙ map-append (entry_of value) (take i keys) (key ∷ []) in
     rw next (All-push (λ (e : Entry Count). int_eq e.edge.a.x e.edge.b.x ≡ false → Contains new e.edge.a.y) before (entry_of value key)
     (All-weaker (λ (e : Entry Count). int_eq e.edge.a.x e.edge.b.x ≡ false → Contains old e.edge.a.y) (λ (e : Entry Count). int_eq e.edge.a.x e.edge.b.x ≡ false → Contains new e.edge.a.y)
-    (λ e h f. c.in_ok-add_height.ensures.kept e.edge.a.y (h f)) before c.loop-key.invariant) c.in_ok-add_height.ensures.has)
+    (λ e h f. c.in_ok-add_height.ensures.kept e.edge.a.y (h f)) before c.loop-key.invariant) (rw (ap (λ s. s.x_segment) c.key.view_is) at c.in_ok-add_height.ensures.has))
 
 pub returns-clause-has : goal.returns-clause-has
 returns-clause-has g c =
-    let value = g.I.OverlayInt.value in
+    let value = g.I.IntNumber.value in
     let keys = c.args.keys.now in
     let old = c.loop-key.heights.items in
     let new = c.sort_unstable.new.self.items in

@@ -22,7 +22,7 @@ any = record { start = 0; progression = 0 }
 
 pub returns-clause-laid : goal.returns-clause-laid
 returns-clause-laid g c =
-    let value = g.I.OverlayInt.value in
+    let value = g.I.IntNumber.value in
     let es = entries_of value c.args.keys.now in
     let first = c.args.steps.now.pairs in
     let laid = c.sweep.new.laid.items in
@@ -34,7 +34,7 @@ returns-clause-laid g c =
 
 pub returns-clause-marked : goal.returns-clause-marked
 returns-clause-marked g c = λ precision normal.
-    let value = g.I.OverlayInt.value in
+    let value = g.I.IntNumber.value in
     let es = entries_of value c.args.keys.now in
     let first = c.args.steps.now.pairs in
     let begun = subst (λ l. IsSwept es es (ended es c.args.ends.now) (lines_of value c.args.lines.now) (entries_of value l) false first first) (sym c.reserve.ensures.items) c.requires.begins in
@@ -43,7 +43,7 @@ returns-clause-marked g c = λ precision normal.
 
 pub returns-clause-ticked : goal.returns-clause-ticked
 returns-clause-ticked g c =
-    let value = g.I.OverlayInt.value in
+    let value = g.I.IntNumber.value in
     let es = entries_of value c.args.keys.now in
     let first = c.args.steps.now.pairs in
     let begun = subst (λ l. IsSwept es es (ended es c.args.ends.now) (lines_of value c.args.lines.now) (entries_of value l) false first first) (sym c.reserve.ensures.items) c.requires.begins in
@@ -54,7 +54,7 @@ returns-clause-ticked g c =
 
 pub returns-then-len-ge-TOO_MANY-clause-ticked : goal.returns-then-len-ge-TOO_MANY-clause-ticked
 returns-then-len-ge-TOO_MANY-clause-ticked g c =
-    let value = g.I.OverlayInt.value in
+    let value = g.I.IntNumber.value in
     let es = entries_of value c.args.keys.now in
     let first = c.args.steps.now.pairs in
     let begun = subst (λ l. IsSwept es es (ended es c.args.ends.now) (lines_of value c.args.lines.now) (entries_of value l) false first first) (sym c.reserve.ensures.items) c.requires.begins in
@@ -63,7 +63,7 @@ returns-then-len-ge-TOO_MANY-clause-ticked g c =
 
 pub returns-then-len-ge-TOO_MANY-clause-refused : goal.returns-then-len-ge-TOO_MANY-clause-refused
 returns-then-len-ge-TOO_MANY-clause-refused g c =
-    let value = g.I.OverlayInt.value in
+    let value = g.I.IntNumber.value in
     let es = entries_of value c.args.keys.now in
     let first = c.args.steps.now.pairs in
     let laid = c.sweep.new.laid.items in
@@ -75,13 +75,13 @@ returns-then-len-ge-TOO_MANY-clause-refused g c =
 -- memory is refused
 
 pub returns-in_err-reserve-clause-ticked : goal.returns-in_err-reserve-clause-ticked
-returns-in_err-reserve-clause-ticked g c = none_ticked (entries_of g.I.OverlayInt.value c.args.keys.now) c.args.steps.now.pairs
+returns-in_err-reserve-clause-ticked g c = none_ticked (entries_of g.I.IntNumber.value c.args.keys.now) c.args.steps.now.pairs
 
 -- what the sweep refuses
 
 pub returns-in_err-is_marked-clause-ticked : goal.returns-in_err-is_marked-clause-ticked
 returns-in_err-is_marked-clause-ticked g c =
-    let value = g.I.OverlayInt.value in
+    let value = g.I.IntNumber.value in
     let es = entries_of value c.args.keys.now in
     let first = c.args.steps.now.pairs in
     let begun = subst (λ l. IsSwept es es (ended es c.args.ends.now) (lines_of value c.args.lines.now) (entries_of value l) false first first) (sym c.reserve.ensures.items) c.requires.begins in
@@ -89,7 +89,7 @@ returns-in_err-is_marked-clause-ticked g c =
 
 pub returns-in_err-is_marked-clause-refused : goal.returns-in_err-is_marked-clause-refused
 returns-in_err-is_marked-clause-refused g c =
-    let value = g.I.OverlayInt.value in
+    let value = g.I.IntNumber.value in
     let es = entries_of value c.args.keys.now in
     let first = c.args.steps.now.pairs in
     let begun = subst (λ l. IsSwept es es (ended es c.args.ends.now) (lines_of value c.args.lines.now) (entries_of value l) false first first) (sym c.reserve.ensures.items) c.requires.begins in

@@ -10,13 +10,13 @@ pub lay_by_sweep-requires-clause-sound : goal.lay_by_sweep-requires-clause-sound
 lay_by_sweep-requires-clause-sound g c = record {
   order = c.requires.order;
   rectilinear = c.requires.rectilinear;
-  few = omega (arith, length-map c.args.keys.now (entry_of g.I.OverlayInt.value), c.requires.few);
+  few = omega (arith, length-map c.args.keys.now (entry_of g.I.IntNumber.value), c.requires.few);
   seconds = rw c.deref.ensures.value c.in_ok-ends.ensures.ends;
 }
 
 pub lay_by_sweep-requires-clause-begins : goal.lay_by_sweep-requires-clause-begins
 lay_by_sweep-requires-clause-begins g c =
-    let value = g.I.OverlayInt.value in
+    let value = g.I.IntNumber.value in
     let es = entries_of value c.args.keys.now in
     let lines = c.in_ok-lines.lines in
     let seconds = rw (← c.deref.ensures.value) at c.in_ok-ends.ensures.ends in
@@ -26,7 +26,7 @@ lay_by_sweep-requires-clause-begins g c =
 -- memory is refused before the sweep
 
 pub returns-in_err-lines-clause-ticked : goal.returns-in_err-lines-clause-ticked
-returns-in_err-lines-clause-ticked g c = none_ticked (entries_of g.I.OverlayInt.value c.args.keys.now) c.args.steps.now.pairs
+returns-in_err-lines-clause-ticked g c = none_ticked (entries_of g.I.IntNumber.value c.args.keys.now) c.args.steps.now.pairs
 
 pub returns-in_err-ends-clause-ticked : goal.returns-in_err-ends-clause-ticked
-returns-in_err-ends-clause-ticked g c = none_ticked (entries_of g.I.OverlayInt.value c.args.keys.now) c.args.steps.now.pairs
+returns-in_err-ends-clause-ticked g c = none_ticked (entries_of g.I.IntNumber.value c.args.keys.now) c.args.steps.now.pairs

@@ -4,7 +4,7 @@ use Rattle.segment_split.proofs.lines.stands_at.Goals as goal
 
 pub returns-then-place-heights : goal.returns-then-place-heights
 returns-then-place-heights g c = λ same.
-    let value = g.I.OverlayInt.value in
+    let value = g.I.IntNumber.value in
     let heights = c.args.heights.now in
     let place = c.args.place in
     let r = c.index-heights-place.result in

@@ -10,7 +10,7 @@ use Rattle.segment_split.proofs.lines.sweep.Goals as goal
 
 pub loop-left-init : goal.loop-left-init
 loop-left-init g c =
-    let value = g.I.OverlayInt.value in
+    let value = g.I.IntNumber.value in
     let keys = c.args.keys.now in
     let es = entries_of value keys in
     let ends = c.args.ends.now in
@@ -46,7 +46,7 @@ loop-left-preserved g c = (
 
 pub returns-clause-swept : goal.returns-clause-swept
 returns-clause-swept g c = λ first is.
-    let value = g.I.OverlayInt.value in
+    let value = g.I.IntNumber.value in
     let es = entries_of value c.args.keys.now in
     let left = c.loop-left.left in
     let none : left.starts ≡ 0 = omega (arith, c.loop-left-test.false) in

@@ -8,7 +8,7 @@ use Rattle.segment_split.proofs.lines.sweep.Given as goal
 -- The sweep came to where what is left begins and ends.
 abbrev pub invariant-loop-left : goal.invariant-loop-left
 invariant-loop-left g l =
-    let value = g.I.OverlayInt.value in
+    let value = g.I.IntNumber.value in
     let es = entries_of value l.keys in
     AreRising (rows_of value l.lines.rows.items)
     × AreSeen value l.lines

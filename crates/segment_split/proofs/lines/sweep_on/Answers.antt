@@ -19,13 +19,13 @@ cross-requires-clause-placed g c = rw c.deref.ensures.value at c.place_of-place.
 
 pub visit-requires-clause-placed : goal.visit-requires-clause-placed
 visit-requires-clause-placed g c =
-    let value = g.I.OverlayInt.value in
+    let value = g.I.IntNumber.value in
     let placed = rw c.deref.ensures.value at c.place_of-place.ensures in
     subst (λ hs. IsPlaceOf (value c.next_end-point.result.y) hs c.place_of-place.result) (sym c.in_ok-is_crossed.ensures.heights) placed
 
 pub change_all-requires-clause-placed : goal.change_all-requires-clause-placed
 change_all-requires-clause-placed g c =
-    let value = g.I.OverlayInt.value in
+    let value = g.I.IntNumber.value in
     let p = point_of value c.next_end-point.result in
     let placed = rw c.deref.ensures.value at c.place_of-place.ensures in
     subst (λ hs. IsPlaceOf p.y hs c.place_of-place.result)
@@ -33,7 +33,7 @@ change_all-requires-clause-placed g c =
 
 pub passes-is_passed-requires-clause-placed : goal.passes-is_passed-requires-clause-placed
 passes-is_passed-requires-clause-placed g c =
-    let value = g.I.OverlayInt.value in
+    let value = g.I.IntNumber.value in
     let p = point_of value c.next_end-point.result in
     let es = entries_of value c.args.keys.now in
     let placed = rw c.deref.ensures.value at c.place_of-place.ensures in
@@ -44,7 +44,7 @@ passes-is_passed-requires-clause-placed g c =
 
 pub change_all-requires-2-clause-placed : goal.change_all-requires-2-clause-placed
 change_all-requires-2-clause-placed g c =
-    let value = g.I.OverlayInt.value in
+    let value = g.I.IntNumber.value in
     let p = point_of value c.next_end-point.result in
     let es = entries_of value c.args.keys.now in
     let placed = rw c.deref.ensures.value at c.place_of-place.ensures in
@@ -55,7 +55,7 @@ change_all-requires-2-clause-placed g c =
 
 pub returns-clause-fewer : goal.returns-clause-fewer
 returns-clause-fewer g c =
-    let value = g.I.OverlayInt.value in
+    let value = g.I.IntNumber.value in
     let es = entries_of value c.args.keys.now in
     let ends = c.args.ends.now in
     let left = c.args.left in
@@ -64,7 +64,7 @@ returns-clause-fewer g c =
 
 pub returns-clause-swept : goal.returns-clause-swept
 returns-clause-swept g c = λ first is.
-    let value = g.I.OverlayInt.value in
+    let value = g.I.IntNumber.value in
     let es = entries_of value c.args.keys.now in
     let ends = c.args.ends.now in
     let left = c.args.left in
@@ -85,7 +85,7 @@ returns-clause-swept g c = λ first is.
 
 pub returns-in_err-is_crossed-clause-some : goal.returns-in_err-is_crossed-clause-some
 returns-in_err-is_crossed-clause-some g c =
-    let value = g.I.OverlayInt.value in
+    let value = g.I.IntNumber.value in
     let es = entries_of value c.args.keys.now in
     let ends = c.args.ends.now in
     let left = c.args.left in
@@ -96,7 +96,7 @@ returns-in_err-is_crossed-clause-some g c =
 
 pub returns-in_err-visit-clause-some : goal.returns-in_err-visit-clause-some
 returns-in_err-visit-clause-some g c =
-    let value = g.I.OverlayInt.value in
+    let value = g.I.IntNumber.value in
     let es = entries_of value c.args.keys.now in
     let ends = c.args.ends.now in
     let left = c.args.left in
@@ -107,7 +107,7 @@ returns-in_err-visit-clause-some g c =
 
 pub returns-in_err-starts-clause-some : goal.returns-in_err-starts-clause-some
 returns-in_err-starts-clause-some g c =
-    let value = g.I.OverlayInt.value in
+    let value = g.I.IntNumber.value in
     let es = entries_of value c.args.keys.now in
     let ends = c.args.ends.now in
     let left = c.args.left in
@@ -118,7 +118,7 @@ returns-in_err-starts-clause-some g c =
 
 pub returns-in_err-ends_left-clause-some : goal.returns-in_err-ends_left-clause-some
 returns-in_err-ends_left-clause-some g c =
-    let value = g.I.OverlayInt.value in
+    let value = g.I.IntNumber.value in
     let es = entries_of value c.args.keys.now in
     let ends = c.args.ends.now in
     let left = c.args.left in
@@ -134,7 +134,7 @@ returns-in_err-visit-clause-refused g c =
 
 pub returns-in_err-starts-clause-refused : goal.returns-in_err-starts-clause-refused
 returns-in_err-starts-clause-refused g c =
-    let value = g.I.OverlayInt.value in
+    let value = g.I.IntNumber.value in
     let es = entries_of value c.args.keys.now in
     let ends = c.args.ends.now in
     let left = c.args.left in
@@ -149,7 +149,7 @@ returns-in_err-starts-clause-refused g c =
 
 pub returns-in_err-ends_left-clause-refused : goal.returns-in_err-ends_left-clause-refused
 returns-in_err-ends_left-clause-refused g c =
-    let value = g.I.OverlayInt.value in
+    let value = g.I.IntNumber.value in
     let es = entries_of value c.args.keys.now in
     let ends = c.args.ends.now in
     let left = c.args.left in

@@ -7,7 +7,7 @@ use Rattle.segment_split.proofs.mark.lay_one.Goals as goal
 
 pub returns-clause-laid : goal.returns-clause-laid
 returns-clause-laid g c =
-    let value = g.I.OverlayInt.value in
+    let value = g.I.IntNumber.value in
     let number = g.I.Wide.WideIntNumber.number in
     let before = c.args.marks.now.items in
     let mark : Mark g.row.I.Denot g.row.I-Wide.Denot = record { segment = c.args.segment; place = c.place_along-place.result; point = c.args.point } in

@@ -9,7 +9,7 @@ use Rattle.segment_split.proofs.pairs.find_marks_among_new.Goals as goal
 
 pub returns-clause-found : goal.returns-clause-found
 returns-clause-found g c =
-    let value = g.I.OverlayInt.value in
+    let value = g.I.IntNumber.value in
     let number = g.I.Wide.WideIntNumber.number in
     let es = edges_of (entries_of value c.args.segments.now) in
     let told = c.args.next_new.now in

@@ -9,7 +9,7 @@ use Rattle.segment_split.proofs.pairs.find_marks_of_new.Goals as goal
 
 pub returns-clause-found : goal.returns-clause-found
 returns-clause-found g c =
-    let value = g.I.OverlayInt.value in
+    let value = g.I.IntNumber.value in
     let number = g.I.Wide.WideIntNumber.number in
     let stride = g.I.OverlayInt.stride in
     let least = g.I.OverlayInt.least in

@@ -31,9 +31,9 @@ use Rattle.segment_split.proofs.pass.cut_at_marks.Goals.{In_ok-cut_all}
 use Rattle.segment_split.proofs.pass.cut_at_marks.Goals as goal
 
 -- the marks that were found, in order
-sorted : (g : Over) (c : In_ok-cut_all g) → AreMarks g.I.OverlayInt.stride g.I.OverlayInt.least g.I.OverlayInt.greatest (marks_in c.args.this.solver.precision c.args.this.number) (edges_of (entries_of g.I.OverlayInt.value c.args.segments.now.items)) (laid_marks g.I.OverlayInt.value g.I.Wide.WideIntNumber.number c.put_in_order.new.marks.items)
+sorted : (g : Over) (c : In_ok-cut_all g) → AreMarks g.I.OverlayInt.stride g.I.OverlayInt.least g.I.OverlayInt.greatest (marks_in c.args.this.solver.precision c.args.this.number) (edges_of (entries_of g.I.IntNumber.value c.args.segments.now.items)) (laid_marks g.I.IntNumber.value g.I.Wide.WideIntNumber.number c.put_in_order.new.marks.items)
 sorted g c =
-    let value = g.I.OverlayInt.value in
+    let value = g.I.IntNumber.value in
     let found = c.args.room.now.marks.items in
     let ordered = c.put_in_order.new.marks.items in
     marks_permuted g.I.OverlayInt.stride g.I.OverlayInt.least g.I.OverlayInt.greatest (marks_in c.args.this.solver.precision c.args.this.number) (edges_of (entries_of value c.args.segments.now.items)) (laid_marks value g.I.Wide.WideIntNumber.number found) (laid_marks value g.I.Wide.WideIntNumber.number ordered)
@@ -41,8 +41,8 @@ sorted g c =
 
 -- the map, cut at them
 parted : (g : Over) (c : In_ok-cut_all g) →
-    AreParts g.C.WindingCount.counting c.args.this.solver.precision c.args.this.number (entries_of g.I.OverlayInt.value c.args.segments.now.items)
-    (entries_of g.I.OverlayInt.value c.cut_all.new.kept.items) (entries_of g.I.OverlayInt.value c.cut_all.new.pieces.items)
+    AreParts g.C.WindingCount.counting c.args.this.solver.precision c.args.this.number (entries_of g.I.IntNumber.value c.args.segments.now.items)
+    (entries_of g.I.IntNumber.value c.cut_all.new.kept.items) (entries_of g.I.IntNumber.value c.cut_all.new.pieces.items)
 parted g c =
     let cut = rw (c.deref.ensures.value, c.deref-2.ensures.value) at c.in_ok-cut_all.ensures.cut in
     cut c.args.this.solver.precision c.args.this.number (sorted g c)
@@ -51,7 +51,7 @@ parted g c =
 
 pub returns-then-is_empty : goal.returns-then-is_empty
 returns-then-is_empty g c = λ before after own.
-    let value = g.I.OverlayInt.value in
+    let value = g.I.IntNumber.value in
     let kind = g.C.WindingCount.counting in
     let least = g.I.OverlayInt.least in
     let greatest = g.I.OverlayInt.greatest in
@@ -77,7 +77,7 @@ returns-then-is_empty g c = λ before after own.
 
 pub returns-in_err-put_in_order : goal.returns-in_err-put_in_order
 returns-in_err-put_in_order g c = λ before after own.
-    let value = g.I.OverlayInt.value in
+    let value = g.I.IntNumber.value in
     let joins = g.D.OverlayEdgeData.JOINS in
     let given = listed value joins c.args.segments.now.items in
     let p = err_from_is_err_and c.from_residual.result c.from_residual.ensures.1 in
@@ -90,7 +90,7 @@ cut_all-requires-clause-in_place g c =
 
 pub cut_all-requires-clause-within : goal.cut_all-requires-clause-within
 cut_all-requires-clause-within g c =
-    let value = g.I.OverlayInt.value in
+    let value = g.I.IntNumber.value in
     let number = g.I.Wide.WideIntNumber.number in
     let segments = c.args.segments.now.items in
     let found = c.args.room.now.marks.items in
@@ -104,7 +104,7 @@ cut_all-requires-clause-normal g c = rw c.deref.ensures.value c.requires.can.nor
 
 pub returns-in_err-cut_all : goal.returns-in_err-cut_all
 returns-in_err-cut_all g c = λ before after own.
-    let value = g.I.OverlayInt.value in
+    let value = g.I.IntNumber.value in
     let joins = g.D.OverlayEdgeData.JOINS in
     let given = listed value joins c.args.segments.now.items in
     let p = err_from_is_err_and c.from_residual-in_err-cut_all.result c.from_residual-in_err-cut_all.ensures.1 in
@@ -113,7 +113,7 @@ returns-in_err-cut_all g c = λ before after own.
 
 pub returns-then-saturating_add-ge-TOO_MANY : goal.returns-then-saturating_add-ge-TOO_MANY
 returns-then-saturating_add-ge-TOO_MANY g c = λ before after own.
-    let value = g.I.OverlayInt.value in
+    let value = g.I.IntNumber.value in
     let kind = g.C.WindingCount.counting in
     let precision = c.args.this.solver.precision in
     let k = c.args.this.number in
@@ -149,7 +149,7 @@ sort_and_merge-requires g c =
 
 pub returns-in_err-sort_and_merge : goal.returns-in_err-sort_and_merge
 returns-in_err-sort_and_merge g c = λ before after own.
-    let value = g.I.OverlayInt.value in
+    let value = g.I.IntNumber.value in
     let kind = g.C.WindingCount.counting in
     let precision = c.args.this.solver.precision in
     let k = c.args.this.number in
@@ -169,7 +169,7 @@ returns-in_err-sort_and_merge g c = λ before after own.
 
 pub returns : goal.returns
 returns g c = λ before after own.
-    let value = g.I.OverlayInt.value in
+    let value = g.I.IntNumber.value in
     let kind = g.C.WindingCount.counting in
     let least = g.I.OverlayInt.least in
     let greatest = g.I.OverlayInt.greatest in

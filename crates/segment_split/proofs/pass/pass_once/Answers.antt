@@ -11,7 +11,7 @@ find_marks-requires g c = rw (c.deref.ensures.value, c.deref-2.ensures.value) c.
 
 pub returns-in_err-is_off_grid : goal.returns-in_err-is_off_grid
 returns-in_err-is_off_grid g c =
-    let value = g.I.OverlayInt.value in
+    let value = g.I.IntNumber.value in
     let joins = g.D.OverlayEdgeData.JOINS in
     let given = listed value joins c.args.segments.now.items in
     let p = err_from_is_err_and c.from_residual.result c.from_residual.ensures.1 in

@@ -35,7 +35,7 @@ loop-k-smaller g c = omega (arith, c.loop-k-test.true)
 
 pub returns-in_err-passed : goal.returns-in_err-passed
 returns-in_err-passed g c = λ given first h.
-    let value = g.I.OverlayInt.value in
+    let value = g.I.IntNumber.value in
     let joins = g.D.OverlayEdgeData.JOINS in
     let here = c.loop-k.segments.items in
     let there = c.pass_once.new.segments.items in
@@ -48,7 +48,7 @@ returns-in_err-passed g c = λ given first h.
 
 pub returns-then-not-passed : goal.returns-then-not-passed
 returns-then-not-passed g c = λ given first h.
-    let value = g.I.OverlayInt.value in
+    let value = g.I.IntNumber.value in
     let joins = g.D.OverlayEdgeData.JOINS in
     let here = c.loop-k.segments.items in
     let there = c.pass_once.new.segments.items in
@@ -67,7 +67,7 @@ returns-then-not-passed g c = λ given first h.
 
 pub returns-then-passed : goal.returns-then-passed
 returns-then-passed g c = λ given first h.
-    let value = g.I.OverlayInt.value in
+    let value = g.I.IntNumber.value in
     let joins = g.D.OverlayEdgeData.JOINS in
     let here = c.loop-k.segments.items in
     let there = c.pass_once.new.segments.items in
@@ -87,7 +87,7 @@ returns-then-passed g c = λ given first h.
 
 pub loop-k-preserved : goal.loop-k-preserved
 loop-k-preserved g c =
-    let value = g.I.OverlayInt.value in
+    let value = g.I.IntNumber.value in
     let joins = g.D.OverlayEdgeData.JOINS in
     let here = c.loop-k.segments.items in
     let there = c.pass_once.new.segments.items in
@@ -117,7 +117,7 @@ loop-passed-init g c = ((c.loop-k.k, omega (arith, c.loop-k-test.false), c.loop-
 
 pub returns-in_err-passed-2 : goal.returns-in_err-passed-2
 returns-in_err-passed-2 g c = λ given first h.
-    let value = g.I.OverlayInt.value in
+    let value = g.I.IntNumber.value in
     let joins = g.D.OverlayEdgeData.JOINS in
     let here = c.loop-passed.segments.items in
     let there = c.pass_once-in-loop-passed.new.segments.items in
@@ -130,7 +130,7 @@ returns-in_err-passed-2 g c = λ given first h.
 
 pub returns-then-not-passed-2 : goal.returns-then-not-passed-2
 returns-then-not-passed-2 g c = λ given first h.
-    let value = g.I.OverlayInt.value in
+    let value = g.I.IntNumber.value in
     let joins = g.D.OverlayEdgeData.JOINS in
     let here = c.loop-passed.segments.items in
     let there = c.pass_once-in-loop-passed.new.segments.items in
@@ -149,7 +149,7 @@ returns-then-not-passed-2 g c = λ given first h.
 
 pub returns-then-passed-2 : goal.returns-then-passed-2
 returns-then-passed-2 g c = λ given first h.
-    let value = g.I.OverlayInt.value in
+    let value = g.I.IntNumber.value in
     let joins = g.D.OverlayEdgeData.JOINS in
     let here = c.loop-passed.segments.items in
     let there = c.pass_once-in-loop-passed.new.segments.items in
@@ -168,7 +168,7 @@ returns-then-passed-2 g c = λ given first h.
 
 pub loop-passed-smaller : goal.loop-passed-smaller
 loop-passed-smaller g c =
-    let value = g.I.OverlayInt.value in
+    let value = g.I.IntNumber.value in
     let here = c.loop-passed.segments.items in
     let there = c.pass_once-in-loop-passed.new.segments.items in
     let up = not_false c.in_ok-passed-2.passed.is_marked c.if-not-passed-2.false in
@@ -177,7 +177,7 @@ loop-passed-smaller g c =
 
 pub loop-passed-preserved : goal.loop-passed-preserved
 loop-passed-preserved g c =
-    let value = g.I.OverlayInt.value in
+    let value = g.I.IntNumber.value in
     let joins = g.D.OverlayEdgeData.JOINS in
     let here = c.loop-passed.segments.items in
     let there = c.pass_once-in-loop-passed.new.segments.items in

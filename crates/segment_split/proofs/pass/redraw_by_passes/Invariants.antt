@@ -11,7 +11,7 @@ use Rattle.segment_split.proofs.pass.redraw_by_passes.Given as goal
 -- The segments are those before pass k, in whatever redrawing those that were given were before the first pass here.
 abbrev pub invariant-loop-k : goal.invariant-loop-k
 invariant-loop-k g l =
-    let value = g.I.OverlayInt.value in
+    let value = g.I.IntNumber.value in
     let joins = g.D.OverlayEdgeData.JOINS in
     let work = work_of g.C.WindingCount.counting g.C.WindingCount.fits joins g.D.OverlayEdgeData.join l.solver in
     ((given : Listed g.row.C.Denot g.row.D.Denot joins) (first : Counts)
@@ -22,7 +22,7 @@ invariant-loop-k g l =
 -- The segments are those before some late pass.
 abbrev pub invariant-loop-passed : goal.invariant-loop-passed
 invariant-loop-passed g l =
-    let value = g.I.OverlayInt.value in
+    let value = g.I.IntNumber.value in
     let joins = g.D.OverlayEdgeData.JOINS in
     let work = work_of g.C.WindingCount.counting g.C.WindingCount.fits joins g.D.OverlayEdgeData.join l.solver in
     ((n : ℕ) × (early_passes ≤ n) × ((given : Listed g.row.C.Denot g.row.D.Denot joins) (first : Counts)
@@ -31,4 +31,4 @@ invariant-loop-passed g l =
     × IsPass g.I.OverlayInt.least g.I.OverlayInt.greatest g.C.WindingCount.counting (entries_of value l.segments.items) l.room.next_new.items
 
 abbrev pub decreases-loop-passed : goal.decreases-loop-passed
-decreases-loop-passed g l = spread (edges_of (entries_of g.I.OverlayInt.value l.segments.items))
+decreases-loop-passed g l = spread (edges_of (entries_of g.I.IntNumber.value l.segments.items))

@@ -16,7 +16,7 @@ use Rattle.segment_split.proofs.split.redraw_map.Goals as goal
 
 pub returns-in_err-swept : goal.returns-in_err-swept
 returns-in_err-swept g c =
-    let value = g.I.OverlayInt.value in
+    let value = g.I.IntNumber.value in
     let joins = g.D.OverlayEdgeData.JOINS in
     let p = err_from_is_err_and c.from_residual.result c.from_residual.ensures.1 in
     rw p.1 (subst
@@ -36,7 +36,7 @@ cross_mixed-requires g c =
 
 pub returns-in_err-crossed : goal.returns-in_err-crossed
 returns-in_err-crossed g c =
-    let value = g.I.OverlayInt.value in
+    let value = g.I.IntNumber.value in
     let joins = g.D.OverlayEdgeData.JOINS in
     let work = work_of g.C.WindingCount.counting g.C.WindingCount.fits joins g.D.OverlayEdgeData.join c.args.solver in
     let there = listed value joins c.redraw_by_lines.new.segments.items in
@@ -48,7 +48,7 @@ returns-in_err-crossed g c =
 
 -- the map that the first pass is made of
 can : (g : Over) (c : After-cross_mixed g) → CanBeRedrawn g.I.OverlayInt.least g.I.OverlayInt.greatest g.C.WindingCount.counting
-    (entries_of g.I.OverlayInt.value c.redraw_by_lines.new.segments.items)
+    (entries_of g.I.IntNumber.value c.redraw_by_lines.new.segments.items)
 can g c =
     let left = rw c.in_default.is at c.in_ok-swept.ensures in
     subst (λ l. CanBeRedrawn g.I.OverlayInt.least g.I.OverlayInt.greatest g.C.WindingCount.counting l.entries) (sym left.0) c.requires
@@ -57,7 +57,7 @@ can g c =
 
 pub redraw_by_passes-requires : goal.redraw_by_passes-requires
 redraw_by_passes-requires g c =
-    let value = g.I.OverlayInt.value in
+    let value = g.I.IntNumber.value in
     let joins = g.D.OverlayEdgeData.JOINS in
     let least = g.I.OverlayInt.least in
     let greatest = g.I.OverlayInt.greatest in
@@ -69,7 +69,7 @@ redraw_by_passes-requires g c =
 
 pub returns-in_default-crossed : goal.returns-in_default-crossed
 returns-in_default-crossed g c =
-    let value = g.I.OverlayInt.value in
+    let value = g.I.IntNumber.value in
     let joins = g.D.OverlayEdgeData.JOINS in
     let least = g.I.OverlayInt.least in
     let greatest = g.I.OverlayInt.greatest in
@@ -90,7 +90,7 @@ returns-in_default-crossed g c =
 
 pub returns-then-not-passed : goal.returns-then-not-passed
 returns-then-not-passed g c =
-    let value = g.I.OverlayInt.value in
+    let value = g.I.IntNumber.value in
     let joins = g.D.OverlayEdgeData.JOINS in
     let work = work_of g.C.WindingCount.counting g.C.WindingCount.fits joins g.D.OverlayEdgeData.join c.args.solver in
     let there = listed value joins c.redraw_by_lines.new.segments.items in
@@ -105,7 +105,7 @@ returns-then-not-passed g c =
 
 pub returns-then-passed : goal.returns-then-passed
 returns-then-passed g c =
-    let value = g.I.OverlayInt.value in
+    let value = g.I.IntNumber.value in
     let joins = g.D.OverlayEdgeData.JOINS in
     let work = work_of g.C.WindingCount.counting g.C.WindingCount.fits joins g.D.OverlayEdgeData.join c.args.solver in
     let there = listed value joins c.redraw_by_lines.new.segments.items in
@@ -120,7 +120,7 @@ returns-then-passed g c =
 
 pub redraw_by_passes-requires-2 : goal.redraw_by_passes-requires-2
 redraw_by_passes-requires-2 g c =
-    let value = g.I.OverlayInt.value in
+    let value = g.I.IntNumber.value in
     let joins = g.D.OverlayEdgeData.JOINS in
     let passed = c.in-Some-crossed.passed in
     second_is_pass (work_of g.C.WindingCount.counting g.C.WindingCount.fits joins g.D.OverlayEdgeData.join c.args.solver) g.met.C.WindingCount.lawful
@@ -132,7 +132,7 @@ redraw_by_passes-requires-2 g c =
 
 pub returns : goal.returns
 returns g c =
-    let value = g.I.OverlayInt.value in
+    let value = g.I.IntNumber.value in
     let joins = g.D.OverlayEdgeData.JOINS in
     let work = work_of g.C.WindingCount.counting g.C.WindingCount.fits joins g.D.OverlayEdgeData.join c.args.solver in
     let there = listed value joins c.redraw_by_lines.new.segments.items in

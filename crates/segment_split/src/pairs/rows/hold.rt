@@ -210,7 +210,8 @@ fn hold_one<C: WindingCount, I: OverlayInt, D, L: Ledger>(
     if !has_before(to, first, end) {
         return Ok(false);
     }
-    let s = segments[seat.number].x_segment;
+    let segment = &segments[seat.number];
+    let s = segment.x_segment;
     let mut is_off_grid = false;
     for k in first..to.len() {
         if to[k] >= end {

@@ -7,7 +7,7 @@ use Rattle.shape_rows.proofs.slices.doubled_area_of.Goals as goal
 
 pub area_of-requires : goal.area_of-requires
 area_of-requires g c =
-    let value = g.I.OverlayInt.value in
+    let value = g.I.IntNumber.value in
     let within = All (IsWithin g.I.OverlayInt.least g.I.OverlayInt.greatest) in
     subst (λ points. within (points_of value points)) (sym c.deref.ensures.value)
     (All-mapped within (λ contour. points_of value contour.points.items) c.deref-contour-items.result.now c.loop-contour.contour-index c.contour-item.result

@@ -37,7 +37,7 @@ each (Err e) f h = tt
 
 pub returns : goal.returns
 returns g c =
-    let value = g.I.OverlayInt.value in
+    let value = g.I.IntNumber.value in
     record {
       block = each c.overlay.result
           (λ found single. of_block g.I.OverlayInt.least g.I.OverlayInt.greatest (contours_of value (paths_of_shapes c.args.subject.now.shapes.items))

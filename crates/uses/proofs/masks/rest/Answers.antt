@@ -7,7 +7,7 @@ use Rattle.uses.proofs.masks.rest.Goals as goal
 
 pub returns-clause-rest : goal.returns-clause-rest
 returns-clause-rest g c =
-    let value = g.I.OverlayInt.value in
+    let value = g.I.IntNumber.value in
     if_answered c.overlay.result
     (λ found answered.
     are_rest c.straight_maps_answer_their_region.ensures c.holding_goes_on.ensures c.sources_are_held.ensures g.I.OverlayInt.least g.I.OverlayInt.greatest

@@ -46,7 +46,7 @@ around goes_on law ones others answer related =
 
 pub returns-clause-forth : goal.returns-clause-forth
 returns-clause-forth g c =
-    let value = g.I.OverlayInt.value in
+    let value = g.I.IntNumber.value in
     let both = c.in_ok-both.both in
     let made = c.in_ok-both.ensures.made in
     told within (contours_of value (paths_of_shapes c.args.one.now.shapes.items)) (contours_of value (paths_of_shapes c.args.other.now.shapes.items))
@@ -55,7 +55,7 @@ returns-clause-forth g c =
 
 pub returns-clause-back : goal.returns-clause-back
 returns-clause-back g c =
-    let value = g.I.OverlayInt.value in
+    let value = g.I.IntNumber.value in
     let both = c.in_ok-both.both in
     let made = c.in_ok-both.ensures.made in
     let ones = contours_of value (paths_of_shapes c.args.one.now.shapes.items) in

@@ -43,7 +43,7 @@ each (Err e) f h = tt
 
 pub returns : goal.returns
 returns g c =
-    let value = g.I.OverlayInt.value in
+    let value = g.I.IntNumber.value in
     let shapes = c.args.stored.now.shapes.items in
     let map = c.in_ok-map.map in
     let made = c.in_ok-map.ensures.made in

@@ -10,5 +10,5 @@ use Rattle.contour_walk.proofs.bind.anchor.lowest_from.Given as goal
 -- The lowest of the edges behind is known.
 abbrev pub invariant-loop-done : goal.invariant-loop-done
 invariant-loop-done g l =
-    (edge_if_any g.I.OverlayInt.value l.lowest ≡ lowest_from (point_of g.I.OverlayInt.value l.v) (edges_of g.I.OverlayInt.value (drop (length l.edges - l.done) l.edges)))
-    × IfSome l.lowest (λ s. IsEdgeWithin g.I.OverlayInt.least g.I.OverlayInt.greatest (edge_of g.I.OverlayInt.value s))
+    (edge_if_any g.I.IntNumber.value l.lowest ≡ lowest_from (point_of g.I.IntNumber.value l.v) (edges_of g.I.IntNumber.value (drop (length l.edges - l.done) l.edges)))
+    × IfSome l.lowest (λ s. IsEdgeWithin g.I.OverlayInt.least g.I.OverlayInt.greatest (edge_of g.I.IntNumber.value s))

@@ -15,7 +15,7 @@ use Rattle.contour_walk.proofs.bind.assembly.join_hole.Goals as goal
 
 pub returns-then-not-contours-hole-clause-is : goal.returns-then-not-contours-hole-clause-is
 returns-then-not-contours-hole-clause-is g c = λ links cs held own is.
-    let f = contour_of g.I.OverlayInt.value in
+    let f = contour_of g.I.IntNumber.value in
     let x = get_or c.args.contours.now c.args.hole c.index-contours-hole.result in
     let is_x = get_or_default c.args.contours.now c.args.hole c.index-contours-hole.result x c.requires.within in
     let at = held_at f c.args.contours.now c.args.hole x c.requires.within is_x cs held in
@@ -24,7 +24,7 @@ returns-then-not-contours-hole-clause-is g c = λ links cs held own is.
 
 pub returns-in_default-clause-is : goal.returns-in_default-clause-is
 returns-in_default-clause-is g c = λ links cs held own is.
-    let f = contour_of g.I.OverlayInt.value in
+    let f = contour_of g.I.IntNumber.value in
     let x = get_or c.args.contours.now c.args.hole c.index-contours-hole.result in
     let is_x = get_or_default c.args.contours.now c.args.hole c.index-contours-hole.result x c.requires.within in
     let at = held_at f c.args.contours.now c.args.hole x c.requires.within is_x cs held in
@@ -33,7 +33,7 @@ returns-in_default-clause-is g c = λ links cs held own is.
 
 pub returns-then-owner-shapes-clause-is : goal.returns-then-owner-shapes-clause-is
 returns-then-owner-shapes-clause-is g c = λ links cs held own is.
-    let f = contour_of g.I.OverlayInt.value in
+    let f = contour_of g.I.IntNumber.value in
     let x = get_or c.args.contours.now c.args.hole c.index-contours-hole.result in
     let is_x = get_or_default c.args.contours.now c.args.hole c.index-contours-hole.result x c.requires.within in
     let at = held_at f c.args.contours.now c.args.hole x c.requires.within is_x cs held in
@@ -44,12 +44,12 @@ returns-then-owner-shapes-clause-is g c = λ links cs held own is.
 pub take_path-path-requires : goal.take_path-path-requires
 take_path-path-requires g c =
     let y = get_or c.args.contours.now c.args.hole c.index-contours-hole-2.result in
-    All-mapped (λ (k : Contour). All (IsWithin g.I.OverlayInt.least g.I.OverlayInt.greatest) k.points) (contour_of g.I.OverlayInt.value) c.args.contours.now c.args.hole y c.requires.within
+    All-mapped (λ (k : Contour). All (IsWithin g.I.OverlayInt.least g.I.OverlayInt.greatest) k.points) (contour_of g.I.IntNumber.value) c.args.contours.now c.args.hole y c.requires.within
     (get_or_default c.args.contours.now c.args.hole c.index-contours-hole-2.result y c.requires.within) c.requires.in_range
 
 pub returns-clause-is : goal.returns-clause-is
 returns-clause-is g c = λ links cs held own is.
-    let value = g.I.OverlayInt.value in
+    let value = g.I.IntNumber.value in
     let f = contour_of value in
     let finish = finished c.args.keep_all in
     let contours = c.args.contours.now in
@@ -81,12 +81,12 @@ pub returns-clause-holes : goal.returns-clause-holes
 returns-clause-holes g c = λ cs held.
     let y = get_or c.args.contours.now c.args.hole c.index-contours-hole-2.result in
     let is_y = get_or_default c.args.contours.now c.args.hole c.index-contours-hole-2.result y c.requires.within in
-    changed (contour_of g.I.OverlayInt.value) c.args.contours.now c.args.hole (c.args.hole + 1) c.args.hole y c.take_path-path.new.contour cs c.requires.within is_y (omega arith) c.take_path-path.ensures.same
+    changed (contour_of g.I.IntNumber.value) c.args.contours.now c.args.hole (c.args.hole + 1) c.args.hole y c.take_path-path.new.contour cs c.requires.within is_y (omega arith) c.take_path-path.ensures.same
     (λ later. absurd (omega (arith, later))) held
 
 pub returns-clause-in_range : goal.returns-clause-in_range
 returns-clause-in_range g c =
-    let value = g.I.OverlayInt.value in
+    let value = g.I.IntNumber.value in
     let f = contour_of value in
     let is_within = IsWithin g.I.OverlayInt.least g.I.OverlayInt.greatest in
     let v = c.take_path-path.new.contour in

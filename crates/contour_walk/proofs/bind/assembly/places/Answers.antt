@@ -15,7 +15,7 @@ use Rattle.contour_walk.proofs.bind.assembly.places.Goals as goal
 
 pub loop-number-init : goal.loop-number-init
 loop-number-init g c =
-    let value = g.I.OverlayInt.value in
+    let value = g.I.IntNumber.value in
     record {
       so_far = λ links. ap (λ ss. shapes_of value ss ++ map (map (finished c.args.keep_all)) (places_from links (walks_of value c.args.contours.now) [] 0 (walks_of value c.args.contours.now))) c.in_ok-shapes.ensures.items;
       many = refl;
@@ -28,11 +28,11 @@ pub place-requires : goal.place-requires
 place-requires g c =
     let inside : c.loop-number.number < length c.loop-number.contours = omega (arith, c.loop-number-test.true, c.loop-number.invariant.many) in
     let x = get_or c.loop-number.contours c.loop-number.number c.index-contours-number.result in
-    All-mapped (λ (k : Contour). All (IsWithin g.I.OverlayInt.least g.I.OverlayInt.greatest) k.points) (contour_of g.I.OverlayInt.value) c.loop-number.contours c.loop-number.number x inside (get_or_default c.loop-number.contours c.loop-number.number c.index-contours-number.result x inside) c.loop-number.invariant.in_range
+    All-mapped (λ (k : Contour). All (IsWithin g.I.OverlayInt.least g.I.OverlayInt.greatest) k.points) (contour_of g.I.IntNumber.value) c.loop-number.contours c.loop-number.number x inside (get_or_default c.loop-number.contours c.loop-number.number c.index-contours-number.result x inside) c.loop-number.invariant.in_range
 
 pub loop-number-preserved : goal.loop-number-preserved
 loop-number-preserved g c =
-    let value = g.I.OverlayInt.value in
+    let value = g.I.IntNumber.value in
     let f = contour_of value in
     let given = c.args.contours.now in
     let now = c.loop-number.contours in
@@ -61,7 +61,7 @@ loop-number-preserved g c =
 
 pub returns-clause-is : goal.returns-clause-is
 returns-clause-is g c = λ links.
-    let value = g.I.OverlayInt.value in
+    let value = g.I.IntNumber.value in
     let contours = walks_of value c.args.contours.now in
     let long : length contours ≤ c.loop-number.number = omega (arith, c.loop-number-test.false, length-map c.args.contours.now (contour_of value)) in
     sym (append-nil (shapes_of value c.loop-number.shapes.items))

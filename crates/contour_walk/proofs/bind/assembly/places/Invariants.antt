@@ -8,7 +8,7 @@ use Rattle.contour_walk.proofs.bind.assembly.places.Given as goal
 -- The places so far and those of the contours from this one on are all. The contours from this one on stand as they stood.
 abbrev pub invariant-loop-number : goal.invariant-loop-number
 invariant-loop-number g l =
-    let value = g.I.OverlayInt.value in
+    let value = g.I.IntNumber.value in
     let given = l.fn.contours in
     let contours = walks_of value given in
     record {

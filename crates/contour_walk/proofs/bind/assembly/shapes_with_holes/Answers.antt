@@ -12,7 +12,7 @@ use Rattle.contour_walk.proofs.bind.assembly.shapes_with_holes.Goals as goal
 
 pub loop-hole-init : goal.loop-hole-init
 loop-hole-init g c =
-    let value = g.I.OverlayInt.value in
+    let value = g.I.IntNumber.value in
     let f = contour_of value in
     let contours = walks_of value c.args.contours.now in
     let links : List Border = [] in
@@ -30,12 +30,12 @@ loop-hole-init g c =
 
 pub join_hole-requires-clause-all_owned : goal.join_hole-requires-clause-all_owned
 join_hole-requires-clause-all_owned g c =
-    let f = contour_of g.I.OverlayInt.value in
+    let f = contour_of g.I.IntNumber.value in
     omega (arith, c.requires.all_owned, c.loop-hole.invariant.held.0, length-map c.loop-hole.contours f, length-map c.args.contours.now f)
 
 pub loop-hole-preserved : goal.loop-hole-preserved
 loop-hole-preserved g c =
-    let value = g.I.OverlayInt.value in
+    let value = g.I.IntNumber.value in
     let contours = walks_of value c.args.contours.now in
     let inv = c.loop-hole.invariant in
     let told = c.in_ok-join_hole.ensures in
@@ -51,7 +51,7 @@ loop-hole-preserved g c =
 
 pub returns-clause-is : goal.returns-clause-is
 returns-clause-is g c = λ links own.
-    let value = g.I.OverlayInt.value in
+    let value = g.I.IntNumber.value in
     let f = contour_of value in
     let contours = walks_of value c.args.contours.now in
     let finish = finished c.args.keep_all in

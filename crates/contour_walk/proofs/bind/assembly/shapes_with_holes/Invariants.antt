@@ -8,7 +8,7 @@ use Rattle.contour_walk.proofs.bind.assembly.shapes_with_holes.Given as goal
 -- The holes before this one are joined.
 abbrev pub invariant-loop-hole : goal.invariant-loop-hole
 invariant-loop-hole g l =
-    let value = g.I.OverlayInt.value in
+    let value = g.I.IntNumber.value in
     let contours = walks_of value l.fn.contours in
     record {
       many : length l.shapes.items ≡ length l.contours;

@@ -12,7 +12,7 @@ use Rattle.contour_walk.proofs.bind.below.insert_edge.Goals as goal
 
 pub from_segment-requires : goal.from_segment-requires
 from_segment-requires g c =
-    let value = g.I.OverlayInt.value in
+    let value = g.I.IntNumber.value in
     let s = c.index-edges-place.result in
     let within : c.args.place < length (owned_edges_of value c.args.edges.now) = omega (arith, c.requires.within, length-map c.args.edges.now (owned_of value)) in
     let same = get_or-map (owned_of value) c.args.edges.now c.args.place s (owned_of value s) c.requires.within in
@@ -20,12 +20,12 @@ from_segment-requires g c =
 
 pub insert-requires-clause-in_time : goal.insert-requires-clause-in_time
 insert-requires-clause-in_time g c =
-    let value = g.I.OverlayInt.value in
+    let value = g.I.IntNumber.value in
     in_time value g.I.Ord.cmp g.met.I.OverlayInt.ordered (λ k. k.b.x) (edge_of value) (λ k. refl) (owned_edges_of value c.args.edges.now) c.args.place (value c.args.x) _ c.requires.swept c.args.x refl
 
 pub insert-requires-clause-lawful : goal.insert-requires-clause-lawful
 insert-requires-clause-lawful g c =
-    let value = g.I.OverlayInt.value in
+    let value = g.I.IntNumber.value in
     let s = c.index-edges-place.result in
     let within : c.args.place < length (owned_edges_of value c.args.edges.now) = omega (arith, c.requires.within, length-map c.args.edges.now (owned_of value)) in
     let same = get_or-map (owned_of value) c.args.edges.now c.args.place s (owned_of value s) c.requires.within in
@@ -36,7 +36,7 @@ insert-requires-clause-lawful g c =
 
 pub insert-requires-clause-new_key : goal.insert-requires-clause-new_key
 insert-requires-clause-new_key g c =
-    let value = g.I.OverlayInt.value in
+    let value = g.I.IntNumber.value in
     let s = c.index-edges-place.result in
     let within : c.args.place < length (owned_edges_of value c.args.edges.now) = omega (arith, c.requires.within, length-map c.args.edges.now (owned_of value)) in
     let same = get_or-map (owned_of value) c.args.edges.now c.args.place s (owned_of value s) c.requires.within in
@@ -47,7 +47,7 @@ insert-requires-clause-new_key g c =
 
 pub returns-in_ok-insert-clause-swept : goal.returns-in_ok-insert-clause-swept
 returns-in_ok-insert-clause-swept g c =
-    let value = g.I.OverlayInt.value in
+    let value = g.I.IntNumber.value in
     let s = c.index-edges-place.result in
     let within : c.args.place < length (owned_edges_of value c.args.edges.now) = omega (arith, c.requires.within, length-map c.args.edges.now (owned_of value)) in
     let same = get_or-map (owned_of value) c.args.edges.now c.args.place s (owned_of value s) c.requires.within in
@@ -59,7 +59,7 @@ returns-in_ok-insert-clause-swept g c =
 
 pub returns-else-ends_beyond-clause-swept : goal.returns-else-ends_beyond-clause-swept
 returns-else-ends_beyond-clause-swept g c =
-    let value = g.I.OverlayInt.value in
+    let value = g.I.IntNumber.value in
     let s = c.index-edges-place.result in
     let within : c.args.place < length (owned_edges_of value c.args.edges.now) = omega (arith, c.requires.within, length-map c.args.edges.now (owned_of value)) in
     let same = get_or-map (owned_of value) c.args.edges.now c.args.place s (owned_of value s) c.requires.within in

@@ -11,7 +11,7 @@ use Rattle.contour_walk.proofs.bind.below.make_live.Goals as goal
 
 pub returns-then-begins_beyond-clause-later : goal.returns-then-begins_beyond-clause-later
 returns-then-begins_beyond-clause-later g c =
-    let value = g.I.OverlayInt.value in
+    let value = g.I.IntNumber.value in
     let s = c.index-edges-place.result in
     let i = c.loop-place.place in
     let within : i < length (owned_edges_of value c.args.edges.now) = omega (arith, c.loop-place-test.true, length-map c.args.edges.now (owned_of value)) in
@@ -21,7 +21,7 @@ returns-then-begins_beyond-clause-later g c =
 
 pub insert_edge-requires-clause-begun : goal.insert_edge-requires-clause-begun
 insert_edge-requires-clause-begun g c d =
-    let value = g.I.OverlayInt.value in
+    let value = g.I.IntNumber.value in
     let s = c.index-edges-place.result in
     let i = c.loop-place.place in
     subst (λ o. value o.edge.a.x ≤ℤ value c.args.x) (get_or_default c.args.edges.now i s d c.loop-place-test.true)
@@ -29,7 +29,7 @@ insert_edge-requires-clause-begun g c d =
 
 pub returns-clause-swept : goal.returns-clause-swept
 returns-clause-swept g c =
-    let value = g.I.OverlayInt.value in
+    let value = g.I.IntNumber.value in
     let all : c.loop-place.place ≡ length c.args.edges.now = omega (arith, c.loop-place-test.false, c.loop-place.auto.place-end c.requires.within) in
     subst (λ n. IsSwept value g.I.Ord.cmp (λ k. k.b.x) (edge_of value) (owned_edges_of value c.args.edges.now) n (value c.args.x) (g.C.KeyExpCollection.live_list c.loop-place.live)) all c.loop-place.invariant
 

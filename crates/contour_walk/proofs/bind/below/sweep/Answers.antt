@@ -22,13 +22,13 @@ either f g (inr e) = inr (g e)
 
 pub make_live-requires-clause-swept : goal.make_live-requires-clause-swept
 make_live-requires-clause-swept g c =
-    let value = g.I.OverlayInt.value in
+    let value = g.I.IntNumber.value in
     subst (λ x. IsSwept value g.I.Ord.cmp (λ k. k.b.x) (edge_of value) (owned_edges_of value c.args.edges.now) c.loop-place.next (value x) (g.C.KeyExpCollection.live_list c.loop-place.live)) (sym c.start_of-x.ensures)
     (c.loop-place.invariant.swept c.loop-place.place c.index-anchors-place.result (omega arith) c.loop-place-test.true)
 
 pub from_segment-requires : goal.from_segment-requires
 from_segment-requires g c =
-    let value = g.I.OverlayInt.value in
+    let value = g.I.IntNumber.value in
     let s = c.index-anchors-place.result in
     let i = c.loop-place.place in
     let within : i < length (owned_edges_of value c.args.anchors.now) = omega (arith, c.loop-place-test.true, length-map c.args.anchors.now (owned_of value)) in
@@ -37,12 +37,12 @@ from_segment-requires g c =
 
 pub first_less-requires-clause-in_time : goal.first_less-requires-clause-in_time
 first_less-requires-clause-in_time g c =
-    let value = g.I.OverlayInt.value in
+    let value = g.I.IntNumber.value in
     in_time value g.I.Ord.cmp g.met.I.OverlayInt.ordered (λ k. k.b.x) (edge_of value) (λ k. refl) (owned_edges_of value c.args.edges.now) c.in_ok-next.next (value c.start_of-x.result) _ c.in_ok-next.ensures.swept c.start_of-x.result refl
 
 pub first_less-requires-clause-lawful : goal.first_less-requires-clause-lawful
 first_less-requires-clause-lawful g c =
-    let value = g.I.OverlayInt.value in
+    let value = g.I.IntNumber.value in
     let edges = owned_edges_of value c.args.edges.now in
     let s = c.index-anchors-place.result in
     let i = c.loop-place.place in
@@ -61,7 +61,7 @@ loop-place-init g c = record {
   within = omega arith;
   long = refl;
   swept = λ i d from l.
-      let value = g.I.OverlayInt.value in
+      let value = g.I.IntNumber.value in
       nothing_swept value g.I.Ord.cmp g.met.I.OverlayInt.ordered (λ k. k.b.x) (edge_of value) (λ k. refl) (owned_edges_of value c.args.edges.now) _ _ c.requires.nothing;
   told = λ met all i a d l. absurd (omega (arith, l));
   rest = λ n d none. refl;
@@ -69,7 +69,7 @@ loop-place-init g c = record {
 
 pub loop-place-preserved : goal.loop-place-preserved
 loop-place-preserved g c =
-    let value = g.I.OverlayInt.value in
+    let value = g.I.IntNumber.value in
     let edges = owned_edges_of value c.args.edges.now in
     let anchors = c.args.anchors.now in
     let s = c.index-anchors-place.result in

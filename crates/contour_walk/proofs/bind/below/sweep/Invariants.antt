@@ -9,7 +9,7 @@ use Rattle.contour_walk.proofs.bind.below.sweep.Given as goal
 -- The edges up to `next` were swept for each anchor from this one on, and what lies below the anchors before it is known.
 abbrev pub invariant-loop-place : goal.invariant-loop-place
 invariant-loop-place g l =
-    let value = g.I.OverlayInt.value in
+    let value = g.I.IntNumber.value in
     let edges = owned_edges_of value l.edges in
     record {
       within : l.next ≤ length l.edges;

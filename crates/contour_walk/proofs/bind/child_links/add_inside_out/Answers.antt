@@ -10,7 +10,7 @@ use Rattle.contour_walk.proofs.bind.child_links.add_inside_out.Goals as goal
 
 pub returns-clause-is : goal.returns-clause-is
 returns-clause-is g c =
-    let value = g.I.OverlayInt.value in
+    let value = g.I.IntNumber.value in
     let xs = c.args.shape.now in
     let old = walks_of value c.args.contours.now.items in
     let n = c.min.result in

@@ -14,7 +14,7 @@ use Rattle.contour_walk.proofs.bind.child_links.child_links.Goals as goal
 
 pub owners_among-requires : goal.owners_among-requires
 owners_among-requires g c =
-    let value = g.I.OverlayInt.value in
+    let value = g.I.IntNumber.value in
     let least = g.I.OverlayInt.least in
     let greatest = g.I.OverlayInt.greatest in
     let shapes = shapes_of value c.args.shapes.now in
@@ -27,7 +27,7 @@ owners_among-requires g c =
 -- there are as many numbers of shapes as contours
 pub links_of_contours-requires : goal.links_of_contours-requires
 links_of_contours-requires g c =
-    let value = g.I.OverlayInt.value in
+    let value = g.I.IntNumber.value in
     let shapes = shapes_of value c.args.shapes.now in
     let contours = c.in_ok-contours.contours.items in
     let turned = ap length c.in_ok-contours.ensures.is in
@@ -40,7 +40,7 @@ links_of_contours-requires g c =
 
 pub returns-clause-is : goal.returns-clause-is
 returns-clause-is g c =
-    let value = g.I.OverlayInt.value in
+    let value = g.I.IntNumber.value in
     let clockwise = c.args.clockwise in
     let shapes = shapes_of value c.args.shapes.now in
     let cs = contours_in shapes in

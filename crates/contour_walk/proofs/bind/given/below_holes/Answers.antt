@@ -13,7 +13,7 @@ use Rattle.contour_walk.proofs.bind.given.below_holes.Goals as goal
 
 pub below_slowly-requires-clause-edges_in_range : goal.below_slowly-requires-clause-edges_in_range
 below_slowly-requires-clause-edges_in_range g c =
-    let value = g.I.OverlayInt.value in
+    let value = g.I.IntNumber.value in
     let cs = walks_of value c.args.contours.now in
     let steps = filter is_swept (stepped_from c.args.clockwise 0 cs) in
     let edges = owned_edges_of value c.deref-then-len-ge-MOST_EDGES.result.now in
@@ -22,7 +22,7 @@ below_slowly-requires-clause-edges_in_range g c =
 
 pub returns-then-len-ge-MOST_EDGES-clause-is : goal.returns-then-len-ge-MOST_EDGES-clause-is
 returns-then-len-ge-MOST_EDGES-clause-is g c =
-    let value = g.I.OverlayInt.value in
+    let value = g.I.IntNumber.value in
     let cs = walks_of value c.args.contours.now in
     let steps = filter is_swept (stepped_from c.args.clockwise 0 cs) in
     let edges = owned_edges_of value c.deref-then-len-ge-MOST_EDGES.result.now in
@@ -33,7 +33,7 @@ returns-then-len-ge-MOST_EDGES-clause-is g c =
 
 pub contours_below-requires-clause-in_range : goal.contours_below-requires-clause-in_range
 contours_below-requires-clause-in_range g c =
-    let value = g.I.OverlayInt.value in
+    let value = g.I.IntNumber.value in
     let cs = walks_of value c.args.contours.now in
     let steps = filter is_swept (stepped_from c.args.clockwise 0 cs) in
     let edges = owned_edges_of value c.deref-2.result.now in
@@ -42,7 +42,7 @@ contours_below-requires-clause-in_range g c =
 
 pub contours_below-requires-clause-anchors_in_range : goal.contours_below-requires-clause-anchors_in_range
 contours_below-requires-clause-anchors_in_range g c =
-    let value = g.I.OverlayInt.value in
+    let value = g.I.IntNumber.value in
     let cs = walks_of value c.args.contours.now in
     let steps = filter is_swept (stepped_from c.args.clockwise 0 cs) in
     let edges = owned_edges_of value c.deref-2.result.now in
@@ -53,7 +53,7 @@ contours_below-requires-clause-anchors_in_range g c =
 
 pub contours_below-requires-clause-sweepable : goal.contours_below-requires-clause-sweepable
 contours_below-requires-clause-sweepable g c =
-    let value = g.I.OverlayInt.value in
+    let value = g.I.IntNumber.value in
     let cs = walks_of value c.args.contours.now in
     let steps = filter is_swept (stepped_from c.args.clockwise 0 cs) in
     let edges = owned_edges_of value c.deref-2.result.now in
@@ -62,7 +62,7 @@ contours_below-requires-clause-sweepable g c =
 
 pub contours_below-requires-clause-sought : goal.contours_below-requires-clause-sought
 contours_below-requires-clause-sought g c =
-    let value = g.I.OverlayInt.value in
+    let value = g.I.IntNumber.value in
     let cs = walks_of value c.args.contours.now in
     let steps = filter is_swept (stepped_from c.args.clockwise 0 cs) in
     let edges = owned_edges_of value c.deref-2.result.now in
@@ -73,11 +73,11 @@ contours_below-requires-clause-sought g c =
     (subst (λ es. All (λ (o : Owned). int_lt o.edge.a.x o.edge.b.x ≡ true) (owned_edges_of value es)) (c.deref.ensures.value ∙ sym c.deref-3.ensures.value) (c.if-has_vertical.ensures refl))
 
 pub contours_below-requires-clause-rising : goal.contours_below-requires-clause-rising
-contours_below-requires-clause-rising g c = subst (λ es. AreRising (owned_edges_of g.I.OverlayInt.value es)) (sym c.deref-3.ensures.value) c.in_ok-anchors.ensures.rising
+contours_below-requires-clause-rising g c = subst (λ es. AreRising (owned_edges_of g.I.IntNumber.value es)) (sym c.deref-3.ensures.value) c.in_ok-anchors.ensures.rising
 
 pub contours_below-requires-clause-numbers : goal.contours_below-requires-clause-numbers
 contours_below-requires-clause-numbers g c k d l =
-    let value = g.I.OverlayInt.value in
+    let value = g.I.IntNumber.value in
     let cs = walks_of value c.args.contours.now in
     let steps = filter is_swept (stepped_from c.args.clockwise 0 cs) in
     let edges = owned_edges_of value c.deref-2.result.now in
@@ -90,7 +90,7 @@ contours_below-requires-clause-numbers g c k d l =
 
 pub returns-clause-is : goal.returns-clause-is
 returns-clause-is g c =
-    let value = g.I.OverlayInt.value in
+    let value = g.I.IntNumber.value in
     let cs = walks_of value c.args.contours.now in
     let os = stepped_from c.args.clockwise 0 cs in
     let steps = filter is_swept os in

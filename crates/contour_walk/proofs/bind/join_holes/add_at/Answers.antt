@@ -10,7 +10,7 @@ use Rattle.contour_walk.proofs.bind.join_holes.add_at.Goals as goal
 
 pub returns-then-at-shapes-clause-is : goal.returns-then-at-shapes-clause-is
 returns-then-at-shapes-clause-is g c = λ owner first before own is.
-    let value = g.I.OverlayInt.value in
+    let value = g.I.IntNumber.value in
     let few : length before ≤ c.args.at = omega (
       arith,
       c.if-at-shapes.true,
@@ -23,7 +23,7 @@ returns-then-at-shapes-clause-is g c = λ owner first before own is.
 
 pub returns-clause-is : goal.returns-clause-is
 returns-clause-is g c = λ owner first before own is.
-    let value = g.I.OverlayInt.value in
+    let value = g.I.IntNumber.value in
     let m = c.args.at in
     let shapes = c.args.shapes.now in
     let points = points_of value c.args.hole.now.points.items in

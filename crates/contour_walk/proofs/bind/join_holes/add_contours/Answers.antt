@@ -10,7 +10,7 @@ use Rattle.contour_walk.proofs.bind.join_holes.add_contours.Goals as goal
 
 pub loop-place-preserved : goal.loop-place-preserved
 loop-place-preserved g c =
-    let value = g.I.OverlayInt.value in
+    let value = g.I.IntNumber.value in
     let added = c.args.added.now in
     let x = c.index-added-place.result in
     let as_contour : List Point → Contour = λ points. record { points = points; is_hole = c.args.is_hole } in

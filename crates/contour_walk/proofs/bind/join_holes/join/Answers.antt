@@ -15,14 +15,14 @@ use Rattle.contour_walk.proofs.bind.join_holes.join.Goals as goal
 
 pub returns-then-shapes-eq1-clause-is : goal.returns-then-shapes-eq1-clause-is
 returns-then-shapes-eq1-clause-is g c =
-    let value = g.I.OverlayInt.value in
+    let value = g.I.IntNumber.value in
     if_answered c.add_all.result
     (λ _ is. one_has_all (λ shape. contours_of value shape.contours.items) c.args.clockwise c.args.shapes.now c.index-shapes-0.result c.add_all.new.shape (contours_of value c.args.holes.now) c.if-shapes-eq1.true is)
     c.add_all.ensures.is
 
 pub owners_among-requires-clause-in_range : goal.owners_among-requires-clause-in_range
 owners_among-requires-clause-in_range g c =
-    let value = g.I.OverlayInt.value in
+    let value = g.I.IntNumber.value in
     let shapes = c.args.shapes.now in
     let two : 2 ≤ length shapes = several (length shapes) (some_first (length shapes) c.is_empty.ensures c.if-is_empty.false) c.if-shapes-eq1.false in
     let given : walks_of value c.deref.result.now ≡ contours_among (shapes_of value shapes) (contours_of value c.args.holes.now) =
@@ -31,7 +31,7 @@ owners_among-requires-clause-in_range g c =
 
 pub owners_among-requires-clause-bound : goal.owners_among-requires-clause-bound
 owners_among-requires-clause-bound g c =
-    let value = g.I.OverlayInt.value in
+    let value = g.I.IntNumber.value in
     let shapes = c.args.shapes.now in
     let two : 2 ≤ length shapes = several (length shapes) (some_first (length shapes) c.is_empty.ensures c.if-is_empty.false) c.if-shapes-eq1.false in
     let given : walks_of value c.deref.result.now ≡ contours_among (shapes_of value shapes) (contours_of value c.args.holes.now) =
@@ -40,7 +40,7 @@ owners_among-requires-clause-bound g c =
 
 pub join_by-requires : goal.join_by-requires
 join_by-requires g c =
-    let value = g.I.OverlayInt.value in
+    let value = g.I.IntNumber.value in
     let ss = shapes_of value c.args.shapes.now in
     let hs = contours_of value c.args.holes.now in
     let given : walks_of value c.deref.result.now ≡ contours_among ss hs = ap (walks_of value) c.deref.ensures.value ∙ c.in_ok-contours.ensures.is in
@@ -54,7 +54,7 @@ join_by-requires g c =
 
 pub returns-clause-is : goal.returns-clause-is
 returns-clause-is g c =
-    let value = g.I.OverlayInt.value in
+    let value = g.I.IntNumber.value in
     let clockwise = c.args.clockwise in
     let ss = shapes_of value c.args.shapes.now in
     let hs = contours_of value c.args.holes.now in

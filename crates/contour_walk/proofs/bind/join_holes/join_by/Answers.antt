@@ -8,13 +8,13 @@ use Rattle.contour_walk.proofs.Binder.Joining.{none_yet, taken_more}
 use Rattle.contour_walk.proofs.bind.join_holes.join_by.Goals as goal
 
 pub loop-hole-init : goal.loop-hole-init
-loop-hole-init g c = (refl, λ owner all. sym (none_yet owner 0 (shapes_of g.I.OverlayInt.value c.args.shapes.now)))
+loop-hole-init g c = (refl, λ owner all. sym (none_yet owner 0 (shapes_of g.I.IntNumber.value c.args.shapes.now)))
 
 pub loop-hole-preserved : goal.loop-hole-preserved
 loop-hole-preserved g c = (
   c.in_ok-add_at.ensures.len ∙ c.loop-hole.invariant.0,
   λ owner all.
-      let value = g.I.OverlayInt.value in
+      let value = g.I.IntNumber.value in
       let holes = c.args.holes.now in
       let i = c.loop-hole.hole in
       let shapes = shapes_of value c.args.shapes.now in
@@ -29,7 +29,7 @@ loop-hole-preserved g c = (
 
 pub returns-clause-is : goal.returns-clause-is
 returns-clause-is g c = λ owner all.
-    let value = g.I.OverlayInt.value in
+    let value = g.I.IntNumber.value in
     let holes = contours_of value c.args.holes.now in
     let none : length holes ≤ c.loop-hole.hole = omega (arith, c.loop-hole-test.false, length-map c.args.holes.now (λ contour. points_of value contour.points.items)) in
     c.loop-hole.invariant.1 owner all ∙ ap (λ hs. joined_by owner hs 0 (shapes_of value c.args.shapes.now)) (take_all c.loop-hole.hole holes none)

@@ -9,7 +9,7 @@ use Rattle.contour_walk.proofs.bind.join_holes.shape_numbers.Goals as goal
 
 pub loop-shape-preserved : goal.loop-shape-preserved
 loop-shape-preserved g c =
-    let value = g.I.OverlayInt.value in
+    let value = g.I.IntNumber.value in
     let shapes = c.args.shapes.now in
     let x = c.index-shapes-shape.result in
     let counted : c.len.result ≡ x.contours.len = rw (← c.index-shapes-shape.is) at c.len.ensures in
@@ -21,7 +21,7 @@ loop-shape-preserved g c =
 
 pub returns-clause-is : goal.returns-clause-is
 returns-clause-is g c =
-    let value = g.I.OverlayInt.value in
+    let value = g.I.IntNumber.value in
     let shapes = shapes_of value c.args.shapes.now in
     let none : length shapes ≤ c.loop-shape.shape =
     omega (arith, c.loop-shape-test.false, length-map c.args.shapes.now (λ shape. contours_of value shape.contours.items)) in

@@ -54,11 +54,11 @@ pub bounds-edge-items-edge-index : goal.bounds-edge-items-edge-index
 bounds-edge-items-edge-index g c = c.loop-edge-test.true
 
 pub loop-edge-init : goal.loop-edge-init
-loop-edge-init g c = sym (append-nil (owned_edges_of g.I.OverlayInt.value c.args.edges.now.items))
+loop-edge-init g c = sym (append-nil (owned_edges_of g.I.IntNumber.value c.args.edges.now.items))
 
 pub loop-edge-preserved : goal.loop-edge-preserved
 loop-edge-preserved g c =
-    let value = g.I.OverlayInt.value in
+    let value = g.I.IntNumber.value in
     let items = c.deref-edge-items.result.now in
     let i = c.loop-edge.edge-index in
     let e = c.edge-item.result in
@@ -75,7 +75,7 @@ loop-edge-preserved g c =
 
 pub returns-clause-is : goal.returns-clause-is
 returns-clause-is g c =
-    let value = g.I.OverlayInt.value in
+    let value = g.I.IntNumber.value in
     let items = c.deref-edge-items.result.now in
     let own = owned (borders_of value c.args.links.now) c.args.number in
     let none : length items ≤ c.loop-edge.edge-index = omega (arith, c.loop-edge-test.false) in

@@ -6,5 +6,5 @@ use Rattle.contour_walk.proofs.bind.ray.add_owned.Given as goal
 -- The contour's edges before this one are added.
 abbrev pub invariant-loop-edge : goal.invariant-loop-edge
 invariant-loop-edge g l =
-    owned_edges_of g.I.OverlayInt.value l.edges.items
-    ≡ owned_edges_of g.I.OverlayInt.value l.initial.edges.items ++ map (owned (borders_of g.I.OverlayInt.value l.links) l.number) (edges_of g.I.OverlayInt.value (take l.edge-index l.edge-items))
+    owned_edges_of g.I.IntNumber.value l.edges.items
+    ≡ owned_edges_of g.I.IntNumber.value l.initial.edges.items ++ map (owned (borders_of g.I.IntNumber.value l.links) l.number) (edges_of g.I.IntNumber.value (take l.edge-index l.edge-items))

@@ -11,17 +11,17 @@ use Rattle.contour_walk.proofs.bind.ray.contour_below.Goals as goal
 
 pub returns-then-number-contours-clause-is : goal.returns-then-number-contours-clause-is
 returns-then-number-contours-clause-is g c =
-    let value = g.I.OverlayInt.value in
+    let value = g.I.IntNumber.value in
     sym (below_none (owned_edges_of value c.args.edges.now) (walks_of value c.args.contours.now) c.args.number (no_contour (contour_of value) c.args.contours.now c.args.number c.if-number-contours.true))
 
 pub anchor-requires : goal.anchor-requires
 anchor-requires g c =
     rw (c.deref.ensures.value, ← c.index-contours-number.is)
-    (All-mapped (λ (k : Contour). All (IsWithin g.I.OverlayInt.least g.I.OverlayInt.greatest) k.points) (contour_of g.I.OverlayInt.value) c.args.contours.now c.args.number c.index-contours-number.result (omega (arith, c.if-number-contours.false)) c.index-contours-number.is c.requires.contours_in_range)
+    (All-mapped (λ (k : Contour). All (IsWithin g.I.OverlayInt.least g.I.OverlayInt.greatest) k.points) (contour_of g.I.IntNumber.value) c.args.contours.now c.args.number c.index-contours-number.result (omega (arith, c.if-number-contours.false)) c.index-contours-number.is c.requires.contours_in_range)
 
 pub returns-in_default-clause-is : goal.returns-in_default-clause-is
 returns-in_default-clause-is g c =
-    let value = g.I.OverlayInt.value in
+    let value = g.I.IntNumber.value in
     let here = contour_of value c.index-contours-number.result in
     let at = contour_is (contour_of value) c.args.contours.now c.args.number c.index-contours-number.result (omega (arith, c.if-number-contours.false)) c.index-contours-number.is in
     let read : c.deref.result.now ≡ c.index-contours-number.result.points.items = rw (← c.index-contours-number.is) at c.deref.ensures.value in
@@ -30,7 +30,7 @@ returns-in_default-clause-is g c =
 
 pub returns-in_default-way_down-clause-is : goal.returns-in_default-way_down-clause-is
 returns-in_default-way_down-clause-is g c =
-    let value = g.I.OverlayInt.value in
+    let value = g.I.IntNumber.value in
     let edges = owned_edges_of value c.args.edges.now in
     let here = contour_of value c.index-contours-number.result in
     let at = contour_is (contour_of value) c.args.contours.now c.args.number c.index-contours-number.result (omega (arith, c.if-number-contours.false)) c.index-contours-number.is in
@@ -41,7 +41,7 @@ returns-in_default-way_down-clause-is g c =
 
 pub returns-clause-is : goal.returns-clause-is
 returns-clause-is g c =
-    let value = g.I.OverlayInt.value in
+    let value = g.I.IntNumber.value in
     let edges = owned_edges_of value c.args.edges.now in
     let here = contour_of value c.index-contours-number.result in
     let at = contour_is (contour_of value) c.args.contours.now c.args.number c.index-contours-number.result (omega (arith, c.if-number-contours.false)) c.index-contours-number.is in

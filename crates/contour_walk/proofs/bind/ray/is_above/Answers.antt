@@ -9,18 +9,18 @@ loop-i-init g c = refl
 
 pub returns-then-is_same_edge : goal.returns-then-is_same_edge
 returns-then-is_same_edge g c =
-    let f = border_of g.I.OverlayInt.value in
-    let s = edge_of g.I.OverlayInt.value c.args.edge in
+    let f = border_of g.I.IntNumber.value in
+    let s = edge_of g.I.IntNumber.value c.args.edge in
     sym (c.loop-i.invariant ∙ side_is_found f c.args.links.now c.loop-i.i c.index-links-i.result s c.loop-i-test.true c.index-links-i.is (sym c.is_same_edge.ensures ∙ c.if-is_same_edge.true))
 
 pub loop-i-preserved : goal.loop-i-preserved
 loop-i-preserved g c =
-    let f = border_of g.I.OverlayInt.value in
-    let s = edge_of g.I.OverlayInt.value c.args.edge in
+    let f = border_of g.I.IntNumber.value in
+    let s = edge_of g.I.IntNumber.value c.args.edge in
     c.loop-i.invariant ∙ side_is_passed f c.args.links.now c.loop-i.i c.index-links-i.result s c.loop-i-test.true c.index-links-i.is (sym c.is_same_edge.ensures ∙ c.if-is_same_edge.false)
 
 pub returns : goal.returns
 returns g c =
-    let f = border_of g.I.OverlayInt.value in
-    let s = edge_of g.I.OverlayInt.value c.args.edge in
+    let f = border_of g.I.IntNumber.value in
+    let s = edge_of g.I.IntNumber.value c.args.edge in
     sym (c.loop-i.invariant ∙ no_side_is_found f c.args.links.now c.loop-i.i s (omega (arith, c.loop-i-test.false)))

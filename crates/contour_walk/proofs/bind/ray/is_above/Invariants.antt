@@ -7,5 +7,5 @@ use Rattle.contour_walk.proofs.bind.ray.is_above.Given as goal
 -- None of the links before this one is the edge.
 abbrev pub invariant-loop-i : goal.invariant-loop-i
 invariant-loop-i g l =
-    is_above (borders_of g.I.OverlayInt.value l.links) (edge_of g.I.OverlayInt.value l.edge)
-    ≡ is_above (drop l.i (borders_of g.I.OverlayInt.value l.links)) (edge_of g.I.OverlayInt.value l.edge)
+    is_above (borders_of g.I.IntNumber.value l.links) (edge_of g.I.IntNumber.value l.edge)
+    ≡ is_above (drop l.i (borders_of g.I.IntNumber.value l.links)) (edge_of g.I.IntNumber.value l.edge)

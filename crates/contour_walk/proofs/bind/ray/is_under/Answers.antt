@@ -5,12 +5,12 @@ use Rattle.contour_walk.proofs.bind.ray.is_under.Goals as goal
 
 pub returns-then-spans_start : goal.returns-then-spans_start
 returns-then-spans_start g c =
-    let value = g.I.OverlayInt.value in
+    let value = g.I.IntNumber.value in
     c.precedes.ensures ∙ ap (λ b. b && precedes (edge_of value c.args.edge) (edge_of value c.args.from)) (sym c.if-spans_start.true ∙ c.spans_start.ensures)
 
 pub returns-else-spans_start : goal.returns-else-spans_start
 returns-else-spans_start g c =
-    let value = g.I.OverlayInt.value in
+    let value = g.I.IntNumber.value in
     c.if-spans_start.false ∙ ap (λ b. b && precedes (edge_of value c.args.edge) (edge_of value c.args.from)) (sym c.if-spans_start.false ∙ c.spans_start.ensures)
 
 pub precedes-requires-clause-edge_in_range : goal.precedes-requires-clause-edge_in_range

@@ -9,7 +9,7 @@ use Rattle.contour_walk.proofs.bind.ray.owned_from.Goals as goal
 
 pub loop-number-preserved : goal.loop-number-preserved
 loop-number-preserved g c =
-    let value = g.I.OverlayInt.value in
+    let value = g.I.IntNumber.value in
     let links = borders_of value c.args.links.now in
     let i = c.loop-number.number in
     let so_far = owned_edges_of value c.loop-number.edges.items in

@@ -7,11 +7,11 @@ use Rattle.contour_walk.proofs.bind.ray.owner_among.Goals as goal
 pub loop-step-init : goal.loop-step-init
 loop-step-init g c = λ links e.
     let start : length c.args.contours.now - 0 ≡ length c.args.contours.now = omega arith in
-    ap (λ k. hole_owner links (walks_of g.I.OverlayInt.value c.args.contours.now) k c.args.hole) start
+    ap (λ k. hole_owner links (walks_of g.I.IntNumber.value c.args.contours.now) k c.args.hole) start
 
 pub returns-in_default-clause-is : goal.returns-in_default-clause-is
 returns-in_default-clause-is g c = λ links e.
-    let contours = walks_of g.I.OverlayInt.value c.args.contours.now in
+    let contours = walks_of g.I.IntNumber.value c.args.contours.now in
     let n = length c.args.contours.now in
     let more : n - c.loop-step._step ≡ suc (n - (c.loop-step._step + 1)) = omega (arith, c.loop-step-test.true) in
     let none : None ≡ contour_below (owned_from links 0 contours) contours c.loop-step.at = sym c.in_default.is ∙ (c.in_ok-next.ensures.is ∙ ap (λ es. contour_below es contours c.loop-step.at) e) in
@@ -19,7 +19,7 @@ returns-in_default-clause-is g c = λ links e.
 
 pub returns-then-next-contours-clause-is : goal.returns-then-next-contours-clause-is
 returns-then-next-contours-clause-is g c = λ links e.
-    let value = g.I.OverlayInt.value in
+    let value = g.I.IntNumber.value in
     let contours = walks_of value c.args.contours.now in
     let n = length c.args.contours.now in
     let more : n - c.loop-step._step ≡ suc (n - (c.loop-step._step + 1)) = omega (arith, c.loop-step-test.true) in
@@ -28,7 +28,7 @@ returns-then-next-contours-clause-is g c = λ links e.
 
 pub returns-then-not-contours-next-clause-is : goal.returns-then-not-contours-next-clause-is
 returns-then-not-contours-next-clause-is g c = λ links e.
-    let value = g.I.OverlayInt.value in
+    let value = g.I.IntNumber.value in
     let contours = walks_of value c.args.contours.now in
     let n = length c.args.contours.now in
     let more : n - c.loop-step._step ≡ suc (n - (c.loop-step._step + 1)) = omega (arith, c.loop-step-test.true) in
@@ -39,7 +39,7 @@ returns-then-not-contours-next-clause-is g c = λ links e.
 
 pub loop-step-preserved : goal.loop-step-preserved
 loop-step-preserved g c = λ links e.
-    let value = g.I.OverlayInt.value in
+    let value = g.I.IntNumber.value in
     let contours = walks_of value c.args.contours.now in
     let n = length c.args.contours.now in
     let more : n - c.loop-step._step ≡ suc (n - (c.loop-step._step + 1)) = omega (arith, c.loop-step-test.true) in
@@ -50,6 +50,6 @@ loop-step-preserved g c = λ links e.
 
 pub returns-clause-is : goal.returns-clause-is
 returns-clause-is g c = λ links e.
-    let contours = walks_of g.I.OverlayInt.value c.args.contours.now in
+    let contours = walks_of g.I.IntNumber.value c.args.contours.now in
     let end : 0 ≡ length c.args.contours.now - c.loop-step._step = omega (arith, c.loop-step-test.false) in
     ap (λ k. hole_owner links contours k c.loop-step.at) end ∙ c.loop-step.invariant links e

@@ -9,19 +9,19 @@ use Rattle.contour_walk.proofs.bind.ray.owners.Goals as goal
 
 pub loop-hole-init : goal.loop-hole-init
 loop-hole-init g c =
-    let value = g.I.OverlayInt.value in
+    let value = g.I.IntNumber.value in
     let contours = walks_of value c.args.contours.now in
     ap (λ os. os ++ owners_from (borders_of value c.args.links.now) contours 0 contours) c.new-owners.ensures.items
 
 pub owner_among-requires-clause-edges_in_range : goal.owner_among-requires-clause-edges_in_range
 owner_among-requires-clause-edges_in_range g c =
-    let value = g.I.OverlayInt.value in
+    let value = g.I.IntNumber.value in
     rw (c.deref.ensures.value, c.in_ok-edges.ensures.is)
     (all_owned_within g.I.OverlayInt.least g.I.OverlayInt.greatest (borders_of value c.args.links.now) 0 (walks_of value c.args.contours.now) c.requires)
 
 pub loop-hole-preserved : goal.loop-hole-preserved
 loop-hole-preserved g c =
-    let value = g.I.OverlayInt.value in
+    let value = g.I.IntNumber.value in
     let links = borders_of value c.args.links.now in
     let contours = walks_of value c.args.contours.now in
     let i = c.loop-hole.hole in
@@ -37,7 +37,7 @@ loop-hole-preserved g c =
 
 pub returns-clause-is : goal.returns-clause-is
 returns-clause-is g c =
-    let value = g.I.OverlayInt.value in
+    let value = g.I.IntNumber.value in
     let end = no_owners_left (contour_of value) c.args.contours.now (borders_of value c.args.links.now) c.loop-hole.hole (omega (arith, c.loop-hole-test.false)) in
     rw (end, append-nil) at c.loop-hole.invariant
 

@@ -9,5 +9,5 @@ use Rattle.contour_walk.proofs.bind.ray.way_down.Given as goal
 -- The highest of the edges behind that are met is known.
 abbrev pub invariant-loop-done : goal.invariant-loop-done
 invariant-loop-done g l =
-    (owned_if_any g.I.OverlayInt.value l.highest ≡ way_down (owned_edges_of g.I.OverlayInt.value (drop (length l.edges - l.done) l.edges)) l.above (edge_of g.I.OverlayInt.value l.from))
-    × IfSome l.highest (λ o. IsEdgeWithin g.I.OverlayInt.least g.I.OverlayInt.greatest (edge_of g.I.OverlayInt.value o.edge))
+    (owned_if_any g.I.IntNumber.value l.highest ≡ way_down (owned_edges_of g.I.IntNumber.value (drop (length l.edges - l.done) l.edges)) l.above (edge_of g.I.IntNumber.value l.from))
+    × IfSome l.highest (λ o. IsEdgeWithin g.I.OverlayInt.least g.I.OverlayInt.greatest (edge_of g.I.IntNumber.value o.edge))

@@ -8,12 +8,12 @@ use Rattle.contour_walk.proofs.bind.segment.add_swept.Goals as goal
 
 pub loop-place-init : goal.loop-place-init
 loop-place-init g c =
-    let value = g.I.OverlayInt.value in
+    let value = g.I.IntNumber.value in
     ap (λ ss. owned_edges_of value c.args.edges.now.items ++ filter is_swept (map (owned_step c.args.output c.args.number) ss)) (all_steps_left (points_of value c.args.points.now))
 
 pub loop-place-preserved : goal.loop-place-preserved
 loop-place-preserved g c =
-    let value = g.I.OverlayInt.value in
+    let value = g.I.IntNumber.value in
     let f = point_of value in
     let points = c.args.points.now in
     let i = c.loop-place.place in
@@ -27,7 +27,7 @@ loop-place-preserved g c =
 
 pub returns-clause-is : goal.returns-clause-is
 returns-clause-is g c =
-    let value = g.I.OverlayInt.value in
+    let value = g.I.IntNumber.value in
     let so_far = owned_edges_of value c.loop-place.edges.items in
     let end = no_steps_left (points_of value c.args.points.now) c.loop-place.place (omega (arith, length-map c.args.points.now (point_of value), c.loop-place-test.false)) in
     sym (append-nil so_far) ∙ (ap (λ ss. so_far ++ filter is_swept (map (owned_step c.args.output c.args.number) ss)) (sym end) ∙ c.loop-place.invariant)

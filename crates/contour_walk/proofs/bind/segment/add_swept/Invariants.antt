@@ -9,6 +9,6 @@ use Rattle.contour_walk.proofs.bind.segment.add_swept.Given as goal
 -- The edges so far and those of the steps from this point on are all.
 abbrev pub invariant-loop-place : goal.invariant-loop-place
 invariant-loop-place g l =
-    let value = g.I.OverlayInt.value in
+    let value = g.I.IntNumber.value in
     owned_edges_of value l.edges.items ++ filter is_swept (map (owned_step l.output l.number) (steps_left (points_of value l.points) l.place))
     ≡ owned_edges_of value l.fn.edges.items ++ filter is_swept (map (owned_step l.output l.number) (contour_steps (points_of value l.points)))

@@ -6,7 +6,7 @@ use Rattle.contour_walk.proofs.bind.segment.owned_step.Goals as goal
 
 pub returns : goal.returns
 returns g c =
-    let value = g.I.OverlayInt.value in
+    let value = g.I.IntNumber.value in
     let ahead = is_before (point_of value c.args.from) (point_of value c.args.to) in
     let above : c.if-output.result ≡ cond c.args.output (not ahead) ahead =
     elim c.if-output.branch [

@@ -19,7 +19,7 @@ by_cmp cmp value ordered a b r e = ap is_lt (e ∙ ordered a b) ∙ is_lt_cmp (v
 
 pub returns-clause-rising : goal.returns-clause-rising
 returns-clause-rising g c =
-    let value = g.I.OverlayInt.value in
+    let value = g.I.IntNumber.value in
     let order = by_start (λ o. value o.edge.a.x) in
     let sorted = c.sort_unstable_by.ensures.sorted _ order (always_returns_same _ _ _ (λ a r f' k. (by_cmp g.I.Ord.cmp value g.met.I.OverlayInt.ordered a.0.now.edge.a.x a.1.0.now.edge.a.x r (search rules), search rules))) in
-    rises (owned_of value) c.sort_unstable_by.new.self (sorted_far (λ s t. int_lt (value s.edge.a.x) (value t.edge.a.x)) order c.sort_unstable_by.new.self sorted)
+    rises (owned_of value) c.sort_unstable_by.new.self (sorted_far (λ s t. int_lt s.edge.a.x t.edge.a.x) order c.sort_unstable_by.new.self sorted)

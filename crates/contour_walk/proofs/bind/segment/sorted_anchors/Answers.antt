@@ -12,11 +12,11 @@ use Rattle.contour_walk.proofs.bind.segment.sorted_anchors.Goals as goal
 
 pub add_anchor-requires : goal.add_anchor-requires
 add_anchor-requires g c =
-    All-mapped (λ (k : Contour). All (IsWithin g.I.OverlayInt.least g.I.OverlayInt.greatest) k.points) (contour_of g.I.OverlayInt.value) c.args.contours.now c.loop-number.number c.index-contours-number.result c.loop-number-test.true c.index-contours-number.is c.requires
+    All-mapped (λ (k : Contour). All (IsWithin g.I.OverlayInt.least g.I.OverlayInt.greatest) k.points) (contour_of g.I.IntNumber.value) c.args.contours.now c.loop-number.number c.index-contours-number.result c.loop-number-test.true c.index-contours-number.is c.requires
 
 pub loop-number-preserved : goal.loop-number-preserved
 loop-number-preserved g c =
-    let value = g.I.OverlayInt.value in
+    let value = g.I.IntNumber.value in
     let contours = c.args.contours.now in
     let i = c.loop-number.number in
     let so_far = owned_edges_of value c.loop-number.anchors.items in
@@ -27,7 +27,7 @@ loop-number-preserved g c =
 
 pub returns-clause-is : goal.returns-clause-is
 returns-clause-is g c =
-    let value = g.I.OverlayInt.value in
+    let value = g.I.IntNumber.value in
     let new = c.sort_by_start.new.edges in
     let items = c.loop-number.anchors.items in
     let contours = walks_of value c.args.contours.now in
@@ -41,7 +41,7 @@ returns-clause-is g c =
 
 pub returns-clause-rising : goal.returns-clause-rising
 returns-clause-rising g c =
-    let value = g.I.OverlayInt.value in
+    let value = g.I.IntNumber.value in
     let new = c.sort_by_start.new.edges in
     let whole = written_back new c.loop-number.anchors.items c.loop-number.anchors.len (omega (arith, length_permutation _ new c.sort_by_start.ensures.permutation, c.deref_mut.ensures.len)) in
     subst (λ os. AreRising (owned_edges_of value os)) (sym whole) c.sort_by_start.ensures.rising

@@ -11,7 +11,7 @@ use Rattle.contour_walk.proofs.bind.segment.swept_edges.Goals as goal
 
 pub loop-number-preserved : goal.loop-number-preserved
 loop-number-preserved g c =
-    let value = g.I.OverlayInt.value in
+    let value = g.I.IntNumber.value in
     let contours = c.args.contours.now in
     let i = c.loop-number.number in
     let so_far = owned_edges_of value c.loop-number.edges.items in
@@ -22,7 +22,7 @@ loop-number-preserved g c =
 
 pub returns-clause-is : goal.returns-clause-is
 returns-clause-is g c =
-    let value = g.I.OverlayInt.value in
+    let value = g.I.IntNumber.value in
     let new = c.sort_by_start.new.edges in
     let items = c.loop-number.edges.items in
     let contours = walks_of value c.args.contours.now in
@@ -36,7 +36,7 @@ returns-clause-is g c =
 
 pub returns-clause-rising : goal.returns-clause-rising
 returns-clause-rising g c =
-    let value = g.I.OverlayInt.value in
+    let value = g.I.IntNumber.value in
     let new = c.sort_by_start.new.edges in
     let whole = written_back new c.loop-number.edges.items c.loop-number.edges.len (omega (arith, length_permutation _ new c.sort_by_start.ensures.permutation, c.deref_mut.ensures.len)) in
     subst (λ os. AreRising (owned_edges_of value os)) (sym whole) c.sort_by_start.ensures.rising

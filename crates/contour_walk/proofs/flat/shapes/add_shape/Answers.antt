@@ -11,11 +11,11 @@ use Rattle.contour_walk.proofs.LaidFlat.{lays_nothing, lays_then}
 use Rattle.contour_walk.proofs.flat.shapes.add_shape.Goals as goal
 
 pub loop-contour-init : goal.loop-contour-init
-loop-contour-init g c = lays_nothing g.I.OverlayInt.value c.args.laid.now
+loop-contour-init g c = lays_nothing g.I.IntNumber.value c.args.laid.now
 
 pub add_contour-requires : goal.add_contour-requires
 add_contour-requires g c =
-    let value = g.I.OverlayInt.value in
+    let value = g.I.IntNumber.value in
     let is_within = IsWithin g.I.OverlayInt.least g.I.OverlayInt.greatest in
     let x = c.index-shape-contour.result in
     let read : c.deref.result.now ≡ x.points.items = rw (← c.index-shape-contour.is) at c.deref.ensures.value in record {
@@ -26,7 +26,7 @@ add_contour-requires g c =
 
 pub loop-contour-preserved : goal.loop-contour-preserved
 loop-contour-preserved g c =
-    let value = g.I.OverlayInt.value in
+    let value = g.I.IntNumber.value in
     let finish = finished c.args.keep_all in
     let xs = c.args.shape.now in
     let i = c.loop-contour.contour in
@@ -45,7 +45,7 @@ loop-contour-preserved g c =
 
 pub returns-clause-laid : goal.returns-clause-laid
 returns-clause-laid g c =
-    let value = g.I.OverlayInt.value in
+    let value = g.I.IntNumber.value in
     let contours = contours_of value c.args.shape.now in
     let none : length contours ≤ c.loop-contour.contour =
     omega (arith, c.loop-contour-test.false, length-map c.args.shape.now (λ contour. points_of value contour.points.items)) in

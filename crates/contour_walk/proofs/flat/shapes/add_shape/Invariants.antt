@@ -7,5 +7,5 @@ use Rattle.contour_walk.proofs.flat.shapes.add_shape.Given as goal
 -- The contours before this one are laid.
 abbrev pub invariant-loop-contour : goal.invariant-loop-contour
 invariant-loop-contour g l =
-    let value = g.I.OverlayInt.value in
+    let value = g.I.IntNumber.value in
     LaysBehind value (map (finished l.keep_all) (take l.contour (contours_of value l.shape))) l.fn.laid l.laid

@@ -17,13 +17,13 @@ use Rattle.contour_walk.proofs.flat.shapes.laid_flat.Goals as goal
 
 pub loop-shape-init : goal.loop-shape-init
 loop-shape-init g c = record {
-  contours = none_laid g.I.OverlayInt.value c.new-laid.result c.new-laid.ensures.points c.new-laid.ensures.ranges;
+  contours = none_laid g.I.IntNumber.value c.new-laid.result c.new-laid.ensures.points c.new-laid.ensures.ranges;
   shapes = subst (λ (rs : List (Range ℕ)). AreLaid {A = List Point} [] [] rs) (sym c.in_ok-ranges.ensures.items) laid_none;
 }
 
 pub add_shape-requires : goal.add_shape-requires
 add_shape-requires g c =
-    let value = g.I.OverlayInt.value in
+    let value = g.I.IntNumber.value in
     let inside = All (IsWithin g.I.OverlayInt.least g.I.OverlayInt.greatest) in
     let x = c.index-shapes-shape.result in
     let read : c.deref.result.now ≡ x.contours.items = rw (← c.index-shapes-shape.is) at c.deref.ensures.value in record {
@@ -34,7 +34,7 @@ add_shape-requires g c =
 
 pub loop-shape-preserved : goal.loop-shape-preserved
 loop-shape-preserved g c =
-    let value = g.I.OverlayInt.value in
+    let value = g.I.IntNumber.value in
     let finish = finished c.args.keep_all in
     let i = c.loop-shape.shape in
     let x = c.index-shapes-shape.result in
@@ -68,7 +68,7 @@ loop-shape-preserved g c =
 
 pub returns-clause-laid : goal.returns-clause-laid
 returns-clause-laid g c =
-    let value = g.I.OverlayInt.value in
+    let value = g.I.IntNumber.value in
     let laid = c.loop-shape.laid in
     let ss = shapes_of value c.args.shapes.now in
     let none : length ss ≤ c.loop-shape.shape =

@@ -12,7 +12,7 @@ use Rattle.contour_walk.proofs.loops.least.contours_reaching.Goals as goal
 
 pub add_if_reaching-requires : goal.add_if_reaching-requires
 add_if_reaching-requires g c =
-    let value = g.I.OverlayInt.value in
+    let value = g.I.IntNumber.value in
     let is_within = IsWithin g.I.OverlayInt.least g.I.OverlayInt.greatest in
     let given = c.args.contours.now in
     let now = c.loop-place.contours in
@@ -26,7 +26,7 @@ add_if_reaching-requires g c =
 
 pub loop-place-preserved : goal.loop-place-preserved
 loop-place-preserved g c =
-    let value = g.I.OverlayInt.value in
+    let value = g.I.IntNumber.value in
     let finish = finished c.args.options.preserve_output_collinear in
     let least = c.args.options.min_output_area in
     let given = c.args.contours.now in

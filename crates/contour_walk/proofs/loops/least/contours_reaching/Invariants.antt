@@ -7,7 +7,7 @@ use Rattle.contour_walk.proofs.loops.least.contours_reaching.Given as goal
 -- The contours so far and those from this one on are all. The contours from this one on stand as they stood.
 abbrev pub invariant-loop-place : goal.invariant-loop-place
 invariant-loop-place g l =
-    let value = g.I.OverlayInt.value in
+    let value = g.I.IntNumber.value in
     let finish = finished l.options.preserve_output_collinear in
     let test = reaches l.options.min_output_area in
     let given = l.fn.contours in

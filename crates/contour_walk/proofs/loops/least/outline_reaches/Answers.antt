@@ -7,7 +7,7 @@ use Rattle.contour_walk.proofs.loops.least.outline_reaches.Goals as goal
 
 pub reaches-requires : goal.reaches-requires
 reaches-requires g c =
-    let value = g.I.OverlayInt.value in
+    let value = g.I.IntNumber.value in
     let is_within = IsWithin g.I.OverlayInt.least g.I.OverlayInt.greatest in
     let contours = c.args.contours.now in
     let some : 0 < length contours = some_first (length contours) c.is_empty.ensures c.if-is_empty.false in

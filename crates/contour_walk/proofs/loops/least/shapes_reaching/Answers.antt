@@ -13,7 +13,7 @@ use Rattle.contour_walk.proofs.loops.least.shapes_reaching.Goals as goal
 
 pub sort_out-requires : goal.sort_out-requires
 sort_out-requires g c =
-    let value = g.I.OverlayInt.value in
+    let value = g.I.IntNumber.value in
     let is_within = IsWithin g.I.OverlayInt.least g.I.OverlayInt.greatest in
     let given = c.args.shapes.now in
     let now = c.loop-place.shapes in
@@ -27,7 +27,7 @@ sort_out-requires g c =
 
 pub loop-place-preserved : goal.loop-place-preserved
 loop-place-preserved g c =
-    let value = g.I.OverlayInt.value in
+    let value = g.I.IntNumber.value in
     let finish = finished c.args.options.preserve_output_collinear in
     let least = c.args.options.min_output_area in
     let given = c.args.shapes.now in

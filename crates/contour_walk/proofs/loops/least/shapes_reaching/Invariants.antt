@@ -9,7 +9,7 @@ use Rattle.contour_walk.proofs.loops.least.shapes_reaching.Given as goal
 -- What is kept and left so far, and of the shapes from this one on, is all. The shapes from this one on stand as they stood.
 abbrev pub invariant-loop-place : goal.invariant-loop-place
 invariant-loop-place g l =
-    let value = g.I.OverlayInt.value in
+    let value = g.I.IntNumber.value in
     let finish = finished l.options.preserve_output_collinear in
     let least = l.options.min_output_area in
     let given = l.fn.shapes in

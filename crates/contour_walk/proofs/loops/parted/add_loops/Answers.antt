@@ -16,7 +16,7 @@ use Rattle.contour_walk.proofs.loops.parted.add_loops.Goals as goal
 
 pub part_of-requires : goal.part_of-requires
 part_of-requires g c =
-    let value = g.I.OverlayInt.value in
+    let value = g.I.IntNumber.value in
     let is_within = IsWithin g.I.OverlayInt.least g.I.OverlayInt.greatest in
     let given = c.args.loops.now in
     let now = c.loop-number.loops in
@@ -33,7 +33,7 @@ part_of-requires g c =
 
 pub loop-number-preserved : goal.loop-number-preserved
 loop-number-preserved g c =
-    let value = g.I.OverlayInt.value in
+    let value = g.I.IntNumber.value in
     let is_within = IsWithin g.I.OverlayInt.least g.I.OverlayInt.greatest in
     let given = c.args.loops.now in
     let now = c.loop-number.loops in
@@ -64,7 +64,7 @@ loop-number-preserved g c =
 
 pub returns-clause-is : goal.returns-clause-is
 returns-clause-is g c = λ links cut.
-    let value = g.I.OverlayInt.value in
+    let value = g.I.IntNumber.value in
     let given = c.args.loops.now in
     let part = part_of c.args.output links in
     let so_far = walks_of value c.loop-number.contours.items in

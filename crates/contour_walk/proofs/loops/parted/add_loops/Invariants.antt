@@ -9,7 +9,7 @@ use Rattle.contour_walk.proofs.loops.parted.add_loops.Given as goal
 -- The parts so far and those of the loops from this one on are all. The loops from this one on stand as they stood.
 abbrev pub invariant-loop-number : goal.invariant-loop-number
 invariant-loop-number g l =
-    let value = g.I.OverlayInt.value in
+    let value = g.I.IntNumber.value in
     let given = l.fn.loops in
     record {
       so_far : (links : List Border) → AreCut l.output links (contours_of value given)

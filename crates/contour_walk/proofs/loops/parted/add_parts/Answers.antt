@@ -14,7 +14,7 @@ use Rattle.contour_walk.proofs.loops.parted.add_parts.Goals as goal
 
 pub returns-then-is_one_loop-clause-is : goal.returns-then-is_one_loop-clause-is
 returns-then-is_one_loop-clause-is g c = λ links cut.
-    let value = g.I.OverlayInt.value in
+    let value = g.I.IntNumber.value in
     let path = points_of value c.args.path.items in
     let one = subst (λ ps. All (λ l. 3 ≤ length l) (loops (points_of value ps)) → loops (points_of value ps) ≡ points_of value ps ∷ []) c.deref.ensures.value (c.is_one_loop.ensures c.if-is_one_loop.true) in
     let pushed = ap (walks_of value) c.in_ok-push.ensures.items ∙ map-append (contour_of value) c.args.contours.now.items (c.part_of.result ∷ []) in
@@ -22,7 +22,7 @@ returns-then-is_one_loop-clause-is g c = λ links cut.
 
 pub returns-then-is_one_loop-clause-in_range : goal.returns-then-is_one_loop-clause-in_range
 returns-then-is_one_loop-clause-in_range g c =
-    let value = g.I.OverlayInt.value in
+    let value = g.I.IntNumber.value in
     let is_within = IsWithin g.I.OverlayInt.least g.I.OverlayInt.greatest in
     let pushed = ap (walks_of value) c.in_ok-push.ensures.items ∙ map-append (contour_of value) c.args.contours.now.items (c.part_of.result ∷ []) in
     subst (All (λ (d : Contour). All is_within d.points)) (sym pushed)
@@ -30,14 +30,14 @@ returns-then-is_one_loop-clause-in_range g c =
 
 pub add_loops-requires-clause-in_range : goal.add_loops-requires-clause-in_range
 add_loops-requires-clause-in_range g c =
-    let value = g.I.OverlayInt.value in
+    let value = g.I.IntNumber.value in
     let is_within = IsWithin g.I.OverlayInt.least g.I.OverlayInt.greatest in
     subst (λ ls. All (All is_within) (contours_of value ls)) (sym c.deref_mut.ensures.value)
     (subst (All (All is_within)) (sym (c.in_ok-loops.ensures.is ∙ ap (λ ps. long_loops 0 (points_of value ps)) c.deref-2.ensures.value)) (long_within is_within 0 (points_of value c.args.path.items) c.requires.in_range))
 
 pub returns-clause-is : goal.returns-clause-is
 returns-clause-is g c = λ links cut.
-    let value = g.I.OverlayInt.value in
+    let value = g.I.IntNumber.value in
     let path = points_of value c.args.path.items in
     let whole : contours_of value c.deref_mut.result.now ≡ loops path =
     ap (contours_of value) c.deref_mut.ensures.value ∙ ((c.in_ok-loops.ensures.is ∙ ap (λ ps. long_loops 0 (points_of value ps)) c.deref-2.ensures.value) ∙ all_long c.args.output links (loops path) cut) in

@@ -6,7 +6,7 @@ use Rattle.contour_walk.proofs.loops.parted.begin.Goals as goal
 
 pub returns-then-not-is_empty : goal.returns-then-not-is_empty
 returns-then-not-is_empty g c =
-    let f = point_of g.I.OverlayInt.value in
+    let f = point_of g.I.IntNumber.value in
     let now = c.args.points.now in
-    let given = points_of g.I.OverlayInt.value now.items in
-    ap (points_of g.I.OverlayInt.value) c.rotate_left.ensures.items ∙ (rotated f 1 now.items ∙ sym (ap (λ b. cond b (begun_at 1 given) given) c.if-second.true))
+    let given = points_of g.I.IntNumber.value now.items in
+    ap (points_of g.I.IntNumber.value) c.rotate_left.ensures.items ∙ (rotated f 1 now.items ∙ sym (ap (λ b. cond b (begun_at 1 given) given) c.if-second.true))

@@ -13,7 +13,7 @@ use Rattle.contour_walk.proofs.loops.parted.begin_before_least.Goals as goal
 
 pub returns-then-place-eq0-clause-is : goal.returns-then-place-eq0-clause-is
 returns-then-place-eq0-clause-is g c = λ v i some here.
-    let value = g.I.OverlayInt.value in
+    let value = g.I.IntNumber.value in
     let f = point_of value in
     let now = c.args.points.now in
     let given = points_of value now.items in
@@ -30,7 +30,7 @@ returns-then-place-eq0-clause-is g c = λ v i some here.
 
 pub returns-else-place-eq0-clause-is : goal.returns-else-place-eq0-clause-is
 returns-else-place-eq0-clause-is g c = λ v i some here.
-    let value = g.I.OverlayInt.value in
+    let value = g.I.IntNumber.value in
     let f = point_of value in
     let now = c.args.points.now in
     let given = points_of value now.items in
@@ -46,14 +46,14 @@ returns-else-place-eq0-clause-is g c = λ v i some here.
 
 pub returns-then-place-eq0-clause-in_range : goal.returns-then-place-eq0-clause-in_range
 returns-then-place-eq0-clause-in_range g c = λ h.
-    let value = g.I.OverlayInt.value in
+    let value = g.I.IntNumber.value in
     let within = IsWithin g.I.OverlayInt.least g.I.OverlayInt.greatest in
     let now = c.args.points.now in
     subst (All within) (sym (ap (points_of value) c.rotate_left.ensures.items ∙ rotated (point_of value) (c.len.result - 1) now.items)) (all_begun_at within (c.len.result - 1) (points_of value now.items) h)
 
 pub returns-else-place-eq0-clause-in_range : goal.returns-else-place-eq0-clause-in_range
 returns-else-place-eq0-clause-in_range g c = λ h.
-    let value = g.I.OverlayInt.value in
+    let value = g.I.IntNumber.value in
     let within = IsWithin g.I.OverlayInt.least g.I.OverlayInt.greatest in
     let now = c.args.points.now in
     let i = c.in-Some-place_of.place - 1 in
@@ -61,12 +61,12 @@ returns-else-place-eq0-clause-in_range g c = λ h.
 
 pub returns-in_default-clause-is : goal.returns-in_default-clause-is
 returns-in_default-clause-is g c = λ v i some here.
-    let value = g.I.OverlayInt.value in
+    let value = g.I.IntNumber.value in
     absurd (let z : None ≡ Some v = c.in_default.ensures ∙ (ap (λ ps. least_point (points_of value ps)) c.deref.ensures.value ∙ some) in cc)
 
 pub returns-in_default-place_of-clause-is : goal.returns-in_default-place_of-clause-is
 returns-in_default-place_of-clause-is g c = λ v i some here.
-    let value = g.I.OverlayInt.value in
+    let value = g.I.IntNumber.value in
     let f = point_of value in
     let given = points_of value c.args.points.now.items in
     let found : least_point given ≡ Some (f c.in-Some.least) =

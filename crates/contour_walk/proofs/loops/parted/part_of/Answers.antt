@@ -8,12 +8,12 @@ pub is_hole-is_hole-requires : goal.is_hole-is_hole-requires
 is_hole-is_hole-requires g c =
     let within = IsWithin g.I.OverlayInt.least g.I.OverlayInt.greatest in
     record {
-      in_range = subst (All within) (sym (ap (points_of g.I.OverlayInt.value) c.deref.ensures.value)) (c.begin_before_least.ensures.in_range c.requires.in_range);
+      in_range = subst (All within) (sym (ap (points_of g.I.IntNumber.value) c.deref.ensures.value)) (c.begin_before_least.ensures.in_range c.requires.in_range);
     }
 
 pub returns-clause-is : goal.returns-clause-is
 returns-clause-is g c = λ links told.
-    let value = g.I.OverlayInt.value in
+    let value = g.I.IntNumber.value in
     let given = points_of value c.args.points.items in
     let first = c.begin_before_least.ensures.is told.least told.place told.found told.at in
     let read = ap (points_of value) c.deref.ensures.value ∙ (first ∙ begun_before c.args.output links given told) in
@@ -23,6 +23,6 @@ returns-clause-is g c = λ links told.
 pub returns-clause-in_range : goal.returns-clause-in_range
 returns-clause-in_range g c =
     let within = IsWithin g.I.OverlayInt.least g.I.OverlayInt.greatest in
-    let value = g.I.OverlayInt.value in
+    let value = g.I.IntNumber.value in
     subst (All within) (sym c.begin.ensures)
     (all_begun within (not c.is_same.result) (points_of value c.begin_before_least.new.points.items) (c.begin_before_least.ensures.in_range c.requires.in_range))

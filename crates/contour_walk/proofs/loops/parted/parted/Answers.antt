@@ -15,7 +15,7 @@ use Rattle.contour_walk.proofs.loops.parted.parted.Goals as goal
 
 pub add_parts-requires-clause-in_range : goal.add_parts-requires-clause-in_range
 add_parts-requires-clause-in_range g c =
-    let value = g.I.OverlayInt.value in
+    let value = g.I.IntNumber.value in
     let is_within = IsWithin g.I.OverlayInt.least g.I.OverlayInt.greatest in
     let given = c.args.walks.now in
     let now = c.loop-number.walks in
@@ -29,7 +29,7 @@ add_parts-requires-clause-in_range g c =
 
 pub loop-number-preserved : goal.loop-number-preserved
 loop-number-preserved g c =
-    let value = g.I.OverlayInt.value in
+    let value = g.I.IntNumber.value in
     let given = c.args.walks.now in
     let now = c.loop-number.walks in
     let inv = c.loop-number.invariant in
@@ -62,7 +62,7 @@ loop-number-preserved g c =
 
 pub returns-clause-is : goal.returns-clause-is
 returns-clause-is g c = λ links cut.
-    let value = g.I.OverlayInt.value in
+    let value = g.I.IntNumber.value in
     let walks = walks_of value c.args.walks.now in
     let part = part_of c.args.output links in
     let over : length walks ≤ c.loop-number.number = omega (arith, c.loop-number-test.false, length-map c.args.walks.now (contour_of value)) in

@@ -9,7 +9,7 @@ use Rattle.contour_walk.proofs.loops.parted.parted.Given as goal
 -- The parts so far and those of the walks from this one on are all. The walks from this one on stand as they stood.
 abbrev pub invariant-loop-number : goal.invariant-loop-number
 invariant-loop-number g l =
-    let value = g.I.OverlayInt.value in
+    let value = g.I.IntNumber.value in
     let given = l.fn.walks in
     let walks = walks_of value given in
     record {

@@ -8,7 +8,7 @@ use Rattle.contour_walk.proofs.loops.parted.place_of.Goals as goal
 
 pub returns-then-is_same_point-clause-is : goal.returns-then-is_same_point-clause-is
 returns-then-is_same_point-clause-is g c =
-    let f = point_of g.I.OverlayInt.value in
+    let f = point_of g.I.IntNumber.value in
     let xs = c.args.points.now in
     let i = c.loop-place.place in
     let x = c.index-points-place.result in
@@ -18,7 +18,7 @@ returns-then-is_same_point-clause-is g c =
 
 pub loop-place-preserved : goal.loop-place-preserved
 loop-place-preserved g c =
-    let f = point_of g.I.OverlayInt.value in
+    let f = point_of g.I.IntNumber.value in
     let xs = c.args.points.now in
     let i = c.loop-place.place in
     let x = c.index-points-place.result in

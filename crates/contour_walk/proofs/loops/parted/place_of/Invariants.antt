@@ -5,4 +5,4 @@ use Rattle.contour_walk.proofs.loops.parted.place_of.Given as goal
 
 -- The point stands nowhere before this place.
 abbrev pub invariant-loop-place : goal.invariant-loop-place
-invariant-loop-place g l = place_of (point_of g.I.OverlayInt.value l.point) (points_of g.I.OverlayInt.value (take l.place l.points)) ≡ None
+invariant-loop-place g l = place_of (point_of g.I.IntNumber.value l.point) (points_of g.I.IntNumber.value (take l.place l.points)) ≡ None

@@ -23,7 +23,7 @@ one_more turns center from best n b met clockwise v a seen held =
 
 pub returns-then-is_before : goal.returns-then-is_before
 returns-then-is_before g c = λ clockwise v a seen held.
-    let value = g.I.OverlayInt.value in
+    let value = g.I.IntNumber.value in
     let s = c.args.self.now in
     let ahead = int_lt (pos 0) (turned s.clockwise (point_of value s.center) (point_of value s.best) (point_of value c.args.p)) in
     let met : is_met_before s.clockwise (point_of value s.center) (point_of value s.from) (point_of value s.best) (point_of value c.args.p) ≡ true =
@@ -32,7 +32,7 @@ returns-then-is_before g c = λ clockwise v a seen held.
 
 pub returns : goal.returns
 returns g c = λ clockwise v a seen held.
-    let value = g.I.OverlayInt.value in
+    let value = g.I.IntNumber.value in
     let s = c.args.self.now in
     let ahead = int_lt (pos 0) (turned s.clockwise (point_of value s.center) (point_of value s.best) (point_of value c.args.p)) in
     let met : is_met_before s.clockwise (point_of value s.center) (point_of value s.from) (point_of value s.best) (point_of value c.args.p) ≡ false =

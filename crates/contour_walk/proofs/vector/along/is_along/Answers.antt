@@ -21,7 +21,7 @@ returns-clause-within g c = λ e. omega (arith, c.if-place-links.false)
 
 pub returns-clause-is : goal.returns-clause-is
 returns-clause-is g c = λ e l.
-    let value = g.I.OverlayInt.value in
+    let value = g.I.IntNumber.value in
     let links = c.args.links.now in
     let inside : c.args.place < length links = omega (arith, c.if-place-links.false) in
     along value links c.args.place c.index-links-place.result l (point_of value c.args.a) (point_of value c.args.b) inside c.index-links-place.is

@@ -8,7 +8,7 @@ use Rattle.contour_walk.proofs.vector.along.place_of_link.Goals as goal
 
 pub unreachable-requires : goal.unreachable-requires
 unreachable-requires g c =
-    let value = g.I.OverlayInt.value in
+    let value = g.I.IntNumber.value in
     let links = c.args.links.now in
     let s : Edge = record { a = point_of value c.args.a; b = point_of value c.args.b } in
     let told = c.in-Err.ensures.position (λ l. edge_order (link_edge_of value l) s) (always_returns_same _ _ _ (λ a r f' k. (search rules, search rules))) in
@@ -16,7 +16,7 @@ unreachable-requires g c =
 
 pub returns-clause-is : goal.returns-clause-is
 returns-clause-is g c =
-    let value = g.I.OverlayInt.value in
+    let value = g.I.IntNumber.value in
     let s : Edge = record { a = point_of value c.args.a; b = point_of value c.args.b } in
     found value c.args.links.now c.requires.rising s c.in-Ok.place
     (c.in-Ok.ensures.position (λ l. edge_order (link_edge_of value l) s) (always_returns_same _ _ _ (λ a r f' k. (search rules, search rules))))

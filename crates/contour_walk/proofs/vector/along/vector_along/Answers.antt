@@ -8,7 +8,7 @@ use Rattle.contour_walk.proofs.vector.along.vector_along.Goals as goal
 
 pub returns-then-comes_before-clause-is : goal.returns-then-comes_before-clause-is
 returns-then-comes_before-clause-is g c =
-    let value = g.I.OverlayInt.value in
+    let value = g.I.IntNumber.value in
     let u = point_of value c.args.a in
     let v = point_of value c.args.b in
     let link = c.index-links-place_near.result in
@@ -21,7 +21,7 @@ returns-then-comes_before-clause-is g c =
 
 pub returns-then-comes_before-clause-of_link : goal.returns-then-comes_before-clause-of_link
 returns-then-comes_before-clause-of_link g c =
-    let value = g.I.OverlayInt.value in
+    let value = g.I.IntNumber.value in
     let u = point_of value c.args.a in
     let v = point_of value c.args.b in
     let links = c.args.links.now in
@@ -43,7 +43,7 @@ returns-then-comes_before-clause-of_link g c =
 
 pub returns-clause-is : goal.returns-clause-is
 returns-clause-is g c =
-    let value = g.I.OverlayInt.value in
+    let value = g.I.IntNumber.value in
     let u = point_of value c.args.a in
     let v = point_of value c.args.b in
     let link = c.index-links-place_near-2.result in
@@ -54,7 +54,7 @@ returns-clause-is g c =
 
 pub returns-clause-of_link : goal.returns-clause-of_link
 returns-clause-of_link g c =
-    let value = g.I.OverlayInt.value in
+    let value = g.I.IntNumber.value in
     let u = point_of value c.args.a in
     let v = point_of value c.args.b in
     let links = c.args.links.now in

@@ -13,7 +13,7 @@ use Rattle.contour_walk.proofs.vector.along.vector_path.Goals as goal
 
 pub loop-place-init : goal.loop-place-init
 loop-place-init g c =
-    let value = g.I.OverlayInt.value in
+    let value = g.I.IntNumber.value in
     let links = c.args.links.now in
     let all = all_steps_left (points_of value c.args.points.now) in
     rw c.in_ok-edges.ensures.items record {
@@ -24,7 +24,7 @@ loop-place-init g c =
 
 pub vector_along-edge-requires-clause-linked : goal.vector_along-edge-requires-clause-linked
 vector_along-edge-requires-clause-linked g c =
-    let value = g.I.OverlayInt.value in
+    let value = g.I.IntNumber.value in
     let f = point_of value in
     let points = c.args.points.now in
     let i = c.loop-place.place in
@@ -34,7 +34,7 @@ vector_along-edge-requires-clause-linked g c =
 
 pub loop-place-preserved : goal.loop-place-preserved
 loop-place-preserved g c =
-    let value = g.I.OverlayInt.value in
+    let value = g.I.IntNumber.value in
     let f = point_of value in
     let links = c.args.links.now in
     let points = c.args.points.now in
@@ -60,7 +60,7 @@ loop-place-preserved g c =
 
 pub returns-clause-is : goal.returns-clause-is
 returns-clause-is g c =
-    let value = g.I.OverlayInt.value in
+    let value = g.I.IntNumber.value in
     let edges = c.loop-place.edges.items in
     let along = vector_along (map (overlay_link_of value) c.args.links.now) in
     let end = no_steps_left (points_of value c.args.points.now) c.loop-place.place (omega (arith, length-map c.args.points.now (point_of value), c.loop-place-test.false)) in

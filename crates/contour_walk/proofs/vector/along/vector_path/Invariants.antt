@@ -11,7 +11,7 @@ use Rattle.contour_walk.proofs.vector.along.vector_path.Given as goal
 -- The edges so far and those of the steps from this point on are all.
 abbrev pub invariant-loop-place : goal.invariant-loop-place
 invariant-loop-place g l =
-    let value = g.I.OverlayInt.value in
+    let value = g.I.IntNumber.value in
     record {
       is :
           map (vector_of value) l.edges.items ++ map (vector_along (map (overlay_link_of value) l.links)) (steps_left (points_of value l.points) l.place)

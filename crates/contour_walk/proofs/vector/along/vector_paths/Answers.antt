@@ -12,7 +12,7 @@ use Rattle.contour_walk.proofs.vector.along.vector_paths.Goals as goal
 
 pub vector_path-requires-clause-linked : goal.vector_path-requires-clause-linked
 vector_path-requires-clause-linked g c =
-    let value = g.I.OverlayInt.value in
+    let value = g.I.IntNumber.value in
     let contours = c.args.contours.now in
     let number = c.loop-number.number in
     let contour = get_or contours number c.index-contours-number.result in
@@ -21,7 +21,7 @@ vector_path-requires-clause-linked g c =
 
 pub loop-number-preserved : goal.loop-number-preserved
 loop-number-preserved g c =
-    let value = g.I.OverlayInt.value in
+    let value = g.I.IntNumber.value in
     let links = c.args.links.now in
     let contours = c.args.contours.now in
     let number = c.loop-number.number in

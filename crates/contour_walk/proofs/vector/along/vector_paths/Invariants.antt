@@ -11,7 +11,7 @@ use Rattle.contour_walk.proofs.vector.along.vector_paths.Given as goal
 -- The contours before this one are seen.
 abbrev pub invariant-loop-number : goal.invariant-loop-number
 invariant-loop-number g l =
-    let value = g.I.OverlayInt.value in
+    let value = g.I.IntNumber.value in
     record {
       is :
           map (map (vector_of value)) (edges_of_paths l.paths.items)

@@ -13,7 +13,7 @@ use Rattle.contour_walk.proofs.vector.along.vector_shapes.Goals as goal
 
 pub vector_paths-requires-clause-linked : goal.vector_paths-requires-clause-linked
 vector_paths-requires-clause-linked g c =
-    let value = g.I.OverlayInt.value in
+    let value = g.I.IntNumber.value in
     let shapes = c.args.shapes.now in
     let number = c.loop-number.number in
     let shape = get_or shapes number c.index-shapes-number.result in
@@ -23,7 +23,7 @@ vector_paths-requires-clause-linked g c =
 
 pub loop-number-preserved : goal.loop-number-preserved
 loop-number-preserved g c =
-    let value = g.I.OverlayInt.value in
+    let value = g.I.IntNumber.value in
     let links = c.args.links.now in
     let shapes = c.args.shapes.now in
     let number = c.loop-number.number in

@@ -10,7 +10,7 @@ use Rattle.contour_walk.proofs.vector.along.vector_shapes.Given as goal
 -- The shapes before this one are seen.
 abbrev pub invariant-loop-number : goal.invariant-loop-number
 invariant-loop-number g l =
-    let value = g.I.OverlayInt.value in
+    let value = g.I.IntNumber.value in
     record {
       is :
           vectors_of value (edges_of_shapes l.vectors.items)

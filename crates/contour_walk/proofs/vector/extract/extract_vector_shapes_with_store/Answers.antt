@@ -16,7 +16,7 @@ use Rattle.contour_walk.proofs.vector.extract.extract_vector_shapes_with_store.G
 
 pub vector_shapes-requires-clause-rising : goal.vector_shapes-requires-clause-rising
 vector_shapes-requires-clause-rising g c =
-    let value = g.I.OverlayInt.value in
+    let value = g.I.IntNumber.value in
     let graph = c.args.graph.now in
     let given = c.requires.graph in
     rw c.links.ensures ((is_walkable value graph.links.now g.I.OverlayInt.least g.I.OverlayInt.greatest graph.nodes.now given.0 (overlay_rule_of c.args.rule) given.1
@@ -27,7 +27,7 @@ vector_shapes-requires-clause-in_range g c = rw c.links.ensures c.args.graph.now
 
 pub vector_shapes-requires-clause-linked : goal.vector_shapes-requires-clause-linked
 vector_shapes-requires-clause-linked g c =
-    let value = g.I.OverlayInt.value in
+    let value = g.I.IntNumber.value in
     let rule = overlay_rule_of c.args.rule in
     let links = c.args.graph.now.links.now in
     let output = is_clockwise c.args.options.output_direction in
@@ -39,7 +39,7 @@ vector_shapes-requires-clause-linked g c =
 
 pub returns-then-options-clause-is : goal.returns-then-options-clause-is
 returns-then-options-clause-is g c = λ fill es are.
-    let value = g.I.OverlayInt.value in
+    let value = g.I.IntNumber.value in
     let rule = overlay_rule_of c.args.rule in
     let graph = c.args.graph.now in
     let links = graph.links.now in
@@ -57,7 +57,7 @@ returns-then-options-clause-is g c = λ fill es are.
 
 pub returns-clause-is : goal.returns-clause-is
 returns-clause-is g c = λ fill es are.
-    let value = g.I.OverlayInt.value in
+    let value = g.I.IntNumber.value in
     let rule = overlay_rule_of c.args.rule in
     let graph = c.args.graph.now in
     let links = graph.links.now in
@@ -77,12 +77,12 @@ returns-clause-is g c = λ fill es are.
 pub returns-then-options-clause-in_range : goal.returns-then-options-clause-in_range
 returns-then-options-clause-in_range g c =
     let of_links = rw c.links.ensures at c.in_ok-shapes.ensures.of_links in
-    ends_of g.I.OverlayInt.value g.I.OverlayInt.least g.I.OverlayInt.greatest (MayBeTurned g.D.OverlayEdgeData.JOINS g.D.OverlayEdgeData.turns_to)
+    ends_of g.I.IntNumber.value g.I.OverlayInt.least g.I.OverlayInt.greatest (MayBeTurned g.D.OverlayEdgeData.JOINS g.D.OverlayEdgeData.turns_to)
     c.args.graph.now.links.now (edges_of_shapes c.in_ok-shapes.shapes.items) of_links
 
 pub returns-clause-in_range : goal.returns-clause-in_range
 returns-clause-in_range g c =
-    let value = g.I.OverlayInt.value in
+    let value = g.I.IntNumber.value in
     let least = g.I.OverlayInt.least in
     let greatest = g.I.OverlayInt.greatest in
     let whole = edges_of_shapes c.in_ok-shapes.shapes.items in

@@ -9,13 +9,13 @@ pub loop-start-init : goal.loop-start-init
 loop-start-init g c = record {
   start = omega arith;
   reached = λ given r. r;
-  none = none_drop g.I.OverlayInt.value g.D.PartialEq.eq 1 c.args.edges.now.items c.requires.none;
+  none = none_drop g.I.IntNumber.value g.D.PartialEq.eq 1 c.args.edges.now.items c.requires.none;
   in_range = c.requires.in_range;
 }
 
 pub loop-start-preserved-then-can_join : goal.loop-start-preserved-then-can_join
 loop-start-preserved-then-can_join g c =
-    let value = g.I.OverlayInt.value in
+    let value = g.I.IntNumber.value in
     let same = g.D.PartialEq.eq in
     let items = c.loop-start.edges.items in
     let start = c.loop-start.start in
@@ -42,7 +42,7 @@ loop-start-preserved-then-can_join g c =
 
 pub loop-start-preserved : goal.loop-start-preserved
 loop-start-preserved g c =
-    let value = g.I.OverlayInt.value in
+    let value = g.I.IntNumber.value in
     let same = g.D.PartialEq.eq in
     let items = c.loop-start.edges.items in
     let start = c.loop-start.start in
@@ -65,7 +65,7 @@ loop-start-preserved g c =
 
 pub returns-else-can_join-2-clause-none : goal.returns-else-can_join-2-clause-none
 returns-else-can_join-2-clause-none g c =
-    let value = g.I.OverlayInt.value in
+    let value = g.I.IntNumber.value in
     let same = g.D.PartialEq.eq in
     let items = c.loop-start.edges.items in
     let start = c.loop-start.start in

@@ -13,11 +13,11 @@ loop-next-init g c = record { few = omega arith; long = refl; reached = no_join;
 
 pub joined_back-before-requires-clause-in_range : goal.joined_back-before-requires-clause-in_range
 joined_back-before-requires-clause-in_range g c =
-    subst (All (IsVectorWithin g.I.OverlayInt.value g.I.OverlayInt.least g.I.OverlayInt.greatest)) (sym c.deref.ensures.value) c.loop-next.invariant.in_range
+    subst (All (IsVectorWithin g.I.IntNumber.value g.I.OverlayInt.least g.I.OverlayInt.greatest)) (sym c.deref.ensures.value) c.loop-next.invariant.in_range
 
 pub loop-next-preserved : goal.loop-next-preserved
 loop-next-preserved g c =
-    let value = g.I.OverlayInt.value in
+    let value = g.I.IntNumber.value in
     let same = g.D.PartialEq.eq in
     let given = c.args.edges.now.items in
     let items = c.loop-next.edges.items in
@@ -44,7 +44,7 @@ loop-next-preserved g c =
 
 pub returns-clause-reached : goal.returns-clause-reached
 returns-clause-reached g c =
-    let value = g.I.OverlayInt.value in
+    let value = g.I.IntNumber.value in
     let same = g.D.PartialEq.eq in
     let items = c.loop-next.edges.items in
     let inv = c.loop-next.invariant in

@@ -8,7 +8,7 @@ use Rattle.contour_walk.proofs.vector.simplify.joined_back.Goals as goal
 
 pub loop-left-preserved : goal.loop-left-preserved
 loop-left-preserved g c =
-    let value = g.I.OverlayInt.value in
+    let value = g.I.IntNumber.value in
     let same = g.D.PartialEq.eq in
     let items = c.args.edges.now in
     let left = c.loop-left.left in
@@ -30,7 +30,7 @@ loop-left-preserved g c =
 
 pub returns-clause-none : goal.returns-clause-none
 returns-clause-none g c = λ h.
-    let value = g.I.OverlayInt.value in
+    let value = g.I.IntNumber.value in
     let same = g.D.PartialEq.eq in
     let items = c.args.edges.now in
     let left = c.loop-left.left in

@@ -7,7 +7,7 @@ use Rattle.contour_walk.proofs.walk.build_rings.add_if_many.Goals as goal
 
 pub add_ring-requires-clause-inside : goal.add_ring-requires-clause-inside
 add_ring-requires-clause-inside g c =
-    let value = g.I.OverlayInt.value in
+    let value = g.I.IntNumber.value in
     let links = c.args.graph.now.links.now in
     let nodes = c.args.graph.now.nodes.now in
     let edges = link_edges value links in

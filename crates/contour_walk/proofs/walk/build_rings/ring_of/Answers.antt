@@ -11,7 +11,7 @@ use Rattle.contour_walk.proofs.walk.build_rings.ring_of.Goals as goal
 
 pub returns-clause-is : goal.returns-clause-is
 returns-clause-is g c =
-    let value = g.I.OverlayInt.value in
+    let value = g.I.IntNumber.value in
     let links = c.args.graph.now.links.now in
     let edges = link_edges value links in
     let states = c.args.states.now in

@@ -7,7 +7,7 @@ use Rattle.contour_walk.proofs.walk.sorting.rise.Goals as goal
 
 pub loop-i-preserved : goal.loop-i-preserved
 loop-i-preserved g c =
-    let value = g.I.OverlayInt.value in
+    let value = g.I.IntNumber.value in
     let v = point_of value c.args.v in
     let spokes = c.args.spokes.now in
     let i = c.loop-i.i in

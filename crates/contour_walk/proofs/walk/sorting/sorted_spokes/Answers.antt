@@ -15,7 +15,7 @@ use Rattle.contour_walk.proofs.walk.sorting.sorted_spokes.Goals as goal
 
 pub returns-clause-all : goal.returns-clause-all
 returns-clause-all g c =
-    let value = g.I.OverlayInt.value in
+    let value = g.I.IntNumber.value in
     let new = c.sort_ways.new.ways in
     let places = c.args.places.now in
     let f = spoke_at c.args.starts (point_of value c.args.v) (link_edges value c.args.links.now) c.args.states.now in
@@ -38,11 +38,11 @@ pub returns-in_err-spokes-clause-in_range : goal.returns-in_err-spokes-clause-in
 returns-in_err-spokes-clause-in_range g c = rw ((err_from_is_err_and c.from_residual-in_err-spokes.result c.from_residual-in_err-spokes.ensures.1).1) tt
 
 pub loop-i-init : goal.loop-i-init
-loop-i-init g c = ap (map (λ w. numbered g.I.OverlayInt.value w.far w.place)) c.new-ways.ensures.items
+loop-i-init g c = ap (map (λ w. numbered g.I.IntNumber.value w.far w.place)) c.new-ways.ensures.items
 
 pub loop-i-preserved : goal.loop-i-preserved
 loop-i-preserved g c =
-    let value = g.I.OverlayInt.value in
+    let value = g.I.IntNumber.value in
     let places = c.args.places.now in
     let i = c.loop-i.i in
     let f = spoke_at c.args.starts (point_of value c.args.v) (link_edges value c.args.links.now) c.args.states.now in

@@ -8,5 +8,5 @@ use Rattle.contour_walk.proofs.walk.sorting.sorted_spokes.Given as goal
 -- The links at the places before this one are taken.
 abbrev pub invariant-loop-i : goal.invariant-loop-i
 invariant-loop-i g l =
-    let value = g.I.OverlayInt.value in
+    let value = g.I.IntNumber.value in
     map (λ w. numbered value w.far w.place) l.ways.items ≡ flat_map (spoke_at l.starts (point_of value l.v) (link_edges value l.links) l.states) (take l.i l.places)

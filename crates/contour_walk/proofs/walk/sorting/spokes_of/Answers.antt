@@ -10,7 +10,7 @@ use Rattle.contour_walk.proofs.walk.sorting.spokes_of.Goals as goal
 
 pub loop-way-preserved : goal.loop-way-preserved
 loop-way-preserved g c =
-    let value = g.I.OverlayInt.value in
+    let value = g.I.IntNumber.value in
     let ways = c.args.ways.now in
     let so_far = c.loop-way.spokes.items in
     let k = c.way-item.result in (
@@ -21,7 +21,7 @@ loop-way-preserved g c =
 
 pub returns-clause-is : goal.returns-clause-is
 returns-clause-is g c =
-    let value = g.I.OverlayInt.value in
+    let value = g.I.IntNumber.value in
     c.loop-way.invariant.0 ∙ ap (map (λ w. numbered value w.far w.place)) (take_all c.loop-way.way-index c.args.ways.now (omega (arith, c.loop-way-test.false)))
 
 pub returns-in_err-push-clause-is : goal.returns-in_err-push-clause-is

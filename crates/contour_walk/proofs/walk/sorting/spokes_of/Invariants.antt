@@ -8,6 +8,6 @@ use Rattle.contour_walk.proofs.walk.sorting.spokes_of.Given as goal
 -- The ways before this one are written down.
 abbrev pub invariant-loop-way : goal.invariant-loop-way
 invariant-loop-way g l =
-    let value = g.I.OverlayInt.value in
+    let value = g.I.IntNumber.value in
     (numbered_spokes value l.spokes.items ≡ map (λ w. numbered value w.far w.place) (take l.way-index l.ways))
     × All (λ s. IsWithin g.I.OverlayInt.least g.I.OverlayInt.greatest (point_of value s.far)) l.spokes.items

@@ -8,7 +8,7 @@ use Rattle.contour_walk.proofs.walk.spoke.places_at.Goals as goal
 
 pub returns : goal.returns
 returns g c =
-    let value = g.I.OverlayInt.value in
+    let value = g.I.IntNumber.value in
     let links = c.args.graph.now.links.now in
     let nodes = c.args.graph.now.nodes.now in
     let edges = link_edges value links in

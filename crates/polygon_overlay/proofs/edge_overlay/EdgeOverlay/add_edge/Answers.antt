@@ -6,7 +6,8 @@ use Rattle.segment_split.specs.Adding.{LacksRoom}
 use Rattle.segment_split.specs.Data.{carried, MayBeTurned, LaysWith}
 use Rattle.segment_split.specs.Holdings.{IsRefusedBy}
 use Rattle.segment_split.proofs.Facts.Adding.Laws.{answered, if_refused, on_answer, on_refusal}
-use Rattle.segment_split.proofs.Facts.Adding.Paths.{equal_points, lays_nothing}
+use Rattle.plane_base.proofs.Facts.Points.Orders.{equal_points}
+use Rattle.segment_split.proofs.Facts.Adding.Paths.{lays_nothing}
 use Rattle.polygon_overlay.specs.Builders.{count_of_type}
 use Rattle.polygon_overlay.specs.EdgeCalls.{laid_edge}
 use Rattle.polygon_overlay.specs.Tallies.{spare_of}
@@ -15,7 +16,7 @@ use Rattle.polygon_overlay.proofs.edge_overlay.EdgeOverlay.add_edge.Goals as goa
 
 pub invariant_of-self : goal.invariant_of-self
 invariant_of-self g c =
-    let value = g.I.OverlayInt.value in
+    let value = g.I.IntNumber.value in
     let old = c.args.self.now in
     let a = point_of value c.args.edge.a in
     let b = point_of value c.args.edge.b in
@@ -31,7 +32,7 @@ invariant_of-self g c =
 
 pub returns-clause-adds : goal.returns-clause-adds
 returns-clause-adds g c =
-    let value = g.I.OverlayInt.value in
+    let value = g.I.IntNumber.value in
     let old = c.args.self.now in
     let a = point_of value c.args.edge.a in
     let b = point_of value c.args.edge.b in
@@ -58,15 +59,15 @@ returns-clause-adds g c =
 
 pub returns-then-eq-clause-data : goal.returns-then-eq-clause-data
 returns-then-eq-clause-data g c =
-    let value = g.I.OverlayInt.value in
+    let value = g.I.IntNumber.value in
     let edge = c.args.edge in
     lays_nothing (carried boolean g.D.OverlayEdgeData.join) g.D.OverlayEdgeData.JOINS g.D.OverlayEdgeData.turns_to (point_of value edge.a) (point_of value edge.b)
     (count_of_type c.args.shape_type) edge.datum c.args.self.now.held.with_data
-    (equal_points value g.I.Ord.cmp g.I.PartialEq.eq g.met.I.OverlayInt.ordered g.met.I.Ord.matches_eq edge.a edge.b (sym c.eq.ensures ∙ c.if-eq.true))
+    (equal_points value g.I.IntNumber.of_value g.met.I.OverlayInt.value_reaches g.I.Ord.cmp g.met.I.OverlayInt.ordered g.I.PartialEq.eq g.met.I.Ord.matches_eq edge.a edge.b (sym c.eq.ensures ∙ c.if-eq.true))
 
 pub returns-clause-data : goal.returns-clause-data
 returns-clause-data g c =
-    let value = g.I.OverlayInt.value in
+    let value = g.I.IntNumber.value in
     let edge = c.args.edge in
     let turns = MayBeTurned g.D.OverlayEdgeData.JOINS g.D.OverlayEdgeData.turns_to in
     on_answer c.add_with_ends.result
@@ -76,7 +77,7 @@ returns-clause-data g c =
 
 pub returns-clause-joined : goal.returns-clause-joined
 returns-clause-joined g c j =
-    let value = g.I.OverlayInt.value in
+    let value = g.I.IntNumber.value in
     on_answer c.add_with_ends.result
     (λ is. is ∙ ap (λ k. c.args.self.now.held.with_data
     ++ lay (carried boolean g.D.OverlayEdgeData.join) (point_of value c.args.edge.a) (point_of value c.args.edge.b) (k, c.args.edge.datum)) c.count_of_type.ensures)

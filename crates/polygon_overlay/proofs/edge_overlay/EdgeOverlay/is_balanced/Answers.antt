@@ -5,7 +5,7 @@ use Rattle.polygon_overlay.proofs.edge_overlay.EdgeOverlay.is_balanced.Goals as 
 
 pub invariant_of-self : goal.invariant_of-self
 invariant_of-self g c =
-    let value = g.I.OverlayInt.value in
+    let value = g.I.IntNumber.value in
     let old = c.args.self.now in
     record {
       sound = old.sound;
@@ -15,7 +15,7 @@ invariant_of-self g c =
 
 pub returns-clause-is : goal.returns-clause-is
 returns-clause-is g c =
-    let value = g.I.OverlayInt.value in
+    let value = g.I.IntNumber.value in
     let old = c.args.self.now in
     let tells = level_tells (leavings_of value c.is_level.new.self.ends.items) old.held.edges
     (tally_in_any_order (leavings_of value old.tally.ends.items) (leavings_of value c.is_level.new.self.ends.items) old.held.edges

@@ -9,7 +9,7 @@ use Rattle.polygon_overlay.proofs.edge_overlay.EdgeOverlay.new.Goals as goal
 
 pub invariant_of-result : goal.invariant_of-result
 invariant_of-result g c =
-    let value = g.I.OverlayInt.value in
+    let value = g.I.IntNumber.value in
     let held = nothing_held g.I.OverlayInt.least g.I.OverlayInt.greatest in
     let none = sym (ap (λ h. h.edges) c.in_ok-held.ensures.empty) in
     record {

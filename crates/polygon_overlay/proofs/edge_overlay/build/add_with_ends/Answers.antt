@@ -14,7 +14,7 @@ use Rattle.polygon_overlay.proofs.edge_overlay.build.add_with_ends.Goals as goal
 
 pub returns-in_err-reserve-clause-tallied : goal.returns-in_err-reserve-clause-tallied
 returns-in_err-reserve-clause-tallied g c tally =
-    subst (λ ends. IsTallyOf (leavings_of g.I.OverlayInt.value ends) c.args.held.now.edges) (sym c.reserve.ensures.same) tally
+    subst (λ ends. IsTallyOf (leavings_of g.I.IntNumber.value ends) c.args.held.now.edges) (sym c.reserve.ensures.same) tally
 
 pub returns-in_err-reserve-clause-ends_room : goal.returns-in_err-reserve-clause-ends_room
 returns-in_err-reserve-clause-ends_room g c =
@@ -28,8 +28,8 @@ returns-in_err-reserve-clause-refused g c =
     let n = length c.args.held.now.edges in
     let new = c.reserve.new.self in
     let why = c.in_err-reserve.ensures.refused in
-    let a = point_of g.I.OverlayInt.value c.args.edge.a in
-    let b = point_of g.I.OverlayInt.value c.args.edge.b in
+    let a = point_of g.I.IntNumber.value c.args.edge.a in
+    let b = point_of g.I.IntNumber.value c.args.edge.b in
     let more = length (lay boolean a b c.args.count) in
     let one : 1 ≡ more = sym (lay_one boolean a b c.args.count c.requires.apart) in
     let lacks = subst (λ m. n + (spare_of new / 2) < n + m) one
@@ -41,7 +41,7 @@ returns-in_err-reserve-clause-refused g c =
 
 pub returns-in_err-add_edge-clause-tallied : goal.returns-in_err-add_edge-clause-tallied
 returns-in_err-add_edge-clause-tallied g c tally =
-    let value = g.I.OverlayInt.value in
+    let value = g.I.IntNumber.value in
     subst (λ h. IsTallyOf (leavings_of value c.reserve.new.self.ends.items) h.edges) (sym c.in_err-add_edge.ensures.takes.unchanged)
     (subst (λ ends. IsTallyOf (leavings_of value ends) c.args.held.now.edges) (sym c.reserve.ensures.same) tally)
 
@@ -55,7 +55,7 @@ pub returns-in_err-add_edge-clause-refused : goal.returns-in_err-add_edge-clause
 returns-in_err-add_edge-clause-refused g c =
     let p = err_from_is_err_and c.from_residual-in_err-add_edge.result c.from_residual-in_err-add_edge.ensures.1 in
     let n = length c.args.held.now.edges in
-    let more = length (lay boolean (point_of g.I.OverlayInt.value c.args.edge.a) (point_of g.I.OverlayInt.value c.args.edge.b) c.args.count) in
+    let more = length (lay boolean (point_of g.I.IntNumber.value c.args.edge.a) (point_of g.I.IntNumber.value c.args.edge.b) c.args.count) in
     let takes = c.in_err-add_edge.ensures.takes in
     let why = subst (λ b. IsRefusedBy b (LacksRoom c.args.held.now.room n more) c.in_err-add_edge.field-0.0) c.requires.ready takes.refused in
     rw p.1 (inl (subst (LacksRoom c.add_edge.new.self.room n more) (sym p.2) (subst (λ h. LacksRoom h.room n more c.in_err-add_edge.field-0.0) (sym takes.unchanged) why)))
@@ -64,7 +64,7 @@ returns-in_err-add_edge-clause-refused g c =
 
 pub returns-clause-tallied : goal.returns-clause-tallied
 returns-clause-tallied g c tally =
-    let value = g.I.OverlayInt.value in
+    let value = g.I.IntNumber.value in
     let a = point_of value c.args.edge.a in
     let b = point_of value c.args.edge.b in
     let es = c.args.held.now.edges in
@@ -75,7 +75,7 @@ returns-clause-tallied g c tally =
 
 pub returns-clause-ends_room : goal.returns-clause-ends_room
 returns-clause-ends_room g c =
-    let value = g.I.OverlayInt.value in
+    let value = g.I.IntNumber.value in
     let a = point_of value c.args.edge.a in
     let b = point_of value c.args.edge.b in
     let old = c.args.held.now.edges in

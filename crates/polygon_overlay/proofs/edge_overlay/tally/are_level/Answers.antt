@@ -32,7 +32,7 @@ not_is true e = absurd (false≢true (sym e))
 
 pub returns-then-not-are_none : goal.returns-then-not-are_none
 returns-then-not-are_none g c =
-    let value = g.I.OverlayInt.value in
+    let value = g.I.IntNumber.value in
     let es = c.args.ends.now in
     let f = leaving_of value in
     let k = c.loop-place.place in
@@ -52,7 +52,7 @@ returns-then-not-are_none g c =
 
 pub loop-place-preserved : goal.loop-place-preserved
 loop-place-preserved g c =
-    let value = g.I.OverlayInt.value in
+    let value = g.I.IntNumber.value in
     let es = c.args.ends.now in
     let f = leaving_of value in
     let k = c.loop-place.place in
@@ -93,7 +93,7 @@ loop-place-preserved g c =
 
 pub returns : goal.returns
 returns g c =
-    let value = g.I.OverlayInt.value in
+    let value = g.I.IntNumber.value in
     let es = c.args.ends.now in
     let kept = c.loop-place.invariant in
     let all : take c.loop-place.place es ≡ es = take_all c.loop-place.place es c.loop-place-test.false in

@@ -17,7 +17,7 @@ not_equal Greater = refl
 
 pub returns-else-place-eq0 : goal.returns-else-place-eq0
 returns-else-place-eq0 g c end here =
-    let value = g.I.OverlayInt.value in
+    let value = g.I.IntNumber.value in
     let es = c.args.ends.now in
     let before = c.index-ends-place.result in
     let v = point_of value end.point in

@@ -16,12 +16,12 @@ use Rattle.polygon_overlay.proofs.overlay.Overlay.contour_simplified.Goals as go
 pub returns-in_err-is_perfect : goal.returns-in_err-is_perfect
 returns-in_err-is_perfect g c =
     let p = err_from_is_err_and c.from_residual.result c.from_residual.ensures.1 in
-    refused_before (points_of g.I.OverlayInt.value c.args.contour.now ∷ []) c.args.self.now c.is_perfect.new.self c.from_residual.result p.0 _ p.1 p.2
+    refused_before (points_of g.I.IntNumber.value c.args.contour.now ∷ []) c.args.self.now c.is_perfect.new.self c.from_residual.result p.0 _ p.1 p.2
     c.in_err-is_perfect.ensures.held
 
 pub returns-then-branch : goal.returns-then-branch
 returns-then-branch g c =
-    let value = g.I.OverlayInt.value in
+    let value = g.I.IntNumber.value in
     let points = points_of value c.args.contour.now in
     let was = c.in_ok-is_perfect.ensures in
     aside (points ∷ []) c.args.self.now {P = λ held done. IsHeld g.I.OverlayInt.least g.I.OverlayInt.greatest held} c.is_perfect.new.self _ c.fast_answer.result was.held c.fast_answer.ensures.memory
@@ -34,7 +34,7 @@ returns-then-branch g c =
 pub returns-in_err-overlay_of_redrawn : goal.returns-in_err-overlay_of_redrawn
 returns-in_err-overlay_of_redrawn g c =
     let p = err_from_is_err_and c.from_residual-in_err-overlay_of_redrawn.result c.from_residual-in_err-overlay_of_redrawn.ensures.1 in
-    let contours = points_of g.I.OverlayInt.value c.args.contour.now ∷ [] in
+    let contours = points_of g.I.IntNumber.value c.args.contour.now ∷ [] in
     let was = c.in_ok-is_perfect.ensures.held in
     let after = c.in_err-overlay_of_redrawn.ensures in
     found_refused contours c.args.self.now c.overlay_of_redrawn.new.self c.from_residual-in_err-overlay_of_redrawn.result p.0 _ p.1 p.2
@@ -43,7 +43,7 @@ returns-in_err-overlay_of_redrawn g c =
 
 pub returns : goal.returns
 returns g c =
-    let value = g.I.OverlayInt.value in
+    let value = g.I.IntNumber.value in
     let points = points_of value c.args.contour.now in
     let was = c.in_ok-is_perfect.ensures in
     let after = c.in_ok-overlay_of_redrawn.ensures in

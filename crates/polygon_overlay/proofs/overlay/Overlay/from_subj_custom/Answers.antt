@@ -14,7 +14,7 @@ returns-in_err-overlay g c =
 pub returns-in_err-add_source : goal.returns-in_err-add_source
 returns-in_err-add_source g c =
     let p = err_from_is_err_and c.from_residual-in_err-add_source.result c.from_residual-in_err-add_source.ensures.1 in
-    let subjects = map (points_of g.I.OverlayInt.value) (g.R.IntShapeResource.paths c.args.subj.now) in
+    let subjects = (g.R.IntShapeResource.paths c.args.subj.now) in
     let keep_all = c.args.options.preserve_input_collinear in
     let new = c.in_ok-overlay.ensures.made in
     let keep = ap (λ o. o.preserve_input_collinear) new.options in
@@ -26,7 +26,7 @@ returns-in_err-add_source g c =
 
 pub returns : goal.returns
 returns g c =
-    let subjects = map (points_of g.I.OverlayInt.value) (g.R.IntShapeResource.paths c.args.subj.now) in
+    let subjects = (g.R.IntShapeResource.paths c.args.subj.now) in
     let new = c.in_ok-overlay.ensures.made in
     let added = c.in_ok-add_source.ensures in
     record {

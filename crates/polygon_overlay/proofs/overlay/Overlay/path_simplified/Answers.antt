@@ -12,12 +12,12 @@ use Rattle.polygon_overlay.proofs.overlay.Overlay.path_simplified.Goals as goal
 pub returns-in_err-shapes : goal.returns-in_err-shapes
 returns-in_err-shapes g c =
     let p = err_from_is_err_and c.from_residual.result c.from_residual.ensures.1 in
-    refused_before (points_of g.I.OverlayInt.value c.args.contour.now ∷ []) c.args.self.now c.contour_simplified.new.self c.from_residual.result p.0 _ p.1 p.2
+    refused_before (points_of g.I.IntNumber.value c.args.contour.now ∷ []) c.args.self.now c.contour_simplified.new.self c.from_residual.result p.0 _ p.1 p.2
     c.in_err-shapes.ensures
 
 pub returns-in-Some : goal.returns-in-Some
 returns-in-Some g c =
-    let value = g.I.OverlayInt.value in
+    let value = g.I.IntNumber.value in
     let points = points_of value c.args.contour.now in
     let options = c.args.self.now.options in
     let fill = fill_rule_of c.args.fill_rule in
@@ -28,7 +28,7 @@ returns-in-Some g c =
 
 pub returns-in-None : goal.returns-in-None
 returns-in-None g c =
-    let value = g.I.OverlayInt.value in
+    let value = g.I.IntNumber.value in
     let points = points_of value c.args.contour.now in
     let options = c.args.self.now.options in
     let fill = fill_rule_of c.args.fill_rule in

@@ -10,8 +10,8 @@ use Rattle.polygon_overlay.proofs.overlay.Overlay.reinit_with_subj_and_clip.Goal
 pub returns-in_err-add_source : goal.returns-in_err-add_source
 returns-in_err-add_source g c =
     let p = err_from_is_err_and c.from_residual.result c.from_residual.ensures.1 in
-    let subjects = map (points_of g.I.OverlayInt.value) (g.S.IntShapeResource.paths c.args.subj.now) in
-    let clips = map (points_of g.I.OverlayInt.value) (g.C.IntShapeResource.paths c.args.clip.now) in
+    let subjects = (g.S.IntShapeResource.paths c.args.subj.now) in
+    let clips = (g.C.IntShapeResource.paths c.args.clip.now) in
     let keep_all = c.args.self.now.options.preserve_input_collinear in
     let empty = c.clear.ensures in
     let first = c.in_err-add_source.ensures in
@@ -30,8 +30,8 @@ returns-in_err-add_source g c =
 
 pub returns : goal.returns
 returns g c =
-    let subjects = map (points_of g.I.OverlayInt.value) (g.S.IntShapeResource.paths c.args.subj.now) in
-    let clips = map (points_of g.I.OverlayInt.value) (g.C.IntShapeResource.paths c.args.clip.now) in
+    let subjects = (g.S.IntShapeResource.paths c.args.subj.now) in
+    let clips = (g.C.IntShapeResource.paths c.args.clip.now) in
     let keep_all = c.args.self.now.options.preserve_input_collinear in
     let empty = c.clear.ensures in
     let first = c.in_ok-add_source.ensures in

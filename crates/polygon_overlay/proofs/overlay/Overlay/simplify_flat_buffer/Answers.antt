@@ -12,11 +12,11 @@ use Rattle.polygon_overlay.proofs.overlay.Overlay.simplify_flat_buffer.Goals as 
 pub flat_buffer_simplified-requires-clause-in_range : goal.flat_buffer_simplified-requires-clause-in_range
 flat_buffer_simplified-requires-clause-in_range g c =
     let buffer = c.args.buffer.now in
-    subst (All (All (IsWithin g.I.OverlayInt.least g.I.OverlayInt.greatest))) (parts_mapped (point_of g.I.OverlayInt.value) buffer.points.items buffer.ranges.items) c.requires.in_range
+    subst (All (All (IsWithin g.I.OverlayInt.least g.I.OverlayInt.greatest))) (parts_mapped (point_of g.I.IntNumber.value) buffer.points.items buffer.ranges.items) c.requires.in_range
 
 pub returns-in-Ok : goal.returns-in-Ok
 returns-in-Ok g c =
-    let value = g.I.OverlayInt.value in
+    let value = g.I.IntNumber.value in
     let buffer = c.args.buffer.now in
     let old = c.args.self.now in
     let h = c.in-Ok.ensures in record {
@@ -29,7 +29,7 @@ returns-in-Ok g c =
 
 pub returns-in-Err-clause-simplified : goal.returns-in-Err-clause-simplified
 returns-in-Err-clause-simplified g c =
-    let value = g.I.OverlayInt.value in
+    let value = g.I.IntNumber.value in
     let buffer = c.args.buffer.now in
     let old = c.args.self.now in
     let s = c.in-Err.ensures.simplified in

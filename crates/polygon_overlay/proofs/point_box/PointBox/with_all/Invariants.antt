@@ -9,5 +9,5 @@ use Rattle.polygon_overlay.proofs.point_box.PointBox.with_all.Given as goal
 -- The box has all that it had, and the points before this one.
 abbrev pub invariant-loop-point : goal.invariant-loop-point
 invariant-loop-point g l =
-    ((p : Point) → LiesWithin (bounds_of g.I.OverlayInt.value l.fn.self) p → LiesWithin (bounds_of g.I.OverlayInt.value l.wider) p)
-    × All (LiesWithin (bounds_of g.I.OverlayInt.value l.wider)) (points_of g.I.OverlayInt.value (take l.point-index l.points))
+    ((p : Point) → LiesWithin (bounds_of g.I.IntNumber.value l.fn.self) p → LiesWithin (bounds_of g.I.IntNumber.value l.wider) p)
+    × All (LiesWithin (bounds_of g.I.IntNumber.value l.wider)) (points_of g.I.IntNumber.value (take l.point-index l.points))

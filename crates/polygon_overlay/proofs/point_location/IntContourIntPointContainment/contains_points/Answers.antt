@@ -12,11 +12,11 @@ use Rattle.polygon_overlay.proofs.point_location.IntContourIntPointContainment.c
 pub contour_located-requires-clause-in_range : goal.contour_located-requires-clause-in_range
 contour_located-requires-clause-in_range g c =
     let within = All (IsWithin g.I.OverlayInt.least g.I.OverlayInt.greatest) in
-    subst (λ ps. within (points_of g.I.OverlayInt.value ps)) (sym c.deref.ensures.value) (All-head within (points_of g.I.OverlayInt.value c.args.self.now.points.items) [] c.requires.in_range)
+    subst (λ ps. within (points_of g.I.IntNumber.value ps)) (sym c.deref.ensures.value) (All-head within (points_of g.I.IntNumber.value c.args.self.now.points.items) [] c.requires.in_range)
 
 pub returns-clause-located : goal.returns-clause-located
 returns-clause-located g c =
-    let value = g.I.OverlayInt.value in
+    let value = g.I.IntNumber.value in
     let points = points_of value c.args.points.now in
     let contour = points_of value c.args.self.now.points.items in
     let located : IfOk c.contour_located.result (λ found. found.items ≡ map (λ (p : Point). in_contour contour (whole p)) points) =

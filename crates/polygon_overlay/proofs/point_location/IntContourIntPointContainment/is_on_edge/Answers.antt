@@ -9,8 +9,8 @@ use Rattle.polygon_overlay.proofs.point_location.IntContourIntPointContainment.i
 pub is_on_contour-requires-clause-in_range : goal.is_on_contour-requires-clause-in_range
 is_on_contour-requires-clause-in_range g c =
     let within = All (IsWithin g.I.OverlayInt.least g.I.OverlayInt.greatest) in
-    subst (λ ps. within (points_of g.I.OverlayInt.value ps)) (sym c.deref.ensures.value) (All-head within (points_of g.I.OverlayInt.value c.args.self.now.points.items) [] c.requires.in_range)
+    subst (λ ps. within (points_of g.I.IntNumber.value ps)) (sym c.deref.ensures.value) (All-head within (points_of g.I.IntNumber.value c.args.self.now.points.items) [] c.requires.in_range)
 
 pub returns : goal.returns
 returns g c =
-    c.is_on_contour.ensures ∙ ap (λ ps. is_on_edge (points_of g.I.OverlayInt.value ps ∷ []) (whole (point_of g.I.OverlayInt.value c.args.point))) c.deref.ensures.value
+    c.is_on_contour.ensures ∙ ap (λ ps. is_on_edge (points_of g.I.IntNumber.value ps ∷ []) (whole (point_of g.I.IntNumber.value c.args.point))) c.deref.ensures.value

@@ -8,10 +8,10 @@ use Rattle.polygon_overlay.proofs.point_location.IntContourIntPointContainment.i
 pub is_contour_resolved-requires : goal.is_contour_resolved-requires
 is_contour_resolved-requires g c =
     let within = All (IsWithin g.I.OverlayInt.least g.I.OverlayInt.greatest) in
-    subst (λ ps. within (points_of g.I.OverlayInt.value ps)) (sym c.deref.ensures.value) (All-head within (points_of g.I.OverlayInt.value c.args.self.now.points.items) [] c.requires)
+    subst (λ ps. within (points_of g.I.IntNumber.value ps)) (sym c.deref.ensures.value) (All-head within (points_of g.I.IntNumber.value c.args.self.now.points.items) [] c.requires)
 
 pub returns : goal.returns
 returns g c =
-    let points = points_of g.I.OverlayInt.value c.args.self.now.points.items in
+    let points = points_of g.I.IntNumber.value c.args.self.now.points.items in
     let own = rw c.deref.ensures.value at c.is_contour_resolved.ensures in
     (λ h. All-cons IsResolved points [] (own.0 h) (All-nil IsResolved), λ all. own.1 (All-head IsResolved points [] all))

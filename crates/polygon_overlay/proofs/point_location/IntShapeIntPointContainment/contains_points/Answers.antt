@@ -11,11 +11,11 @@ use Rattle.polygon_overlay.proofs.point_location.IntShapeIntPointContainment.con
 
 pub shape_located-requires-clause-in_range : goal.shape_located-requires-clause-in_range
 shape_located-requires-clause-in_range g c =
-    subst (λ cs. All (All (IsWithin g.I.OverlayInt.least g.I.OverlayInt.greatest)) (contours_of g.I.OverlayInt.value cs)) (sym c.deref.ensures.value) c.requires.in_range
+    subst (λ cs. All (All (IsWithin g.I.OverlayInt.least g.I.OverlayInt.greatest)) (contours_of g.I.IntNumber.value cs)) (sym c.deref.ensures.value) c.requires.in_range
 
 pub returns-clause-located : goal.returns-clause-located
 returns-clause-located g c =
-    let value = g.I.OverlayInt.value in
+    let value = g.I.IntNumber.value in
     let points = points_of value c.args.points.now in
     let contours = contours_of value c.args.self.now.contours.items in
     let located : IfOk c.shape_located.result (λ found. found.items ≡ map (λ (p : Point). in_shape contours (whole p)) points) =

@@ -12,13 +12,13 @@ use Rattle.polygon_overlay.proofs.point_location.IntShapesIntPointContainment.co
 
 pub shapes_located-requires-clause-in_range : goal.shapes_located-requires-clause-in_range
 shapes_located-requires-clause-in_range g c =
-    let value = g.I.OverlayInt.value in
+    let value = g.I.IntNumber.value in
     let within = All (IsWithin g.I.OverlayInt.least g.I.OverlayInt.greatest) in
     subst (λ ss. All (All within) (shapes_of value ss)) (sym c.deref.ensures.value) (all_in_shapes within (shapes_of value c.args.self.now.shapes.items) c.requires.in_range)
 
 pub returns-clause-located : goal.returns-clause-located
 returns-clause-located g c =
-    let value = g.I.OverlayInt.value in
+    let value = g.I.IntNumber.value in
     let points = points_of value c.args.points.now in
     let shapes = shapes_of value c.args.self.now.shapes.items in
     let located : IfOk c.shapes_located.result (λ found. found.items ≡ map (λ (p : Point). in_shapes shapes (whole p)) points) =

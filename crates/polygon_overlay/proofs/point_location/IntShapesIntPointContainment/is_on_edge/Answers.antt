@@ -9,9 +9,9 @@ use Rattle.polygon_overlay.proofs.point_location.IntShapesIntPointContainment.is
 
 pub is_on_shapes-requires-clause-in_range : goal.is_on_shapes-requires-clause-in_range
 is_on_shapes-requires-clause-in_range g c =
-    subst (λ ss. All (All (IsWithin g.I.OverlayInt.least g.I.OverlayInt.greatest)) (all_contours (shapes_of g.I.OverlayInt.value ss))) (sym c.deref.ensures.value) c.requires.in_range
+    subst (λ ss. All (All (IsWithin g.I.OverlayInt.least g.I.OverlayInt.greatest)) (all_contours (shapes_of g.I.IntNumber.value ss))) (sym c.deref.ensures.value) c.requires.in_range
 
 pub returns : goal.returns
 returns g c =
     c.is_on_shapes.ensures
-    ∙ ap (λ ss. is_on_edge (all_contours (shapes_of g.I.OverlayInt.value ss)) (whole (point_of g.I.OverlayInt.value c.args.point))) c.deref.ensures.value
+    ∙ ap (λ ss. is_on_edge (all_contours (shapes_of g.I.IntNumber.value ss)) (whole (point_of g.I.IntNumber.value c.args.point))) c.deref.ensures.value

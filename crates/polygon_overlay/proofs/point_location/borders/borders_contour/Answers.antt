@@ -7,7 +7,7 @@ use Rattle.polygon_overlay.proofs.point_location.borders.borders_contour.Goals a
 
 pub returns-then-is_outside : goal.returns-then-is_outside
 returns-then-is_outside g c =
-    let value = g.I.OverlayInt.value in
+    let value = g.I.IntNumber.value in
     let contour = points_of value c.args.points.now in
     let p = point_of value c.args.point in
     sym (on_contour contour p false
@@ -15,5 +15,5 @@ returns-then-is_outside g c =
 
 pub on_stretches-requires-clause-stretches : goal.on_stretches-requires-clause-stretches
 on_stretches-requires-clause-stretches g c =
-    subst (AreStretches g.I.OverlayInt.value (edge_ends (points_of g.I.OverlayInt.value c.args.points.now))) (sym c.deref.ensures.value)
+    subst (AreStretches g.I.IntNumber.value (edge_ends (points_of g.I.IntNumber.value c.args.points.now))) (sym c.deref.ensures.value)
     c.requires.outlined.stretches

@@ -14,21 +14,21 @@ use Rattle.polygon_overlay.proofs.point_location.borders.borders_shape.Goals as 
 
 pub bounds-outlines-place : goal.bounds-outlines-place
 bounds-outlines-place g c =
-    let value = g.I.OverlayInt.value in
+    let value = g.I.IntNumber.value in
     let same = zip_length (IsOutlined value) (contours_of value c.args.contours.now) c.args.outlines.now c.requires.outlined in
     let long = length-map c.args.contours.now (λ (contour : IntPath g.row.I.Denot). points_of value contour.points.items) in
     omega (arith, same, long, c.loop-place-test.true)
 
 pub offset_bounds-outlines-place : goal.offset_bounds-outlines-place
 offset_bounds-outlines-place g c =
-    let value = g.I.OverlayInt.value in
+    let value = g.I.IntNumber.value in
     let same = zip_length (IsOutlined value) (contours_of value c.args.contours.now) c.args.outlines.now c.requires.outlined in
     let long = length-map c.args.contours.now (λ (contour : IntPath g.row.I.Denot). points_of value contour.points.items) in
     omega (arith, same, long, c.loop-place-test.true)
 
 pub borders_contour-requires-clause-in_range : goal.borders_contour-requires-clause-in_range
 borders_contour-requires-clause-in_range g c =
-    let value = g.I.OverlayInt.value in
+    let value = g.I.IntNumber.value in
     let within = All (IsWithin g.I.OverlayInt.least g.I.OverlayInt.greatest) in
     subst (λ ps. within (points_of value ps)) (sym (c.deref.ensures.value ∙ ap (λ (k : IntPath g.row.I.Denot). k.points.items) (sym c.index-contours-place.is)))
     (All-mapped within (λ (contour : IntPath g.row.I.Denot). points_of value contour.points.items) c.args.contours.now c.loop-place.place
@@ -36,14 +36,14 @@ borders_contour-requires-clause-in_range g c =
 
 pub borders_contour-requires-clause-outlined : goal.borders_contour-requires-clause-outlined
 borders_contour-requires-clause-outlined g c =
-    let value = g.I.OverlayInt.value in
+    let value = g.I.IntNumber.value in
     subst (λ ps. IsOutlined value (points_of value ps) c.index-outlines-place.result) (sym (c.deref.ensures.value ∙ ap (λ (k : IntPath g.row.I.Denot). k.points.items) (sym c.index-contours-place.is)))
     (contour_outlined value c.args.contours.now c.args.outlines.now c.loop-place.place c.index-contours-place.result c.index-outlines-place.result
     c.loop-place-test.true c.index-contours-place.is c.index-outlines-place.is c.requires.outlined)
 
 pub returns-then-borders_contour : goal.returns-then-borders_contour
 returns-then-borders_contour g c =
-    let value = g.I.OverlayInt.value in
+    let value = g.I.IntNumber.value in
     let p = whole (point_of value c.args.point) in
     let test = λ (k : IntPath g.row.I.Denot). is_on_edge (points_of value k.points.items ∷ []) p in
     one_found test c.args.contours.now c.loop-place.place c.index-contours-place.result c.loop-place-test.true c.index-contours-place.is c.borders_contour.result
@@ -52,7 +52,7 @@ returns-then-borders_contour g c =
 
 pub loop-place-preserved : goal.loop-place-preserved
 loop-place-preserved g c =
-    let value = g.I.OverlayInt.value in
+    let value = g.I.IntNumber.value in
     let p = whole (point_of value c.args.point) in
     none_more (λ (k : IntPath g.row.I.Denot). is_on_edge (points_of value k.points.items ∷ []) p) c.args.contours.now c.loop-place.place c.index-contours-place.result
     c.loop-place-test.true c.index-contours-place.is c.borders_contour.result
@@ -60,7 +60,7 @@ loop-place-preserved g c =
 
 pub returns : goal.returns
 returns g c =
-    let value = g.I.OverlayInt.value in
+    let value = g.I.IntNumber.value in
     let p = whole (point_of value c.args.point) in
     none_at_all (λ (k : IntPath g.row.I.Denot). is_on_edge (points_of value k.points.items ∷ []) p) c.args.contours.now c.loop-place.place
     (omega (arith, c.loop-place-test.false)) c.loop-place.invariant

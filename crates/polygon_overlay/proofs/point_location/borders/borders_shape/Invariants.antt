@@ -8,5 +8,5 @@ use Rattle.polygon_overlay.proofs.point_location.borders.borders_shape.Given as 
 -- The point lies on no edge of the contours before this one.
 abbrev pub invariant-loop-place : goal.invariant-loop-place
 invariant-loop-place g l =
-    let value = g.I.OverlayInt.value in
+    let value = g.I.IntNumber.value in
     list_any (λ c. is_on_edge (points_of value c.points.items ∷ []) (whole (point_of value l.point))) (take l.place l.contours) ≡ false

@@ -14,7 +14,7 @@ returns-then-is_outside-clause-found g c = λ e. absurd (false≢true e)
 
 pub returns-then-is_outside-clause-looked : goal.returns-then-is_outside-clause-looked
 returns-then-is_outside-clause-looked g c =
-    let value = g.I.OverlayInt.value in
+    let value = g.I.IntNumber.value in
     let field = c.args.field in
     inr (
       refl,

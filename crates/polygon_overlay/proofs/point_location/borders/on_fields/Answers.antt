@@ -18,10 +18,10 @@ use Rattle.polygon_overlay.proofs.point_location.borders.on_fields.Goals as goal
 
 -- the field that is looked at
 own : (g : Over) (c : After-index-fields-left g)
-    → IsStretch g.I.OverlayInt.value (points_by (shapes_of g.I.OverlayInt.value c.args.shapes.now) c.args.order.now) c.args.fields.now (c.loop-left.left - 1)
+    → IsStretch g.I.IntNumber.value (points_by (shapes_of g.I.IntNumber.value c.args.shapes.now) c.args.order.now) c.args.fields.now (c.loop-left.left - 1)
     c.index-fields-left.result
 own g c =
-    own_stretch g.I.OverlayInt.value (points_by (shapes_of g.I.OverlayInt.value c.args.shapes.now) c.args.order.now) c.args.fields.now c.requires.fields
+    own_stretch g.I.IntNumber.value (points_by (shapes_of g.I.IntNumber.value c.args.shapes.now) c.args.order.now) c.args.fields.now c.requires.fields
     (c.loop-left.left - 1) c.index-fields-left.result (omega (arith, c.loop-left.invariant.0, c.loop-left-test.true)) c.index-fields-left.is
 
 pub returns-then-some_borders : goal.returns-then-some_borders
@@ -29,7 +29,7 @@ returns-then-some_borders g c = sym (c.some_borders.ensures.found c.if-some_bord
 
 pub loop-left-init : goal.loop-left-init
 loop-left-init g c =
-    let value = g.I.OverlayInt.value in (
+    let value = g.I.IntNumber.value in (
       omega arith,
       subst (λ n. NoneBorders (shapes_of value c.args.shapes.now) c.args.order.now (whole (point_of value c.args.point)) n (length c.args.order.now)) c.end_of.ensures
           (c.some_borders.ensures.none c.if-some_borders.false),
@@ -37,7 +37,7 @@ loop-left-init g c =
 
 pub look_at_field-look-requires-clause-within : goal.look_at_field-look-requires-clause-within
 look_at_field-look-requires-clause-within g c =
-    let shapes = shapes_of g.I.OverlayInt.value c.args.shapes.now in
+    let shapes = shapes_of g.I.IntNumber.value c.args.shapes.now in
     let within = (own g (goal.at.look_at_field-look-requires-clause-within g c).After-index-fields-left).within in
     let long = length-map c.args.order.now (λ (s : Placed). flat_map (λ c. c) (slice_index_or shapes s.number [])) in
     omega (arith, within, long)
@@ -56,7 +56,7 @@ loop-left-smaller g c = omega (arith, c.look_at_field-look.ensures.fewer, c.loop
 
 pub loop-left-preserved : goal.loop-left-preserved
 loop-left-preserved g c =
-    let value = g.I.OverlayInt.value in
+    let value = g.I.IntNumber.value in
     let p = whole (point_of value c.args.point) in
     let shapes = shapes_of value c.args.shapes.now in
     let order = c.args.order.now in
@@ -79,7 +79,7 @@ loop-left-preserved g c =
 
 pub returns : goal.returns
 returns g c =
-    let value = g.I.OverlayInt.value in
+    let value = g.I.IntNumber.value in
     let p = whole (point_of value c.args.point) in
     let shapes = shapes_of value c.args.shapes.now in
     let none : c.loop-left.left ≡ zero = omega (arith, c.loop-left-test.false) in

@@ -15,10 +15,10 @@ use Rattle.polygon_overlay.proofs.point_location.borders.on_stretches.Goals as g
 
 -- the stretch that is looked at
 own : (g : Over) (c : After-index-stretches-left g)
-    → IsStretch g.I.OverlayInt.value (edge_ends (points_of g.I.OverlayInt.value c.args.points.now)) c.args.stretches.now (c.loop-left.left - 1)
+    → IsStretch g.I.IntNumber.value (edge_ends (points_of g.I.IntNumber.value c.args.points.now)) c.args.stretches.now (c.loop-left.left - 1)
     c.index-stretches-left.result
 own g c =
-    own_stretch g.I.OverlayInt.value (edge_ends (points_of g.I.OverlayInt.value c.args.points.now)) c.args.stretches.now c.requires.stretches
+    own_stretch g.I.IntNumber.value (edge_ends (points_of g.I.IntNumber.value c.args.points.now)) c.args.stretches.now c.requires.stretches
     (c.loop-left.left - 1) c.index-stretches-left.result (omega (arith, c.loop-left.invariant.0, c.loop-left-test.true)) c.index-stretches-left.is
 
 pub some_edge_has-requires-clause-within : goal.some_edge_has-requires-clause-within
@@ -29,7 +29,7 @@ returns-then-some_edge_has g c = sym (c.some_edge_has.ensures.found c.if-some_ed
 
 pub loop-left-init : goal.loop-left-init
 loop-left-init g c =
-    let value = g.I.OverlayInt.value in
+    let value = g.I.IntNumber.value in
     let p = whole (point_of value c.args.point) in (
       omega arith,
       subst (λ n. NoneBetween (λ (s : Edge). lies_on s p) (contour_edges (points_of value c.args.points.now)) n (length c.args.points.now)) c.end_of.ensures
@@ -38,7 +38,7 @@ loop-left-init g c =
 
 pub look_at_stretch-look-requires-clause-within : goal.look_at_stretch-look-requires-clause-within
 look_at_stretch-look-requires-clause-within g c =
-    let value = g.I.OverlayInt.value in
+    let value = g.I.IntNumber.value in
     let points = points_of value c.args.points.now in
     let within = (own g (goal.at.look_at_stretch-look-requires-clause-within g c).After-index-stretches-left).within in
     let long : length (edge_ends points) ≡ length c.args.points.now =
@@ -59,7 +59,7 @@ loop-left-smaller g c = omega (arith, c.look_at_stretch-look.ensures.fewer, c.lo
 
 pub loop-left-preserved : goal.loop-left-preserved
 loop-left-preserved g c =
-    let value = g.I.OverlayInt.value in
+    let value = g.I.IntNumber.value in
     let contour = points_of value c.args.points.now in
     let p = whole (point_of value c.args.point) in
     let edges = contour_edges contour in
@@ -83,7 +83,7 @@ loop-left-preserved g c =
 
 pub returns : goal.returns
 returns g c =
-    let value = g.I.OverlayInt.value in
+    let value = g.I.IntNumber.value in
     let contour = points_of value c.args.points.now in
     let p = point_of value c.args.point in
     let edges = contour_edges contour in

@@ -10,7 +10,7 @@ use Rattle.polygon_overlay.proofs.point_location.borders.on_stretches.Given as g
 abbrev pub invariant-loop-left : goal.invariant-loop-left
 invariant-loop-left g l =
     (l.left ≤ length l.stretches)
-    × NoneBetween (λ s. lies_on s (whole (point_of g.I.OverlayInt.value l.point))) (contour_edges (points_of g.I.OverlayInt.value l.points)) (end_before l.stretches l.left)
+    × NoneBetween (λ s. lies_on s (whole (point_of g.I.IntNumber.value l.point))) (contour_edges (points_of g.I.IntNumber.value l.points)) (end_before l.stretches l.left)
     (length l.points)
 
 abbrev pub decreases-loop-left : goal.decreases-loop-left

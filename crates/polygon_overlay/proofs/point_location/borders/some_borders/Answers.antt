@@ -28,7 +28,7 @@ within_shapes g c =
 
 within_outlines : (g : Over) (c : After-number_at-number g) → c.number_at-number.result < length c.args.outlines.now
 within_outlines g c =
-    let value = g.I.OverlayInt.value in
+    let value = g.I.IntNumber.value in
     let same = zip_length (λ cs os. AllZip (IsOutlined value) cs os.items) (shapes_of value c.args.shapes.now) c.args.outlines.now c.requires.outlined in
     let long = length-map c.args.shapes.now (λ (s : IntShape g.row.I.Denot). contours_of value s.contours.items) in
     let here = within_shapes g c in
@@ -36,7 +36,7 @@ within_outlines g c =
 
 pub loop-place-init : goal.loop-place-init
 loop-place-init g c =
-    let value = g.I.OverlayInt.value in
+    let value = g.I.IntNumber.value in
     none_at_first (λ (s : Placed). is_on_edge (get_or (shapes_of value c.args.shapes.now) s.number []) (whole (point_of value c.args.point))) c.args.order.now c.args.first
 
 pub bounds-shapes-number : goal.bounds-shapes-number
@@ -57,7 +57,7 @@ offset_bounds-outlines-number g c =
 
 pub borders_shape-requires-clause-in_range : goal.borders_shape-requires-clause-in_range
 borders_shape-requires-clause-in_range g c =
-    let value = g.I.OverlayInt.value in
+    let value = g.I.IntNumber.value in
     let within = All (IsWithin g.I.OverlayInt.least g.I.OverlayInt.greatest) in
     subst (λ cs. All within (contours_of value cs)) (sym (c.deref.ensures.value ∙ ap (λ (s : IntShape g.row.I.Denot). s.contours.items) (sym c.index-shapes-number.is)))
     (All-mapped (All within) (λ (s : IntShape g.row.I.Denot). contours_of value s.contours.items) c.args.shapes.now c.number_at-number.result
@@ -66,7 +66,7 @@ borders_shape-requires-clause-in_range g c =
 
 pub borders_shape-requires-clause-outlined : goal.borders_shape-requires-clause-outlined
 borders_shape-requires-clause-outlined g c =
-    let value = g.I.OverlayInt.value in
+    let value = g.I.IntNumber.value in
     let after = (goal.at.borders_shape-requires-clause-outlined g c).After-number_at-number in
     let n = c.number_at-number.result in
     let shape = c.index-shapes-number.result in
@@ -78,7 +78,7 @@ borders_shape-requires-clause-outlined g c =
 
 pub returns-then-borders_shape-clause-found : goal.returns-then-borders_shape-clause-found
 returns-then-borders_shape-clause-found g c = λ _.
-    let value = g.I.OverlayInt.value in
+    let value = g.I.IntNumber.value in
     let p = whole (point_of value c.args.point) in
     let shapes = shapes_of value c.args.shapes.now in
     let n = c.number_at-number.result in
@@ -94,7 +94,7 @@ returns-then-borders_shape-clause-none g c = λ e. absurd (true≢false e)
 
 pub loop-place-preserved : goal.loop-place-preserved
 loop-place-preserved g c =
-    let value = g.I.OverlayInt.value in
+    let value = g.I.IntNumber.value in
     let p = whole (point_of value c.args.point) in
     let shapes = shapes_of value c.args.shapes.now in
     let i = c.loop-place.place in

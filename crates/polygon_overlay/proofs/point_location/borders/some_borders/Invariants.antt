@@ -7,4 +7,4 @@ use Rattle.polygon_overlay.proofs.point_location.borders.some_borders.Given as g
 -- None of the shapes before this place has the point on an edge.
 abbrev pub invariant-loop-place : goal.invariant-loop-place
 invariant-loop-place g l =
-    NoneBorders (shapes_of g.I.OverlayInt.value l.shapes) l.order (whole (point_of g.I.OverlayInt.value l.point)) l.fn.first l.place
+    NoneBorders (shapes_of g.I.IntNumber.value l.shapes) l.order (whole (point_of g.I.IntNumber.value l.point)) l.fn.first l.place

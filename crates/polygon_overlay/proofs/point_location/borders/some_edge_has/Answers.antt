@@ -13,7 +13,7 @@ use Rattle.polygon_overlay.proofs.point_location.borders.some_edge_has.Goals as 
 
 pub loop-place-init : goal.loop-place-init
 loop-place-init g c =
-    let value = g.I.OverlayInt.value in
+    let value = g.I.IntNumber.value in
     none_at_first (λ (s : Edge). lies_on s (whole (point_of value c.args.point))) (contour_edges (points_of value c.args.points.now)) c.args.first
 
 pub lies_on-requires-clause-in_range : goal.lies_on-requires-clause-in_range
@@ -21,7 +21,7 @@ lies_on-requires-clause-in_range g c = c.edge_at-edge.ensures.in_range c.require
 
 pub returns-then-lies_on-clause-found : goal.returns-then-lies_on-clause-found
 returns-then-lies_on-clause-found g c = λ _.
-    let value = g.I.OverlayInt.value in
+    let value = g.I.IntNumber.value in
     let contour = points_of value c.args.points.now in
     let s = edge_of value c.edge_at-edge.result in
     let inside : c.loop-place.place < length (contour_edges contour) =
@@ -33,7 +33,7 @@ returns-then-lies_on-clause-none g c = λ e. absurd (true≢false e)
 
 pub loop-place-preserved : goal.loop-place-preserved
 loop-place-preserved g c =
-    let value = g.I.OverlayInt.value in
+    let value = g.I.IntNumber.value in
     let contour = points_of value c.args.points.now in
     let s = edge_of value c.edge_at-edge.result in
     let inside : c.loop-place.place < length (contour_edges contour) =

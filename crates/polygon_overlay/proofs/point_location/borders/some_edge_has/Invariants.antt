@@ -8,4 +8,4 @@ use Rattle.polygon_overlay.proofs.point_location.borders.some_edge_has.Given as 
 -- The point lies on none of the edges before this place.
 abbrev pub invariant-loop-place : goal.invariant-loop-place
 invariant-loop-place g l =
-    NoneBetween (λ s. lies_on s (whole (point_of g.I.OverlayInt.value l.point))) (contour_edges (points_of g.I.OverlayInt.value l.points)) l.fn.first l.place
+    NoneBetween (λ s. lies_on s (whole (point_of g.I.IntNumber.value l.point))) (contour_edges (points_of g.I.IntNumber.value l.points)) l.fn.first l.place

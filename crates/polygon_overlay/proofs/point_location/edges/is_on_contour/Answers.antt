@@ -14,7 +14,7 @@ lies_on-requires-clause-in_range g c = c.edge_at.ensures.in_range c.requires.in_
 
 pub returns-then-lies_on : goal.returns-then-lies_on
 returns-then-lies_on g c =
-    let value = g.I.OverlayInt.value in
+    let value = g.I.IntNumber.value in
     let p = whole (point_of value c.args.point) in
     let edges = contour_edges (points_of value c.args.points.now) in
     let e = edge_of value c.edge_at.result in
@@ -24,7 +24,7 @@ returns-then-lies_on g c =
 
 pub loop-place-preserved : goal.loop-place-preserved
 loop-place-preserved g c =
-    let value = g.I.OverlayInt.value in
+    let value = g.I.IntNumber.value in
     let p = whole (point_of value c.args.point) in
     let edges = contour_edges (points_of value c.args.points.now) in
     let e = edge_of value c.edge_at.result in
@@ -34,7 +34,7 @@ loop-place-preserved g c =
 
 pub returns : goal.returns
 returns g c =
-    let value = g.I.OverlayInt.value in
+    let value = g.I.IntNumber.value in
     let p = whole (point_of value c.args.point) in
     let edges = contour_edges (points_of value c.args.points.now) in
     let long : length edges ≡ length c.args.points.now = length-contour_edges (points_of value c.args.points.now) ∙ length-map c.args.points.now (point_of value) in

@@ -9,5 +9,5 @@ use Rattle.polygon_overlay.proofs.point_location.edges.is_on_contour.Given as go
 -- The point lies on no edge before this one.
 abbrev pub invariant-loop-place : goal.invariant-loop-place
 invariant-loop-place g l =
-    let value = g.I.OverlayInt.value in
+    let value = g.I.IntNumber.value in
     list_any (λ s. lies_on s (whole (point_of value l.point))) (take l.place (contour_edges (points_of value l.points))) ≡ false

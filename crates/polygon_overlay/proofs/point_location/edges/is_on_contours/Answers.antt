@@ -12,13 +12,13 @@ use Rattle.polygon_overlay.proofs.point_location.edges.is_on_contours.Goals as g
 
 pub is_on_contour-requires-clause-in_range : goal.is_on_contour-requires-clause-in_range
 is_on_contour-requires-clause-in_range g c =
-    subst (λ ps. All (IsWithin g.I.OverlayInt.least g.I.OverlayInt.greatest) (points_of g.I.OverlayInt.value ps)) (sym c.deref.ensures.value)
-    (All-mapped (All (IsWithin g.I.OverlayInt.least g.I.OverlayInt.greatest)) (λ (contour : IntPath g.row.I.Denot). points_of g.I.OverlayInt.value contour.points.items)
+    subst (λ ps. All (IsWithin g.I.OverlayInt.least g.I.OverlayInt.greatest) (points_of g.I.IntNumber.value ps)) (sym c.deref.ensures.value)
+    (All-mapped (All (IsWithin g.I.OverlayInt.least g.I.OverlayInt.greatest)) (λ (contour : IntPath g.row.I.Denot). points_of g.I.IntNumber.value contour.points.items)
     c.args.contours.now c.loop-contour.contour-index c.contour-item.result c.loop-contour-test.true c.contour-item.is c.requires.in_range)
 
 pub returns-then-is_on_contour : goal.returns-then-is_on_contour
 returns-then-is_on_contour g c =
-    let value = g.I.OverlayInt.value in
+    let value = g.I.IntNumber.value in
     let p = whole (point_of value c.args.point) in
     let test = λ (k : IntPath g.row.I.Denot). is_on_edge (points_of value k.points.items ∷ []) p in
     one_found test c.args.contours.now c.loop-contour.contour-index c.contour-item.result c.loop-contour-test.true c.contour-item.is c.is_on_contour.result
@@ -27,7 +27,7 @@ returns-then-is_on_contour g c =
 
 pub loop-contour-preserved : goal.loop-contour-preserved
 loop-contour-preserved g c =
-    let value = g.I.OverlayInt.value in
+    let value = g.I.IntNumber.value in
     let p = whole (point_of value c.args.point) in
     none_more (λ (k : IntPath g.row.I.Denot). is_on_edge (points_of value k.points.items ∷ []) p) c.args.contours.now c.loop-contour.contour-index c.contour-item.result
     c.loop-contour-test.true c.contour-item.is c.is_on_contour.result (c.is_on_contour.ensures ∙ ap (λ ps. is_on_edge (points_of value ps ∷ []) p) c.deref.ensures.value)
@@ -35,7 +35,7 @@ loop-contour-preserved g c =
 
 pub returns : goal.returns
 returns g c =
-    let value = g.I.OverlayInt.value in
+    let value = g.I.IntNumber.value in
     let p = whole (point_of value c.args.point) in
     none_at_all (λ (k : IntPath g.row.I.Denot). is_on_edge (points_of value k.points.items ∷ []) p) c.args.contours.now c.loop-contour.contour-index c.loop-contour-test.false
     c.loop-contour.invariant

@@ -8,5 +8,5 @@ use Rattle.polygon_overlay.proofs.point_location.edges.is_on_contours.Given as g
 -- The point lies on no edge of the contours before this one.
 abbrev pub invariant-loop-contour : goal.invariant-loop-contour
 invariant-loop-contour g l =
-    let value = g.I.OverlayInt.value in
+    let value = g.I.IntNumber.value in
     list_any (λ c. is_on_edge (points_of value c.points.items ∷ []) (whole (point_of value l.point))) (take l.contour-index l.contours) ≡ false

@@ -9,5 +9,5 @@ use Rattle.polygon_overlay.proofs.point_location.edges.is_on_shapes.Given as goa
 -- The point lies on no edge of the shapes before this one.
 abbrev pub invariant-loop-shape : goal.invariant-loop-shape
 invariant-loop-shape g l =
-    let value = g.I.OverlayInt.value in
+    let value = g.I.IntNumber.value in
     list_any (λ s. is_on_edge (contours_of value s.contours.items) (whole (point_of value l.point))) (take l.shape-index l.shapes) ≡ false

@@ -16,15 +16,15 @@ use Rattle.polygon_overlay.proofs.point_location.outline.all_are_odd.Goals as go
 
 -- the stretch that is looked at
 own : (g : Over) (c : After-index-stretches-left g)
-    → IsStretch g.I.OverlayInt.value (edge_ends (points_of g.I.OverlayInt.value c.args.points.now)) c.args.stretches.now (c.loop-left.left - 1)
+    → IsStretch g.I.IntNumber.value (edge_ends (points_of g.I.IntNumber.value c.args.points.now)) c.args.stretches.now (c.loop-left.left - 1)
     c.index-stretches-left.result
 own g c =
-    own_stretch g.I.OverlayInt.value (edge_ends (points_of g.I.OverlayInt.value c.args.points.now)) c.args.stretches.now c.requires.stretches
+    own_stretch g.I.IntNumber.value (edge_ends (points_of g.I.IntNumber.value c.args.points.now)) c.args.stretches.now c.requires.stretches
     (c.loop-left.left - 1) c.index-stretches-left.result (omega (arith, c.loop-left.invariant.0, c.loop-left-test.true)) c.index-stretches-left.is
 
 pub edges_are_odd-is_odd-requires-clause-ordered : goal.edges_are_odd-is_odd-requires-clause-ordered
 edges_are_odd-is_odd-requires-clause-ordered g c =
-    let value = g.I.OverlayInt.value in
+    let value = g.I.IntNumber.value in
     let points = points_of value c.args.points.now in
     let all = c.args.stretches.now in
     let within = end_within value (edge_ends points) all c.requires.stretches (length all) (omega arith) in
@@ -37,7 +37,7 @@ edges_are_odd-is_odd-requires-clause-within g c = omega arith
 
 pub loop-left-init : goal.loop-left-init
 loop-left-init g c =
-    let value = g.I.OverlayInt.value in
+    let value = g.I.IntNumber.value in
     let contour = points_of value c.args.points.now in
     let p = whole (point_of value c.args.point) in
     let edges = contour_edges contour in
@@ -55,7 +55,7 @@ look_at-look-requires-clause-some g c = (own g (goal.at.look_at-look-requires-cl
 
 pub look_at-look-requires-clause-within : goal.look_at-look-requires-clause-within
 look_at-look-requires-clause-within g c =
-    let value = g.I.OverlayInt.value in
+    let value = g.I.IntNumber.value in
     let points = points_of value c.args.points.now in
     let within = (own g (goal.at.look_at-look-requires-clause-within g c).After-index-stretches-left).within in
     let long : length (edge_ends points) ≡ length c.args.points.now =
@@ -73,7 +73,7 @@ loop-left-smaller g c = omega (arith, c.look_at-look.ensures.fewer, c.loop-left-
 
 pub loop-left-preserved : goal.loop-left-preserved
 loop-left-preserved g c =
-    let value = g.I.OverlayInt.value in
+    let value = g.I.IntNumber.value in
     let contour = points_of value c.args.points.now in
     let p = whole (point_of value c.args.point) in
     let edges = contour_edges contour in
@@ -95,7 +95,7 @@ loop-left-preserved g c =
 
 pub returns : goal.returns
 returns g c =
-    let value = g.I.OverlayInt.value in
+    let value = g.I.IntNumber.value in
     let contour = points_of value c.args.points.now in
     let p = whole (point_of value c.args.point) in
     let edges = contour_edges contour in

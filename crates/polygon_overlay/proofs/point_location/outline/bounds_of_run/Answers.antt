@@ -13,7 +13,7 @@ with_edge-bounds-requires g c = omega (arith, c.requires.within, c.loop-place-te
 
 pub loop-place-preserved : goal.loop-place-preserved
 loop-place-preserved g c =
-    let value = g.I.OverlayInt.value in
+    let value = g.I.IntNumber.value in
     boxed_more (edge_ends (points_of value c.args.points.now)) (bounds_of value c.loop-place.bounds) (bounds_of value c.with_edge-bounds.result) c.args.first
     c.loop-place.place c.with_edge-bounds.ensures.kept c.with_edge-bounds.ensures.edge c.loop-place.invariant
 

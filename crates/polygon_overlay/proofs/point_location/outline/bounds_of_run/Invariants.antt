@@ -11,4 +11,4 @@ use Rattle.polygon_overlay.proofs.point_location.outline.bounds_of_run.Given as 
 abbrev pub invariant-loop-place : goal.invariant-loop-place
 invariant-loop-place g l =
     (k : ℕ) (d : List Point) → l.fn.first ≤ k → k < l.place
-    → All (LiesWithin (bounds_of g.I.OverlayInt.value l.bounds)) (slice_index_or (edge_ends (points_of g.I.OverlayInt.value l.points)) k d)
+    → All (LiesWithin (bounds_of g.I.IntNumber.value l.bounds)) (slice_index_or (edge_ends (points_of g.I.IntNumber.value l.points)) k d)

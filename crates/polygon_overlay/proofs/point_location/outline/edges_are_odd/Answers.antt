@@ -12,14 +12,14 @@ use Rattle.polygon_overlay.proofs.point_location.outline.edges_are_odd.Goals as 
 
 pub loop-place-init : goal.loop-place-init
 loop-place-init g c =
-    parity_none (contour_edges (points_of g.I.OverlayInt.value c.args.points.now)) (whole (point_of g.I.OverlayInt.value c.args.point)) c.args.first
+    parity_none (contour_edges (points_of g.I.IntNumber.value c.args.points.now)) (whole (point_of g.I.IntNumber.value c.args.point)) c.args.first
 
 pub passes_below-is_turned-requires-clause-in_range : goal.passes_below-is_turned-requires-clause-in_range
 passes_below-is_turned-requires-clause-in_range g c = c.edge_at-edge.ensures.in_range c.requires.in_range
 
 pub loop-place-preserved : goal.loop-place-preserved
 loop-place-preserved g c =
-    let value = g.I.OverlayInt.value in
+    let value = g.I.IntNumber.value in
     let contour = points_of value c.args.points.now in
     let p = whole (point_of value c.args.point) in
     let edges = contour_edges contour in
@@ -34,5 +34,5 @@ pub returns : goal.returns
 returns g c =
     let end : c.loop-place.place ≡ c.args.end = omega (arith, c.loop-place-test.false, c.loop-place.auto.place-end) in
     subst
-    (λ n. IsParityBetween (contour_edges (points_of g.I.OverlayInt.value c.args.points.now)) (whole (point_of g.I.OverlayInt.value c.args.point)) c.args.first n c.loop-place.is_odd)
+    (λ n. IsParityBetween (contour_edges (points_of g.I.IntNumber.value c.args.points.now)) (whole (point_of g.I.IntNumber.value c.args.point)) c.args.first n c.loop-place.is_odd)
     end c.loop-place.invariant

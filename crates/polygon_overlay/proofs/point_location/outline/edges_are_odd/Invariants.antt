@@ -7,4 +7,4 @@ use Rattle.polygon_overlay.proofs.point_location.outline.edges_are_odd.Given as 
 -- The parity of the edges before this place.
 abbrev pub invariant-loop-place : goal.invariant-loop-place
 invariant-loop-place g l =
-    IsParityBetween (contour_edges (points_of g.I.OverlayInt.value l.points)) (whole (point_of g.I.OverlayInt.value l.point)) l.fn.first l.place l.is_odd
+    IsParityBetween (contour_edges (points_of g.I.IntNumber.value l.points)) (whole (point_of g.I.IntNumber.value l.point)) l.fn.first l.place l.is_odd

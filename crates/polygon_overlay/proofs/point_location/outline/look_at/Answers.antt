@@ -13,7 +13,7 @@ returns-then-is_clear-clause-fewer g c = c.requires.earlier
 
 pub returns-then-is_clear-clause-looked : goal.returns-then-is_clear-clause-looked
 returns-then-is_clear-clause-looked g c =
-    let value = g.I.OverlayInt.value in
+    let value = g.I.IntNumber.value in
     let s = c.args.stretch in
     let many : s.end ≡ s.first + (s.end - s.first) = omega (arith, c.requires.some) in
     let within : s.end ≤ length (points_of value c.args.points.now) = let e = length-map c.args.points.now (point_of value) in omega (arith, e, c.requires.within) in
@@ -28,7 +28,7 @@ returns-then-is_under-clause-fewer g c = c.requires.earlier
 
 pub returns-then-is_under-clause-looked : goal.returns-then-is_under-clause-looked
 returns-then-is_under-clause-looked g c =
-    let value = g.I.OverlayInt.value in
+    let value = g.I.IntNumber.value in
     let points = points_of value c.args.points.now in
     let p = point_of value c.args.point in
     let s = c.args.stretch in

@@ -6,13 +6,13 @@ use Rattle.polygon_overlay.proofs.point_location.outline.passes_below.Goals as g
 
 pub returns-then-is_left_of : goal.returns-then-is_left_of
 returns-then-is_left_of g c =
-    left_told (edge_of g.I.OverlayInt.value c.args.edge) (point_of g.I.OverlayInt.value c.args.point) (sym c.is_left_of.ensures ∙ c.if-is_left_of.true)
+    left_told (edge_of g.I.IntNumber.value c.args.edge) (point_of g.I.IntNumber.value c.args.point) (sym c.is_left_of.ensures ∙ c.if-is_left_of.true)
 
 pub returns-then-not-is_left_of : goal.returns-then-not-is_left_of
 returns-then-not-is_left_of g c =
-    right_told (edge_of g.I.OverlayInt.value c.args.edge) (point_of g.I.OverlayInt.value c.args.point) (sym c.is_left_of-2.ensures ∙ c.if-not-is_left_of.true)
+    right_told (edge_of g.I.IntNumber.value c.args.edge) (point_of g.I.IntNumber.value c.args.point) (sym c.is_left_of-2.ensures ∙ c.if-not-is_left_of.true)
 
 pub returns : goal.returns
 returns g c =
-    turn_told (edge_of g.I.OverlayInt.value c.args.edge) (point_of g.I.OverlayInt.value c.args.point) c.orientation.result c.is_gt.result
+    turn_told (edge_of g.I.IntNumber.value c.args.edge) (point_of g.I.IntNumber.value c.args.point) c.orientation.result c.is_gt.result
     (sym c.is_left_of.ensures ∙ c.if-is_left_of.false) (sym c.is_left_of-2.ensures ∙ c.if-not-is_left_of.false) c.orientation.ensures c.is_gt.ensures

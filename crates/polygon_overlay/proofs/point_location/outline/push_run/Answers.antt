@@ -9,7 +9,7 @@ use Rattle.polygon_overlay.proofs.point_location.outline.push_run.Goals as goal
 
 pub returns-clause-pushed : goal.returns-clause-pushed
 returns-clause-pushed g c = λ are.
-    let value = g.I.OverlayInt.value in
+    let value = g.I.IntNumber.value in
     let points = points_of value c.args.points.now in
     let all = c.args.stretches.now.items in
     let first = c.args.first in

@@ -11,7 +11,7 @@ returns-clause-kept g c = λ p h. c.with-2.ensures.kept p (c.with.ensures.kept p
 
 pub returns-clause-edge : goal.returns-clause-edge
 returns-clause-edge g c =
-    let value = g.I.OverlayInt.value in
+    let value = g.I.IntNumber.value in
     let points = points_of value c.args.points.now in
     let edge = edge_of value c.edge_at-edge.result in
     let inside : c.args.place < length points = let e = length-map c.args.points.now (point_of value) in omega (arith, e, c.requires.within) in

@@ -6,7 +6,7 @@ use Rattle.polygon_overlay.proofs.point_location.queries.answers.Given as goal
 -- What was found for the queries before this one stands at their indexes.
 abbrev pub invariant-loop-query : goal.invariant-loop-query
 invariant-loop-query g l =
-    let value = g.I.OverlayInt.value in
+    let value = g.I.IntNumber.value in
     record {
       long : length l.found.items ≡ length l.points;
       told : (inside : RationalPoint → Bool) → All (λ q. q.is_found ≡ inside (place_of value q)) l.queries → (k : ℕ) (d : _) (e : Bool) → k < l.query-index

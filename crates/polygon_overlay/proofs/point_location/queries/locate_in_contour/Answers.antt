@@ -8,7 +8,7 @@ use Rattle.polygon_overlay.proofs.point_location.queries.locate_in_contour.Goals
 
 pub returns : goal.returns
 returns g c =
-    let value = g.I.OverlayInt.value in
+    let value = g.I.IntNumber.value in
     let points = points_of value c.args.points.now in
     let old = c.args.queries.now in
     c.end_shape.ensures

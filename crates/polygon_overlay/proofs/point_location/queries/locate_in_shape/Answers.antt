@@ -11,23 +11,23 @@ use Rattle.polygon_overlay.proofs.Locating.LocationLaws.{all_passed_nothing, all
 use Rattle.polygon_overlay.proofs.point_location.queries.locate_in_shape.Goals as goal
 
 pub loop-contour-init : goal.loop-contour-init
-loop-contour-init g c = record { turned = all_passed_nothing g.I.OverlayInt.value c.args.queries.now; odd = c.no_places-odd.ensures c.requires.even }
+loop-contour-init g c = record { turned = all_passed_nothing g.I.IntNumber.value c.args.queries.now; odd = c.no_places-odd.ensures c.requires.even }
 
 pub pass_contour-odd-requires-clause-in_range : goal.pass_contour-odd-requires-clause-in_range
 pass_contour-odd-requires-clause-in_range g c =
-    subst (λ ps. All (IsWithin g.I.OverlayInt.least g.I.OverlayInt.greatest) (points_of g.I.OverlayInt.value ps)) (sym c.deref.ensures.value)
-    (All-mapped (All (IsWithin g.I.OverlayInt.least g.I.OverlayInt.greatest)) (λ (contour : IntPath g.row.I.Denot). points_of g.I.OverlayInt.value contour.points.items)
+    subst (λ ps. All (IsWithin g.I.OverlayInt.least g.I.OverlayInt.greatest) (points_of g.I.IntNumber.value ps)) (sym c.deref.ensures.value)
+    (All-mapped (All (IsWithin g.I.OverlayInt.least g.I.OverlayInt.greatest)) (λ (contour : IntPath g.row.I.Denot). points_of g.I.IntNumber.value contour.points.items)
     c.args.contours.now c.loop-contour.contour-index c.contour-item.result c.loop-contour-test.true c.contour-item.is c.requires.in_range)
 
 pub pass_contour-odd-requires-clause-ready : goal.pass_contour-odd-requires-clause-ready
 pass_contour-odd-requires-clause-ready g c =
-    let value = g.I.OverlayInt.value in
+    let value = g.I.IntNumber.value in
     subst (AreReady g.I.OverlayInt.least g.I.OverlayInt.greatest value) (sym c.loop-contour.invariant.turned)
     (ready_passed value g.I.OverlayInt.least g.I.OverlayInt.greatest (flat_map contour_edges (contours_of value (take c.loop-contour.contour-index c.args.contours.now))) c.args.queries.now c.requires.ready)
 
 pub loop-contour-preserved : goal.loop-contour-preserved
 loop-contour-preserved g c =
-    let value = g.I.OverlayInt.value in
+    let value = g.I.IntNumber.value in
     let old = c.args.queries.now in
     let i = c.loop-contour.contour-index in
     let edges = flat_map contour_edges (contours_of value (take i c.args.contours.now)) in
@@ -49,7 +49,7 @@ end_shape-requires g c = c.loop-contour.invariant.odd
 
 pub returns : goal.returns
 returns g c =
-    let value = g.I.OverlayInt.value in
+    let value = g.I.IntNumber.value in
     let old = c.args.queries.now in
     let contours = c.args.contours.now in
     let whole : take c.loop-contour.contour-index contours ≡ contours = take_all c.loop-contour.contour-index contours (omega (arith, c.loop-contour-test.false)) in

@@ -8,20 +8,20 @@ use Rattle.polygon_overlay.proofs.Locating.LocationLaws.{length-contour_edges, a
 use Rattle.polygon_overlay.proofs.point_location.queries.pass_contour.Goals as goal
 
 pub loop-place-init : goal.loop-place-init
-loop-place-init g c = record { turned = all_passed_nothing g.I.OverlayInt.value c.args.queries.now; odd = c.requires.odd }
+loop-place-init g c = record { turned = all_passed_nothing g.I.IntNumber.value c.args.queries.now; odd = c.requires.odd }
 
 pub pass_edge-odd-requires-clause-in_range : goal.pass_edge-odd-requires-clause-in_range
 pass_edge-odd-requires-clause-in_range g c = c.edge_at.ensures.in_range c.requires.in_range
 
 pub pass_edge-odd-requires-clause-ready : goal.pass_edge-odd-requires-clause-ready
 pass_edge-odd-requires-clause-ready g c =
-    let value = g.I.OverlayInt.value in
+    let value = g.I.IntNumber.value in
     subst (AreReady g.I.OverlayInt.least g.I.OverlayInt.greatest value) (sym c.loop-place.invariant.turned)
     (ready_passed value g.I.OverlayInt.least g.I.OverlayInt.greatest (take c.loop-place.place (contour_edges (points_of value c.args.points.now))) c.args.queries.now c.requires.ready)
 
 pub loop-place-preserved : goal.loop-place-preserved
 loop-place-preserved g c =
-    let value = g.I.OverlayInt.value in
+    let value = g.I.IntNumber.value in
     let edges = contour_edges (points_of value c.args.points.now) in
     let long : length edges ≡ length c.args.points.now = length-contour_edges (points_of value c.args.points.now) ∙ length-map c.args.points.now (point_of value) in
     let i = c.loop-place.place in
@@ -40,7 +40,7 @@ pass_edge-odd-requires-clause-odd g c = c.loop-place.invariant.odd
 
 pub returns-clause-is : goal.returns-clause-is
 returns-clause-is g c =
-    let value = g.I.OverlayInt.value in
+    let value = g.I.IntNumber.value in
     let edges = contour_edges (points_of value c.args.points.now) in
     let long : length edges ≡ length c.args.points.now = length-contour_edges (points_of value c.args.points.now) ∙ length-map c.args.points.now (point_of value) in
     c.loop-place.invariant.turned ∙ ap (λ es. map (passed value es) c.args.queries.now) (take_all c.loop-place.place edges (omega (arith, long, c.loop-place-test.false)))

@@ -7,7 +7,7 @@ use Rattle.polygon_overlay.proofs.point_location.queries.pass_contour.Given as g
 -- The edges before this one have turned what they pass below.
 abbrev pub invariant-loop-place : goal.invariant-loop-place
 invariant-loop-place g l =
-    let value = g.I.OverlayInt.value in
+    let value = g.I.IntNumber.value in
     record {
       turned : l.queries ≡ map (passed value (take l.place (contour_edges (points_of value l.points)))) l.fn.queries;
       odd : AreOddWithin l.odd.first l.odd.end l.queries;

@@ -6,13 +6,13 @@ use Rattle.polygon_overlay.proofs.point_location.queries.pass_edge.Goals as goal
 
 pub loop-place-preserved : goal.loop-place-preserved
 loop-place-preserved g c =
-    mapped_more (passed g.I.OverlayInt.value (edge_of g.I.OverlayInt.value c.args.edge ∷ [])) c.first_from-first.result c.loop-place.place c.args.queries.now c.loop-place.queries
+    mapped_more (passed g.I.IntNumber.value (edge_of g.I.IntNumber.value c.args.edge ∷ [])) c.first_from-first.result c.loop-place.place c.args.queries.now c.loop-place.queries
     c.index-queries-place.result c.turned.result c.loop-place.auto.place (omega (arith, c.loop-place-test.true, c.first_from-end.ensures.within)) c.loop-place.invariant
     c.index-queries-place.is c.turned.ensures
 
 pub returns-clause-is : goal.returns-clause-is
 returns-clause-is g c =
-    let value = g.I.OverlayInt.value in
+    let value = g.I.IntNumber.value in
     let edge = edge_of value c.args.edge in
     let queries = c.args.queries.now in
     mapped_apart (passed value (edge ∷ [])) c.first_from-first.result c.loop-place.place queries c.loop-place.queries c.loop-place.invariant
@@ -21,7 +21,7 @@ returns-clause-is g c =
 
 pub returns-clause-odd : goal.returns-clause-odd
 returns-clause-odd g c =
-    let value = g.I.OverlayInt.value in
+    let value = g.I.IntNumber.value in
     let edge = edge_of value c.args.edge in
     let queries = c.args.queries.now in
     let passes = passed value (edge ∷ []) in

@@ -6,4 +6,4 @@ use Rattle.polygon_overlay.proofs.point_location.queries.pass_edge.Given as goal
 
 -- The queries in the edge's column up to this one are turned.
 abbrev pub invariant-loop-place : goal.invariant-loop-place
-invariant-loop-place g l = IsMapped (passed g.I.OverlayInt.value (edge_of g.I.OverlayInt.value l.edge ∷ [])) l.first l.place l.fn.queries l.queries
+invariant-loop-place g l = IsMapped (passed g.I.IntNumber.value (edge_of g.I.IntNumber.value l.edge ∷ [])) l.first l.place l.fn.queries l.queries

@@ -9,22 +9,22 @@ use Rattle.polygon_overlay.proofs.point_location.resolved.is_contour_resolved.Go
 pub returns-then-not-is_resolved_before : goal.returns-then-not-is_resolved_before
 returns-then-not-is_resolved_before g c =
     let points = c.args.points.now in
-    let f = point_of g.I.OverlayInt.value in
-    let long : length (contour_edges (points_of g.I.OverlayInt.value points)) ≡ length points = length-contour_edges (map f points) ∙ length-map points f in (
+    let f = point_of g.I.IntNumber.value in
+    let long : length (contour_edges (points_of g.I.IntNumber.value points)) ≡ length points = length-contour_edges (map f points) ∙ length-map points f in (
       λ up. absurd (false≢true up),
       λ all. sym c.if-not-is_resolved_before.true ∙ c.is_resolved_before.ensures.1 (λ j d l. all j c.loop-i.i d l (omega (arith, long, c.loop-i-test.true))),
     )
 
 pub loop-i-preserved : goal.loop-i-preserved
 loop-i-preserved g c j k d l m =
-    let edges = contour_edges (points_of g.I.OverlayInt.value c.args.points.now) in
+    let edges = contour_edges (points_of g.I.IntNumber.value c.args.points.now) in
     pairs_more edges c.loop-i.i c.loop-i.invariant (c.is_resolved_before.ensures.0 c.if-not-is_resolved_before.false) j k d l m
 
 pub returns : goal.returns
 returns g c =
     let points = c.args.points.now in
-    let f = point_of g.I.OverlayInt.value in
-    let long : length (contour_edges (points_of g.I.OverlayInt.value points)) ≡ length points = length-contour_edges (map f points) ∙ length-map points f in (
+    let f = point_of g.I.IntNumber.value in
+    let long : length (contour_edges (points_of g.I.IntNumber.value points)) ≡ length points = length-contour_edges (map f points) ∙ length-map points f in (
       λ _ i j d l m. c.loop-i.invariant i j d l (omega (arith, m, long, c.loop-i-test.false)),
       λ _. refl,
     )

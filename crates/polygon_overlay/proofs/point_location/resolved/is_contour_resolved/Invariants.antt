@@ -7,5 +7,5 @@ use Rattle.polygon_overlay.proofs.point_location.resolved.is_contour_resolved.Gi
 -- So far any two edges are resolved.
 abbrev pub invariant-loop-i : goal.invariant-loop-i
 invariant-loop-i g l =
-    let edges = contour_edges (points_of g.I.OverlayInt.value l.points) in
+    let edges = contour_edges (points_of g.I.IntNumber.value l.points) in
     (j k : ℕ) (d : _) → j < k → k < l.i → AreResolved (get_or edges j d) (get_or edges k d)

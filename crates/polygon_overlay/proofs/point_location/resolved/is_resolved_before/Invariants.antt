@@ -7,5 +7,5 @@ use Rattle.polygon_overlay.proofs.point_location.resolved.is_resolved_before.Giv
 -- So far each earlier edge and this one are resolved.
 abbrev pub invariant-loop-i : goal.invariant-loop-i
 invariant-loop-i g l =
-    let edges = contour_edges (points_of g.I.OverlayInt.value l.points) in
+    let edges = contour_edges (points_of g.I.IntNumber.value l.points) in
     (k : ℕ) (d : _) → k < l.i → AreResolved (get_or edges k d) (get_or edges l.place d)

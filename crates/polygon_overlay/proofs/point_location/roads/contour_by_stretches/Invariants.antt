@@ -7,4 +7,4 @@ use Rattle.polygon_overlay.proofs.point_location.roads.contour_by_stretches.Give
 -- The points before this one are located.
 abbrev pub invariant-loop-place : goal.invariant-loop-place
 invariant-loop-place g l =
-    l.inside.items ≡ map (λ p. in_contour (points_of g.I.OverlayInt.value l.contour) (whole p)) (points_of g.I.OverlayInt.value (take l.place l.points))
+    l.inside.items ≡ map (λ p. in_contour (points_of g.I.IntNumber.value l.contour) (whole p)) (points_of g.I.IntNumber.value (take l.place l.points))

@@ -8,4 +8,4 @@ use Rattle.polygon_overlay.proofs.point_location.roads.shape_by_stretches.Given 
 -- The points before this one are located.
 abbrev pub invariant-loop-place : goal.invariant-loop-place
 invariant-loop-place g l =
-    l.inside.items ≡ map (λ p. in_shape (contours_of g.I.OverlayInt.value l.contours) (whole p)) (points_of g.I.OverlayInt.value (take l.place l.points))
+    l.inside.items ≡ map (λ p. in_shape (contours_of g.I.IntNumber.value l.contours) (whole p)) (points_of g.I.IntNumber.value (take l.place l.points))

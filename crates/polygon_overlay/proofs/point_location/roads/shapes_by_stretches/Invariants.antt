@@ -8,4 +8,4 @@ use Rattle.polygon_overlay.proofs.point_location.roads.shapes_by_stretches.Given
 -- The points before this one are located.
 abbrev pub invariant-loop-place : goal.invariant-loop-place
 invariant-loop-place g l =
-    l.inside.items ≡ map (λ p. in_shapes (shapes_of g.I.OverlayInt.value l.shapes) (whole p)) (points_of g.I.OverlayInt.value (take l.place l.points))
+    l.inside.items ≡ map (λ p. in_shapes (shapes_of g.I.IntNumber.value l.shapes) (whole p)) (points_of g.I.IntNumber.value (take l.place l.points))

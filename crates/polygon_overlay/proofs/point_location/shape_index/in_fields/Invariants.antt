@@ -9,7 +9,7 @@ use Rattle.polygon_overlay.proofs.point_location.shape_index.in_fields.Given as 
 abbrev pub invariant-loop-left : goal.invariant-loop-left
 invariant-loop-left g l =
     (l.left ≤ length l.fields)
-    × NoneContains (shapes_of g.I.OverlayInt.value l.shapes) l.order (whole (point_of g.I.OverlayInt.value l.point)) (end_before l.fields l.left) (length l.order)
+    × NoneContains (shapes_of g.I.IntNumber.value l.shapes) l.order (whole (point_of g.I.IntNumber.value l.point)) (end_before l.fields l.left) (length l.order)
 
 abbrev pub decreases-loop-left : goal.decreases-loop-left
 decreases-loop-left g l = l.left

@@ -16,7 +16,7 @@ fields_of-requires g c =
 
 pub returns-clause-indexed : goal.returns-clause-indexed
 returns-clause-indexed g c =
-    let value = g.I.OverlayInt.value in
+    let value = g.I.IntNumber.value in
     let shapes = shapes_of value c.args.shapes.now in
     let outlines = c.in_ok-outlines.outlines.items in
     let order = c.in_ok-order.order.items in

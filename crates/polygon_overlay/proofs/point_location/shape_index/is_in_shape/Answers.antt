@@ -18,21 +18,21 @@ loop-place-init g c = refl
 
 pub bounds-outlines-place : goal.bounds-outlines-place
 bounds-outlines-place g c =
-    let value = g.I.OverlayInt.value in
+    let value = g.I.IntNumber.value in
     let same = zip_length (IsOutlined value) (contours_of value c.args.contours.now) c.args.outlines.now c.requires.outlined in
     let long = length-map c.args.contours.now (λ (contour : IntPath g.row.I.Denot). points_of value contour.points.items) in
     omega (arith, same, long, c.loop-place-test.true)
 
 pub offset_bounds-outlines-place : goal.offset_bounds-outlines-place
 offset_bounds-outlines-place g c =
-    let value = g.I.OverlayInt.value in
+    let value = g.I.IntNumber.value in
     let same = zip_length (IsOutlined value) (contours_of value c.args.contours.now) c.args.outlines.now c.requires.outlined in
     let long = length-map c.args.contours.now (λ (contour : IntPath g.row.I.Denot). points_of value contour.points.items) in
     omega (arith, same, long, c.loop-place-test.true)
 
 pub is_inside-is_in-requires-clause-in_range : goal.is_inside-is_in-requires-clause-in_range
 is_inside-is_in-requires-clause-in_range g c =
-    let value = g.I.OverlayInt.value in
+    let value = g.I.IntNumber.value in
     let within = All (IsWithin g.I.OverlayInt.least g.I.OverlayInt.greatest) in
     subst (λ ps. within (points_of value ps)) (sym (c.deref.ensures.value ∙ ap (λ (k : IntPath g.row.I.Denot). k.points.items) (sym c.index-contours-place.is)))
     (All-mapped within (λ (contour : IntPath g.row.I.Denot). points_of value contour.points.items) c.args.contours.now c.loop-place.place
@@ -40,14 +40,14 @@ is_inside-is_in-requires-clause-in_range g c =
 
 pub is_inside-is_in-requires-clause-outlined : goal.is_inside-is_in-requires-clause-outlined
 is_inside-is_in-requires-clause-outlined g c =
-    let value = g.I.OverlayInt.value in
+    let value = g.I.IntNumber.value in
     subst (λ ps. IsOutlined value (points_of value ps) c.index-outlines-place.result) (sym (c.deref.ensures.value ∙ ap (λ (k : IntPath g.row.I.Denot). k.points.items) (sym c.index-contours-place.is)))
     (contour_outlined value c.args.contours.now c.args.outlines.now c.loop-place.place c.index-contours-place.result c.index-outlines-place.result
     c.loop-place-test.true c.index-contours-place.is c.index-outlines-place.is c.requires.outlined)
 
 pub loop-place-preserved : goal.loop-place-preserved
 loop-place-preserved g c =
-    let value = g.I.OverlayInt.value in
+    let value = g.I.IntNumber.value in
     let p = whole (point_of value c.args.point) in
     let contours = c.args.contours.now in
     let i = c.loop-place.place in
@@ -59,7 +59,7 @@ loop-place-preserved g c =
 
 pub returns : goal.returns
 returns g c =
-    let value = g.I.OverlayInt.value in
+    let value = g.I.IntNumber.value in
     c.loop-place.invariant
     ∙ ap (λ cs. in_shape (contours_of value cs) (whole (point_of value c.args.point)))
     (take_all c.loop-place.place c.args.contours.now (omega (arith, c.loop-place-test.false)))

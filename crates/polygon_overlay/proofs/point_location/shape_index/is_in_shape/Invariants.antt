@@ -8,4 +8,4 @@ use Rattle.polygon_overlay.proofs.point_location.shape_index.is_in_shape.Given a
 -- The point lies inside of an odd number of the contours before this one, or not.
 abbrev pub invariant-loop-place : goal.invariant-loop-place
 invariant-loop-place g l =
-    l.is_odd ≡ in_shape (contours_of g.I.OverlayInt.value (take l.place l.contours)) (whole (point_of g.I.OverlayInt.value l.point))
+    l.is_odd ≡ in_shape (contours_of g.I.IntNumber.value (take l.place l.contours)) (whole (point_of g.I.IntNumber.value l.point))

@@ -9,7 +9,7 @@ use Rattle.polygon_overlay.proofs.point_location.shape_index.outlines_of.Goals a
 
 pub loop-contour-preserved : goal.loop-contour-preserved
 loop-contour-preserved g c =
-    let value = g.I.OverlayInt.value in
+    let value = g.I.IntNumber.value in
     let i = c.loop-contour.contour-index in
     let x = c.contour-item.result in
     let outline = c.in_ok-outline.outline in
@@ -21,6 +21,6 @@ loop-contour-preserved g c =
 
 pub returns-clause-outlined : goal.returns-clause-outlined
 returns-clause-outlined g c =
-    let value = g.I.OverlayInt.value in
+    let value = g.I.IntNumber.value in
     subst (λ cs. AllZip (IsOutlined value) (contours_of value cs) c.loop-contour.outlines.items)
     (take_all c.loop-contour.contour-index c.args.contours.now (omega (arith, c.loop-contour-test.false))) c.loop-contour.invariant

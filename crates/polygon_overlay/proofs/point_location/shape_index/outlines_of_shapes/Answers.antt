@@ -9,7 +9,7 @@ use Rattle.polygon_overlay.proofs.point_location.shape_index.outlines_of_shapes.
 
 pub loop-shape-preserved : goal.loop-shape-preserved
 loop-shape-preserved g c =
-    let value = g.I.OverlayInt.value in
+    let value = g.I.IntNumber.value in
     let i = c.loop-shape.shape-index in
     let x = c.shape-item.result in
     let outlines = c.in_ok-outlines.outlines in
@@ -21,6 +21,6 @@ loop-shape-preserved g c =
 
 pub returns-clause-outlined : goal.returns-clause-outlined
 returns-clause-outlined g c =
-    let value = g.I.OverlayInt.value in
+    let value = g.I.IntNumber.value in
     subst (λ ss. AreOutlined value (shapes_of value ss) c.loop-shape.all.items)
     (take_all c.loop-shape.shape-index c.args.shapes.now (omega (arith, c.loop-shape-test.false))) c.loop-shape.invariant

@@ -25,7 +25,7 @@ within_shapes g c =
 
 within_outlines : (g : Over) (c : After-number_at-number g) → c.number_at-number.result < length c.args.outlines.now
 within_outlines g c =
-    let value = g.I.OverlayInt.value in
+    let value = g.I.IntNumber.value in
     let same = zip_length (λ cs os. AllZip (IsOutlined value) cs os.items) (shapes_of value c.args.shapes.now) c.args.outlines.now c.requires.outlined in
     let long = length-map c.args.shapes.now (λ (s : IntShape g.row.I.Denot). contours_of value s.contours.items) in
     let here = within_shapes g c in
@@ -33,7 +33,7 @@ within_outlines g c =
 
 pub loop-place-init : goal.loop-place-init
 loop-place-init g c =
-    none_between (shapes_of g.I.OverlayInt.value c.args.shapes.now) c.args.order.now (whole (point_of g.I.OverlayInt.value c.args.point)) c.args.first
+    none_between (shapes_of g.I.IntNumber.value c.args.shapes.now) c.args.order.now (whole (point_of g.I.IntNumber.value c.args.point)) c.args.first
 
 pub bounds-shapes-number : goal.bounds-shapes-number
 bounds-shapes-number g c = within_shapes g (goal.at.bounds-shapes-number g c).After-number_at-number
@@ -53,7 +53,7 @@ offset_bounds-outlines-number g c =
 
 pub is_in_shape-requires-clause-in_range : goal.is_in_shape-requires-clause-in_range
 is_in_shape-requires-clause-in_range g c =
-    let value = g.I.OverlayInt.value in
+    let value = g.I.IntNumber.value in
     let within = All (IsWithin g.I.OverlayInt.least g.I.OverlayInt.greatest) in
     subst (λ cs. All within (contours_of value cs)) (sym (c.deref.ensures.value ∙ ap (λ (s : IntShape g.row.I.Denot). s.contours.items) (sym c.index-shapes-number.is)))
     (All-mapped (All within) (λ (s : IntShape g.row.I.Denot). contours_of value s.contours.items) c.args.shapes.now c.number_at-number.result
@@ -62,7 +62,7 @@ is_in_shape-requires-clause-in_range g c =
 
 pub is_in_shape-requires-clause-outlined : goal.is_in_shape-requires-clause-outlined
 is_in_shape-requires-clause-outlined g c =
-    let value = g.I.OverlayInt.value in
+    let value = g.I.IntNumber.value in
     let after = (goal.at.is_in_shape-requires-clause-outlined g c).After-number_at-number in
     let n = c.number_at-number.result in
     let shape = c.index-shapes-number.result in
@@ -74,7 +74,7 @@ is_in_shape-requires-clause-outlined g c =
 
 pub returns-then-is_in_shape-clause-found : goal.returns-then-is_in_shape-clause-found
 returns-then-is_in_shape-clause-found g c = λ _.
-    let value = g.I.OverlayInt.value in
+    let value = g.I.IntNumber.value in
     let p = whole (point_of value c.args.point) in
     let shapes = shapes_of value c.args.shapes.now in
     let n = c.number_at-number.result in
@@ -90,7 +90,7 @@ returns-then-is_in_shape-clause-none g c = λ e. absurd (true≢false e)
 
 pub loop-place-preserved : goal.loop-place-preserved
 loop-place-preserved g c =
-    let value = g.I.OverlayInt.value in
+    let value = g.I.IntNumber.value in
     let p = whole (point_of value c.args.point) in
     let shapes = shapes_of value c.args.shapes.now in
     let i = c.loop-place.place in

@@ -5,7 +5,7 @@ use Rattle.polygon_overlay.proofs.predicate.RelationsHandlerFillHandlerShapeCoun
 
 pub returns : goal.returns
 returns g c rest =
-    let value = g.I.OverlayInt.value in
+    let value = g.I.IntNumber.value in
     let old = c.args.self.now.point_checker in
     relations_told c.args.self.now.seen c.add.new.self (points_of value old.subj_points.items) (points_of value old.clip_points.items)
     (points_of value c.add_segment.new.self.subj_points.items) (points_of value c.add_segment.new.self.clip_points.items)

@@ -8,6 +8,6 @@ invariant_of-self g c =
     record {
       balanced = held_after_contour g.I.OverlayInt.least g.I.OverlayInt.greatest c.args.shape_type false
           c.args.self.now.held.edges c.add_contour.new.self.edges c.args.self.now.balanced
-          c.add_contour.result (points_of g.I.OverlayInt.value c.args.contour.now) c.requires.in_range
+          c.add_contour.result (points_of g.I.IntNumber.value c.args.contour.now) c.requires.in_range
           (rw c.count_of_type.ensures at c.add_contour.ensures.added) c.add_contour.ensures.unchanged;
     }

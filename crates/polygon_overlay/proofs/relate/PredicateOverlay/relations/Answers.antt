@@ -8,7 +8,7 @@ use Rattle.polygon_overlay.proofs.relate.PredicateOverlay.relations.Goals as goa
 
 pub returns-clause-is : goal.returns-clause-is
 returns-clause-is g c =
-    let value = g.I.OverlayInt.value in
+    let value = g.I.IntNumber.value in
     let checker = c.new-2.result in
     none_met value (λ ps qs. relations_with none_seen ps qs (links_of c.args.self.now)) checker.subj_points.items checker.clip_points.items c.new-2.ensures.subjects c.new-2.ensures.clips c.evaluate.result
     (subst (λ seen. IfOk c.evaluate.result (λ answer. answer ≡ relations_with seen (points_of value checker.subj_points.items) (points_of value checker.clip_points.items)

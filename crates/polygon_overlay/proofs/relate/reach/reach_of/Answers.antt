@@ -24,9 +24,9 @@ stands g c =
 pub loop-index-preserved : goal.loop-index-preserved
 loop-index-preserved g c =
     let at = stands g (goal.at.loop-index-preserved g c).After-shape_path in
-    let f = points_of g.I.OverlayInt.value in
-    let old = g.W.Side.reaches (g.I.OverlayInt.value c.loop-index.reach) in
-    let new = g.W.Side.reaches (g.I.OverlayInt.value c.reach_with-reach.result) in
+    let f = points_of g.I.IntNumber.value in
+    let old = g.W.Side.reaches (g.I.IntNumber.value c.loop-index.reach) in
+    let new = g.W.Side.reaches (g.I.IntNumber.value c.reach_with-reach.result) in
     let paths = g.R.IntShapeResource.paths c.args.source.now in
     let k = before (g.R.IntShapeResource.shapes c.args.source.now) c.loop-shape.shape + c.loop-index.index in
     let next : k + 1 ≡ before (g.R.IntShapeResource.shapes c.args.source.now) c.loop-shape.shape + (c.loop-index.index + 1) = omega arith in
@@ -38,8 +38,8 @@ loop-index-preserved g c =
 
 pub loop-shape-preserved : goal.loop-shape-preserved
 loop-shape-preserved g c =
-    let f = points_of g.I.OverlayInt.value in
-    let P = All (g.W.Side.reaches (g.I.OverlayInt.value c.loop-index.reach)) in
+    let f = points_of g.I.IntNumber.value in
+    let P = All (g.W.Side.reaches (g.I.IntNumber.value c.loop-index.reach)) in
     let paths = g.R.IntShapeResource.paths c.args.source.now in
     let shapes = g.R.IntShapeResource.shapes c.args.source.now in
     let inside : c.loop-shape.shape < length shapes = omega (arith, c.shape_count-shape-end.ensures, c.loop-shape-test.true) in
@@ -50,8 +50,8 @@ loop-shape-preserved g c =
 
 pub returns : goal.returns
 returns g c =
-    let f = points_of g.I.OverlayInt.value in
-    let P = All (g.W.Side.reaches (g.I.OverlayInt.value c.loop-shape.reach)) in
+    let f = points_of g.I.IntNumber.value in
+    let P = All (g.W.Side.reaches (g.I.IntNumber.value c.loop-shape.reach)) in
     let paths = g.R.IntShapeResource.paths c.args.source.now in
     let shapes = g.R.IntShapeResource.shapes c.args.source.now in
     let last = all_before shapes paths (g.met.R.IntShapeResource.together c.args.source.now) c.loop-shape.shape (omega (arith, c.shape_count-shape-end.ensures, c.loop-shape-test.false)) in

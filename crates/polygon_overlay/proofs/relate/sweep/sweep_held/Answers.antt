@@ -40,7 +40,7 @@ either f (inr (inr c)) = inr c
 
 pub returns-clause-refused : goal.returns-clause-refused
 returns-clause-refused g c =
-    let value = g.I.OverlayInt.value in
+    let value = g.I.IntNumber.value in
     let same = c.segments.ensures.is ∙ ap (λ h. h.edges) c.in_ok-redraw_with_steps.ensures.redrawn in
     let fault = c.in-Err.fault in
     let es = all_seen (λ c. c) value c.segments.result.now in
@@ -62,7 +62,7 @@ run_with_fill_rule-requires-clause-arrangement g c = subst IsArrangement (sym c.
 
 pub returns-in-Ok-clause-is : goal.returns-in-Ok-clause-is
 returns-in-Ok-clause-is g c =
-    let value = g.I.OverlayInt.value in
+    let value = g.I.IntNumber.value in
     let rule = fill_rule_of c.args.fill_rule in
     let ss = c.segments.result.now in
     told (λ h n s. g.H.FillHandler.handles h n s.x_segment s.count s.datum) g.H.FillHandler.finishes g.H.PredicateHandler.answers (λ s fill. link_told value s.x_segment fill)

@@ -17,8 +17,8 @@ returns-in_err-overlay g c =
 
 pub returns : goal.returns
 returns g c =
-    let value = g.I.OverlayInt.value in
-    let contours = map (points_of value) (g.S.IntShapeResource.paths c.args.self.now) in
+    let value = g.I.IntNumber.value in
+    let contours = (g.S.IntShapeResource.paths c.args.self.now) in
     let fill = fill_rule_of c.args.fill_rule in
     let made = c.in_ok-overlay.overlay in
     let new = c.in_ok-overlay.ensures.made in

@@ -15,8 +15,8 @@ loop-point-init g c = rw c.in_ok-kept.ensures.items
 
 pub loop-point-preserved : goal.loop-point-preserved
 loop-point-preserved g c =
-    let f = point_of g.I.OverlayInt.value in
-    let tile = bounds_of g.I.OverlayInt.value c.args.self.now in
+    let f = point_of g.I.IntNumber.value in
+    let tile = bounds_of g.I.IntNumber.value c.args.self.now in
     let points = c.args.points.now in
     let before = c.loop-point.kept.items in
     let rest = clamped tile (drop (c.loop-point.point-index + 1) (map f points)) in
@@ -28,9 +28,9 @@ loop-point-preserved g c =
 
 pub returns-clause-answered : goal.returns-clause-answered
 returns-clause-answered g c =
-    let f = point_of g.I.OverlayInt.value in
-    let tile = bounds_of g.I.OverlayInt.value c.args.self.now in
-    let points = points_of g.I.OverlayInt.value c.args.points.now in
+    let f = point_of g.I.IntNumber.value in
+    let tile = bounds_of g.I.IntNumber.value c.args.self.now in
+    let points = points_of g.I.IntNumber.value c.args.points.now in
     let all : drop c.loop-point.point-index points ≡ [] = drop_all c.loop-point.point-index points (omega (arith, length-map c.args.points.now f, c.loop-point-test.false)) in
     let is = rw (all, append-nil) at c.loop-point.invariant in
     record {

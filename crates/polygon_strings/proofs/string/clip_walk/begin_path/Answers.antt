@@ -10,12 +10,12 @@ use Rattle.polygon_strings.proofs.string.clip_walk.begin_path.Goals as goal
 
 pub returns-then-not-is_left-clause-added : goal.returns-then-not-is_left-clause-added
 returns-then-not-is_left-clause-added g c =
-    let value = g.I.OverlayInt.value in
+    let value = g.I.IntNumber.value in
     adds_none (steps_left (link_edges value c.args.links.now) c.args.left.now.steps.items) (contours_of value c.args.paths.now.items)
 
 pub returns-clause-added : goal.returns-clause-added
 returns-clause-added g c =
-    let value = g.I.OverlayInt.value in
+    let value = g.I.IntNumber.value in
     let links = c.args.links.now in
     let edges = link_edges value links in
     let left = c.args.left.now.steps.items in

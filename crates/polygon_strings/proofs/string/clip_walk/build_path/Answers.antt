@@ -12,12 +12,12 @@ use Rattle.polygon_strings.proofs.string.clip_walk.build_path.Goals as goal
 
 pub pass-requires : goal.pass-requires
 pass-requires g c =
-    let same = length-map c.args.links.now (link_edge_of g.I.OverlayInt.value) in
+    let same = length-map c.args.links.now (link_edge_of g.I.IntNumber.value) in
     record { inside = omega (arith, c.requires.inside, c.requires.remaining.beside, same) }
 
 pub go_on-requires-clause-numbered : goal.go_on-requires-clause-numbered
 go_on-requires-clause-numbered g c =
-    let value = g.I.OverlayInt.value in
+    let value = g.I.IntNumber.value in
     let points = ends_of (link_edges value c.args.links.now) in
     let both =
     subst (λ l. IsNumbered value points l.a × IsNumbered value points l.b) (sym c.index-links-first.is)
@@ -26,15 +26,15 @@ go_on-requires-clause-numbered g c =
 
 pub go_on-requires-clause-remaining : goal.go_on-requires-clause-remaining
 go_on-requires-clause-remaining g c =
-    c.pass.ensures.remaining (link_edges g.I.OverlayInt.value c.args.links.now) (map (λ n. n.items) c.args.nodes.now) c.requires.remaining
+    c.pass.ensures.remaining (link_edges g.I.IntNumber.value c.args.links.now) (map (λ n. n.items) c.args.nodes.now) c.requires.remaining
 
 pub returns-in_err-push-clause-remaining : goal.returns-in_err-push-clause-remaining
 returns-in_err-push-clause-remaining g c =
-    c.pass.ensures.remaining (link_edges g.I.OverlayInt.value c.args.links.now) (map (λ n. n.items) c.args.nodes.now) c.requires.remaining
+    c.pass.ensures.remaining (link_edges g.I.IntNumber.value c.args.links.now) (map (λ n. n.items) c.args.nodes.now) c.requires.remaining
 
 pub returns-in_err-push-2-clause-remaining : goal.returns-in_err-push-2-clause-remaining
 returns-in_err-push-2-clause-remaining g c =
-    c.pass.ensures.remaining (link_edges g.I.OverlayInt.value c.args.links.now) (map (λ n. n.items) c.args.nodes.now) c.requires.remaining
+    c.pass.ensures.remaining (link_edges g.I.IntNumber.value c.args.links.now) (map (λ n. n.items) c.args.nodes.now) c.requires.remaining
 
 pub returns-in_err-go_on-clause-stay : goal.returns-in_err-go_on-clause-stay
 returns-in_err-go_on-clause-stay g c =
@@ -52,7 +52,7 @@ returns-clause-used g c = c.go_on.ensures.stay c.args.forward c.args.first c.pas
 
 pub returns-clause-passes : goal.returns-clause-passes
 returns-clause-passes g c =
-    let value = g.I.OverlayInt.value in
+    let value = g.I.IntNumber.value in
     let links = c.args.links.now in
     let edges = link_edges value links in
     let left = c.args.left.now.steps.items in
@@ -78,7 +78,7 @@ returns-clause-passes g c =
 
 pub returns-clause-built : goal.returns-clause-built
 returns-clause-built g c d =
-    let value = g.I.OverlayInt.value in
+    let value = g.I.IntNumber.value in
     let links = c.args.links.now in
     let edges = link_edges value links in
     let edge = link_edge_of value c.index-links-first.result in

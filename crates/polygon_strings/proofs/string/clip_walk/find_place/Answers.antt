@@ -10,7 +10,7 @@ use Rattle.polygon_strings.proofs.string.clip_walk.find_place.Goals as goal
 
 pub find_step-found-requires-clause-inside : goal.find_step-found-requires-clause-inside
 find_step-found-requires-clause-inside g c =
-    let value = g.I.OverlayInt.value in
+    let value = g.I.IntNumber.value in
     let edges = link_edges value c.args.links.now in
     let v = point_of value c.args.at.point in
     let places = c.deref.ensures.value
@@ -20,11 +20,11 @@ find_step-found-requires-clause-inside g c =
 
 pub find_step-found-requires-clause-beside : goal.find_step-found-requires-clause-beside
 find_step-found-requires-clause-beside g c =
-    ap length c.deref-2.ensures.value ∙ c.requires.remaining.beside ∙ length-map c.args.links.now (link_edge_of g.I.OverlayInt.value)
+    ap length c.deref-2.ensures.value ∙ c.requires.remaining.beside ∙ length-map c.args.links.now (link_edge_of g.I.IntNumber.value)
 
 pub find_step-found-requires-clause-passed : goal.find_step-found-requires-clause-passed
 find_step-found-requires-clause-passed g c =
-    let value = g.I.OverlayInt.value in
+    let value = g.I.IntNumber.value in
     let edges = link_edges value c.args.links.now in
     let v = point_of value c.args.at.point in
     let here = c.deref.ensures.value
@@ -35,7 +35,7 @@ find_step-found-requires-clause-passed g c =
 
 pub returns-then-found-len-clause-remaining : goal.returns-then-found-len-clause-remaining
 returns-then-found-len-clause-remaining g c =
-    let value = g.I.OverlayInt.value in
+    let value = g.I.IntNumber.value in
     let edges = link_edges value c.args.links.now in
     let v = point_of value c.args.at.point in
     let here = c.deref.ensures.value
@@ -46,7 +46,7 @@ returns-then-found-len-clause-remaining g c =
 
 pub returns-then-found-len-clause-inside : goal.returns-then-found-len-clause-inside
 returns-then-found-len-clause-inside g c =
-    let value = g.I.OverlayInt.value in
+    let value = g.I.IntNumber.value in
     let edges = link_edges value c.args.links.now in
     let v = point_of value c.args.at.point in
     let found = c.find_step-found.result in
@@ -62,7 +62,7 @@ returns-then-found-len-clause-inside g c =
 
 pub returns-then-found-len-clause-some : goal.returns-then-found-len-clause-some
 returns-then-found-len-clause-some g c =
-    let value = g.I.OverlayInt.value in
+    let value = g.I.IntNumber.value in
     let edges = link_edges value c.args.links.now in
     let v = point_of value c.args.at.point in
     let found = c.find_step-found.result in
@@ -79,7 +79,7 @@ returns-then-found-len-clause-some g c =
 
 pub returns-else-found-len-clause-remaining : goal.returns-else-found-len-clause-remaining
 returns-else-found-len-clause-remaining g c =
-    let value = g.I.OverlayInt.value in
+    let value = g.I.IntNumber.value in
     let edges = link_edges value c.args.links.now in
     let v = point_of value c.args.at.point in
     let here = c.deref.ensures.value
@@ -90,7 +90,7 @@ returns-else-found-len-clause-remaining g c =
 
 pub returns-else-found-len-clause-none : goal.returns-else-found-len-clause-none
 returns-else-found-len-clause-none g c =
-    let value = g.I.OverlayInt.value in
+    let value = g.I.IntNumber.value in
     let edges = link_edges value c.args.links.now in
     let v = point_of value c.args.at.point in
     let found = c.find_step-found.result in

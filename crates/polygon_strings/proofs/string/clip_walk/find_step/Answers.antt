@@ -9,7 +9,7 @@ use Rattle.polygon_strings.proofs.string.clip_walk.find_step.Goals as goal
 
 pub loop-i-preserved : goal.loop-i-preserved
 loop-i-preserved g c =
-    let value = g.I.OverlayInt.value in
+    let value = g.I.IntNumber.value in
     let v = point_of value c.args.v in
     let edges = link_edges value c.args.links.now in
     let left = c.args.left.now in
@@ -29,7 +29,7 @@ loop-i-preserved g c =
 
 pub returns-clause-passed : goal.returns-clause-passed
 returns-clause-passed g c =
-    let value = g.I.OverlayInt.value in
+    let value = g.I.IntNumber.value in
     let places = c.args.places.now in
     subst (ArePassedAlong c.args.forward (point_of value c.args.v) (link_edges value c.args.links.now) c.args.left.now)
     (take_all c.loop-i.i places c.loop-i-test.false ∙ sym (take_all (length places) places (omega arith))) c.loop-i.invariant

@@ -12,19 +12,19 @@ use Rattle.polygon_strings.proofs.string.clip_walk.go_on.Goals as goal
 
 pub loop-next-init : goal.loop-next-init
 loop-next-init g c =
-    let points = points_of g.I.OverlayInt.value c.args.points.now.items in
+    let points = points_of g.I.IntNumber.value c.args.points.now.items in
     record {
       remaining = c.requires.remaining;
       numbered = c.requires.numbered;
       last = c.requires.last;
       begins = ([], sym (append-nil points));
       stay = λ from_a i h. h;
-      passes = IsPermutation-refl (walk_steps c.args.forward points ++ steps_left (link_edges g.I.OverlayInt.value c.args.links.now) c.args.left.now.steps.items);
+      passes = IsPermutation-refl (walk_steps c.args.forward points ++ steps_left (link_edges g.I.IntNumber.value c.args.links.now) c.args.left.now.steps.items);
     }
 
 pub loop-next-smaller : goal.loop-next-smaller
 loop-next-smaller g c =
-    let value = g.I.OverlayInt.value in
+    let value = g.I.IntNumber.value in
     let edges = link_edges value c.args.links.now in
     let step : Edge = step_along c.args.forward (record { a = point_of value c.loop-next.at.point; b = point_of value c.in-Some.next.point }) in
     let less : length (step ∷ steps_left edges c.take_step.new.left.steps.items) ≡ length (steps_left edges c.loop-next.left.steps.items) =
@@ -34,7 +34,7 @@ loop-next-smaller g c =
 
 pub loop-next-preserved : goal.loop-next-preserved
 loop-next-preserved g c =
-    let value = g.I.OverlayInt.value in
+    let value = g.I.IntNumber.value in
     let edges = link_edges value c.args.links.now in
     let before = c.loop-next.invariant in
     let old = points_of value c.loop-next.points.items in

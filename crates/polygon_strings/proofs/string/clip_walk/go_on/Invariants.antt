@@ -10,7 +10,7 @@ use Rattle.polygon_strings.proofs.string.clip_walk.go_on.Given as goal
 -- The path has come to this node, and has passed some of the steps that were left, each once.
 abbrev pub invariant-loop-next : goal.invariant-loop-next
 invariant-loop-next g l =
-    let value = g.I.OverlayInt.value in
+    let value = g.I.IntNumber.value in
     let edges = link_edges value l.links in
     record {
       remaining : AreRemaining edges (map (λ n. n.items) l.nodes) l.left.steps.items l.left.begins.items;
@@ -25,4 +25,4 @@ invariant-loop-next g l =
 
 -- Each step that is passed leaves one less.
 abbrev pub decreases-loop-next : goal.decreases-loop-next
-decreases-loop-next g l = length (steps_left (link_edges g.I.OverlayInt.value l.links) l.left.steps.items)
+decreases-loop-next g l = length (steps_left (link_edges g.I.IntNumber.value l.links) l.left.steps.items)

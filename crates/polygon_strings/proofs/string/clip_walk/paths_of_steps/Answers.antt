@@ -9,7 +9,7 @@ use Rattle.polygon_strings.proofs.string.clip_walk.paths_of_steps.Goals as goal
 
 pub loop-first-init : goal.loop-first-init
 loop-first-init g c =
-    let value = g.I.OverlayInt.value in
+    let value = g.I.IntNumber.value in
     let left = steps_left (link_edges value c.args.links.now) c.args.left.now.steps.items in
     record {
       remaining = c.requires.remaining;
@@ -19,7 +19,7 @@ loop-first-init g c =
 
 pub loop-first-preserved : goal.loop-first-preserved
 loop-first-preserved g c =
-    let value = g.I.OverlayInt.value in
+    let value = g.I.IntNumber.value in
     let edges = link_edges value c.args.links.now in
     let one = c.loop-first.left.steps.items in
     let two = c.begin_path.new.left.steps.items in
@@ -39,7 +39,7 @@ loop-first-preserved g c =
 
 pub returns-clause-clip : goal.returns-clause-clip
 returns-clause-clip g c =
-    let value = g.I.OverlayInt.value in
+    let value = g.I.IntNumber.value in
     let links = c.args.links.now in
     let edges = link_edges value links in
     let left = c.loop-first.left.steps.items in

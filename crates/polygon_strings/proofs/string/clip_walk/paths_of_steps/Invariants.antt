@@ -6,7 +6,7 @@ use Rattle.polygon_strings.proofs.string.clip_walk.paths_of_steps.Given as goal
 -- No step is left along the links before this one: the paths that are found pass them.
 abbrev pub invariant-loop-first : goal.invariant-loop-first
 invariant-loop-first g l =
-    let value = g.I.OverlayInt.value in
+    let value = g.I.IntNumber.value in
     let edges = link_edges value l.links in
     record {
       remaining : AreRemaining edges (map (λ n. n.items) l.nodes) l.left.steps.items l.left.begins.items;

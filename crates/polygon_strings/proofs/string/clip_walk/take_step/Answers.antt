@@ -16,7 +16,7 @@ use Rattle.polygon_strings.proofs.string.clip_walk.take_step.Goals as goal
 
 pub returns-in_err-place-clause-none : goal.returns-in_err-place-clause-none
 returns-in_err-place-clause-none g c =
-    let value = g.I.OverlayInt.value in
+    let value = g.I.IntNumber.value in
     let edges = link_edges value c.args.links.now in
     let v = point_of value c.args.at.point in
     let places = node_list edges (map (λ n. n.items) c.args.nodes.now) c.requires.walkable.joined c.args.at.id c.requires.numbered.0 v (c.requires.numbered.1 v) in
@@ -27,7 +27,7 @@ returns-in_err-place-clause-none g c =
 
 pub pass-requires : goal.pass-requires
 pass-requires g c =
-    let same = length-map c.args.links.now (link_edge_of g.I.OverlayInt.value) in
+    let same = length-map c.args.links.now (link_edge_of g.I.IntNumber.value) in
     record { inside = omega (arith, c.in_ok-place.ensures.inside, c.find_place.ensures.remaining.beside, same) }
 
 pub returns-clause-stay : goal.returns-clause-stay
@@ -35,11 +35,11 @@ returns-clause-stay g c = subst (λ l. StayPassed l c.pass.new.self.steps.items)
 
 pub returns-clause-remaining : goal.returns-clause-remaining
 returns-clause-remaining g c =
-    c.pass.ensures.remaining (link_edges g.I.OverlayInt.value c.args.links.now) (map (λ n. n.items) c.args.nodes.now) c.find_place.ensures.remaining
+    c.pass.ensures.remaining (link_edges g.I.IntNumber.value c.args.links.now) (map (λ n. n.items) c.args.nodes.now) c.find_place.ensures.remaining
 
 pub returns-clause-numbered : goal.returns-clause-numbered
 returns-clause-numbered g c =
-    let value = g.I.OverlayInt.value in
+    let value = g.I.IntNumber.value in
     let points = ends_of (link_edges value c.args.links.now) in
     let both =
     subst (λ l. IsNumbered value points l.a × IsNumbered value points l.b) (sym c.index-links-place.is)
@@ -51,7 +51,7 @@ returns-clause-numbered g c =
 
 pub returns-clause-passes : goal.returns-clause-passes
 returns-clause-passes g c =
-    let value = g.I.OverlayInt.value in
+    let value = g.I.IntNumber.value in
     let edges = link_edges value c.args.links.now in
     let v = point_of value c.args.at.point in
     let left = c.find_place.new.left.steps.items in

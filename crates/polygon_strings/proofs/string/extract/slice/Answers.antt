@@ -14,7 +14,7 @@ use Rattle.polygon_strings.proofs.string.extract.slice.Goals as goal
 
 pub find_walks-requires : goal.find_walks-requires
 find_walks-requires g c =
-    let value = g.I.OverlayInt.value in
+    let value = g.I.IntNumber.value in
     let graph = c.args.graph.now in
     let given = c.requires.graph in
     sliceable value g.I.OverlayInt.least g.I.OverlayInt.greatest c.args.clockwise given.0 given.1 (string_links_of graph) given.2.arrangement given.2.links (lists_lent_by graph)
@@ -22,11 +22,11 @@ find_walks-requires g c =
 
 pub pieces_of-requires-clause-in_range : goal.pieces_of-requires-clause-in_range
 pieces_of-requires-clause-in_range g c =
-    subst (λ w. All (All (IsWithin g.I.OverlayInt.least g.I.OverlayInt.greatest)) (contours_of g.I.OverlayInt.value w)) (sym c.deref.ensures.value) c.in_ok-walks.ensures.in_range
+    subst (λ w. All (All (IsWithin g.I.OverlayInt.least g.I.OverlayInt.greatest)) (contours_of g.I.IntNumber.value w)) (sym c.deref.ensures.value) c.in_ok-walks.ensures.in_range
 
 pub pieces_of-requires-clause-pass : goal.pieces_of-requires-clause-pass
 pieces_of-requires-clause-pass g c =
-    let value = g.I.OverlayInt.value in
+    let value = g.I.IntNumber.value in
     let output = c.args.clockwise in
     let given = c.requires.graph in (
       halves given.0 given.1,
@@ -37,7 +37,7 @@ pieces_of-requires-clause-pass g c =
 
 pub returns-clause-slice : goal.returns-clause-slice
 returns-clause-slice g c =
-    let value = g.I.OverlayInt.value in
+    let value = g.I.IntNumber.value in
     let output = c.args.clockwise in
     if_answered c.pieces_of.result
     (λ found is fill es h. record {
@@ -48,7 +48,7 @@ returns-clause-slice g c =
 
 pub returns-clause-winds : goal.returns-clause-winds
 returns-clause-winds g c none_left_out =
-    let value = g.I.OverlayInt.value in
+    let value = g.I.IntNumber.value in
     let output = c.args.clockwise in
     let found_walks = contours_of value c.in_ok-walks.walks.items in
     if_answered c.pieces_of.result

@@ -12,13 +12,13 @@ use Rattle.polygon_strings.proofs.string.pieces.add_loops.Goals as goal
 
 pub loop-place-init : goal.loop-place-init
 loop-place-init g c = record {
-  shapes = sym (append-nil (shapes_of g.I.OverlayInt.value c.args.shapes.now.items));
-  holes = sym (append-nil (contours_of g.I.OverlayInt.value c.args.holes.now.items));
+  shapes = sym (append-nil (shapes_of g.I.IntNumber.value c.args.shapes.now.items));
+  holes = sym (append-nil (contours_of g.I.IntNumber.value c.args.holes.now.items));
 }
 
 pub add_loop-requires : goal.add_loop-requires
 add_loop-requires g c =
-    let value = g.I.OverlayInt.value in
+    let value = g.I.IntNumber.value in
     let within = IsWithin g.I.OverlayInt.least g.I.OverlayInt.greatest in
     let points = c.deref.ensures.value ∙ ap (λ p. p.points.items) (sym c.index-loops-place.is) in
     subst (All within) (sym (ap (points_of value) points))
@@ -26,7 +26,7 @@ add_loop-requires g c =
 
 pub loop-place-preserved : goal.loop-place-preserved
 loop-place-preserved g c =
-    let value = g.I.OverlayInt.value in
+    let value = g.I.IntNumber.value in
     let output = c.args.clockwise in
     let place = c.loop-place.place in
     let path = c.index-loops-place.result in
@@ -51,14 +51,14 @@ loop-place-preserved g c =
 
 pub returns-clause-shapes : goal.returns-clause-shapes
 returns-clause-shapes g c =
-    let value = g.I.OverlayInt.value in
+    let value = g.I.IntNumber.value in
     let loops = c.args.loops.now in
     let all = take_all c.loop-place.place (contours_of value loops) (omega (arith, length-map loops (λ p. points_of value p.points.items), c.loop-place-test.false)) in
     c.loop-place.invariant.shapes ∙ ap (λ ls. shapes_of value c.args.shapes.now.items ++ outlines_of c.args.clockwise ls) all
 
 pub returns-clause-holes : goal.returns-clause-holes
 returns-clause-holes g c =
-    let value = g.I.OverlayInt.value in
+    let value = g.I.IntNumber.value in
     let loops = c.args.loops.now in
     let all = take_all c.loop-place.place (contours_of value loops) (omega (arith, length-map loops (λ p. points_of value p.points.items), c.loop-place-test.false)) in
     c.loop-place.invariant.holes ∙ ap (λ ls. contours_of value c.args.holes.now.items ++ holes_of c.args.clockwise ls) all

@@ -9,5 +9,5 @@ use Rattle.polygon_strings.proofs.string.pieces.least_point.Given as goal
 -- The least of the points behind is known.
 abbrev pub invariant-loop-done : goal.invariant-loop-done
 invariant-loop-done g l =
-    (point_if_any g.I.OverlayInt.value l.least ≡ least_point (points_of g.I.OverlayInt.value (drop (length l.points - l.done) l.points)))
-    × IfSome l.least (λ p. IsWithin g.I.OverlayInt.least g.I.OverlayInt.greatest (point_of g.I.OverlayInt.value p))
+    (point_if_any g.I.IntNumber.value l.least ≡ least_point (points_of g.I.IntNumber.value (drop (length l.points - l.done) l.points)))
+    × IfSome l.least (λ p. IsWithin g.I.OverlayInt.least g.I.OverlayInt.greatest (point_of g.I.IntNumber.value p))

@@ -11,7 +11,7 @@ use Rattle.polygon_strings.proofs.string.pieces.loops_of.Goals as goal
 
 pub split_loops-requires : goal.split_loops-requires
 split_loops-requires g c =
-    let value = g.I.OverlayInt.value in
+    let value = g.I.IntNumber.value in
     let within = All (IsWithin g.I.OverlayInt.least g.I.OverlayInt.greatest) in
     let points = c.deref.ensures.value ∙ ap (λ w. w.points.items) (sym c.index-walks-place.is) in
     subst within (sym (ap (points_of value) points))
@@ -19,7 +19,7 @@ split_loops-requires g c =
 
 pub loop-place-preserved : goal.loop-place-preserved
 loop-place-preserved g c =
-    let value = g.I.OverlayInt.value in
+    let value = g.I.IntNumber.value in
     let loops = long_loops c.args.min_area in
     let walks = contours_of value c.args.walks.now in
     let place = c.loop-place.place in
@@ -34,7 +34,7 @@ loop-place-preserved g c =
 
 pub returns-clause-is : goal.returns-clause-is
 returns-clause-is g c =
-    let value = g.I.OverlayInt.value in
+    let value = g.I.IntNumber.value in
     let walks = contours_of value c.args.walks.now in
     c.loop-place.invariant
     ∙ ap (flat_map (long_loops c.args.min_area)) (take_all c.loop-place.place walks (omega (arith, length-map c.args.walks.now (λ w. points_of value w.points.items), c.loop-place-test.false)))

@@ -11,14 +11,14 @@ use Rattle.polygon_strings.proofs.string.pieces.pieces_of.Goals as goal
 
 pub add_loops-requires : goal.add_loops-requires
 add_loops-requires g c =
-    let value = g.I.OverlayInt.value in
+    let value = g.I.IntNumber.value in
     let within = IsWithin g.I.OverlayInt.least g.I.OverlayInt.greatest in
     subst (All (All within)) (sym (ap (contours_of value) c.deref.ensures.value ∙ c.in_ok-loops.ensures.is))
     (loops_within c.loops_keep_steps.ensures c.args.min_area within (contours_of value c.args.walks.now) c.requires.in_range)
 
 pub join_unsorted_holes-requires-clause-in_range : goal.join_unsorted_holes-requires-clause-in_range
 join_unsorted_holes-requires-clause-in_range g c = λ few.
-    let value = g.I.OverlayInt.value in
+    let value = g.I.IntNumber.value in
     let output = c.args.clockwise in
     let found = flat_map (long_loops c.args.min_area) (contours_of value c.args.walks.now) in
     let given : contours_of value c.deref.result.now ≡ found = ap (contours_of value) c.deref.ensures.value ∙ c.in_ok-loops.ensures.is in
@@ -35,7 +35,7 @@ join_unsorted_holes-requires-clause-in_range g c = λ few.
 
 pub join_unsorted_holes-requires-clause-can_be_bound : goal.join_unsorted_holes-requires-clause-can_be_bound
 join_unsorted_holes-requires-clause-can_be_bound g c = λ few.
-    let value = g.I.OverlayInt.value in
+    let value = g.I.IntNumber.value in
     let output = c.args.clockwise in
     let found = flat_map (long_loops c.args.min_area) (contours_of value c.args.walks.now) in
     let given : contours_of value c.deref.result.now ≡ found = ap (contours_of value) c.deref.ensures.value ∙ c.in_ok-loops.ensures.is in
@@ -50,7 +50,7 @@ join_unsorted_holes-requires-clause-can_be_bound g c = λ few.
 
 pub returns-clause-is : goal.returns-clause-is
 returns-clause-is g c =
-    let value = g.I.OverlayInt.value in
+    let value = g.I.IntNumber.value in
     let output = c.args.clockwise in
     let found = flat_map (long_loops c.args.min_area) (contours_of value c.args.walks.now) in
     let given : contours_of value c.deref.result.now ≡ found = ap (contours_of value) c.deref.ensures.value ∙ c.in_ok-loops.ensures.is in
@@ -65,4 +65,4 @@ pub returns-clause-in_range : goal.returns-clause-in_range
 returns-clause-in_range g c =
     let within = IsWithin g.I.OverlayInt.least g.I.OverlayInt.greatest in
     subst (λ shapes. All (All within) (all_contours shapes)) (sym (returns-clause-is g c))
-    (pieces_keep c.loops_keep_steps.ensures within c.args.clockwise c.args.min_area (contours_of g.I.OverlayInt.value c.args.walks.now) c.requires.in_range)
+    (pieces_keep c.loops_keep_steps.ensures within c.args.clockwise c.args.min_area (contours_of g.I.IntNumber.value c.args.walks.now) c.requires.in_range)

@@ -2,13 +2,13 @@ use Rattle.std.proofs.Common.{◌≡◌, ◌<◌, ◌+◌, suc, length, get_or, 
 use Rattle.std.proofs.lemmas.List.{get_or-map, length-map}
 use Rattle.plane_base.specs.Plane.{Edge, IsWithin}
 use Rattle.plane_base.specs.Views.{point_of, points_of}
-use Rattle.plane_base.proofs.Facts.Lists.Views.{All-mapped}
+use Rattle.plane_base.proofs.Facts.Lists.Views.{All_at}
 use Rattle.polygon_strings.proofs.Slicing.Turns.{ends_at_next, ends_at_first}
 use Rattle.polygon_strings.proofs.string.pieces.point_after.Goals as goal
 
 pub returns-then-place-points-clause-is : goal.returns-then-place-points-clause-is
 returns-then-place-points-clause-is g c = λ d.
-    let f = point_of g.I.OverlayInt.value in
+    let f = point_of g.I.IntNumber.value in
     let points = c.args.points.now in
     let place = c.args.place in
     let p = c.index-points-place.result in
@@ -21,11 +21,11 @@ returns-then-place-points-clause-is g c = λ d.
 
 pub returns-then-place-points-clause-in_range : goal.returns-then-place-points-clause-in_range
 returns-then-place-points-clause-in_range g c = λ all.
-    All-mapped (IsWithin g.I.OverlayInt.least g.I.OverlayInt.greatest) (point_of g.I.OverlayInt.value) c.args.points.now (c.args.place + 1) c.index-points-place.result c.if-place-points.true c.index-points-place.is all
+    All_at (IsWithin g.I.OverlayInt.least g.I.OverlayInt.greatest) c.args.points.now (c.args.place + 1) c.index-points-place.result c.if-place-points.true c.index-points-place.is all
 
 pub returns-else-place-points-clause-is : goal.returns-else-place-points-clause-is
 returns-else-place-points-clause-is g c = λ d.
-    let f = point_of g.I.OverlayInt.value in
+    let f = point_of g.I.IntNumber.value in
     let points = c.args.points.now in
     let place = c.args.place in
     let p = c.index-points-0.result in
@@ -37,4 +37,4 @@ returns-else-place-points-clause-is g c = λ d.
 
 pub returns-else-place-points-clause-in_range : goal.returns-else-place-points-clause-in_range
 returns-else-place-points-clause-in_range g c = λ all.
-    All-mapped (IsWithin g.I.OverlayInt.least g.I.OverlayInt.greatest) (point_of g.I.OverlayInt.value) c.args.points.now 0 c.index-points-0.result (omega (arith, c.requires)) c.index-points-0.is all
+    All_at (IsWithin g.I.OverlayInt.least g.I.OverlayInt.greatest) c.args.points.now 0 c.index-points-0.result (omega (arith, c.requires)) c.index-points-0.is all

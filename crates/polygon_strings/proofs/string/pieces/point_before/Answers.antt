@@ -3,7 +3,7 @@ use Rattle.std.specs.List.{find}
 use Rattle.std.proofs.lemmas.List.{length-map, get_or-map, take_all}
 use Rattle.plane_base.specs.Plane.{Edge, IsWithin}
 use Rattle.plane_base.specs.Views.{point_of, points_of}
-use Rattle.plane_base.proofs.Facts.Lists.Views.{All-mapped}
+use Rattle.plane_base.proofs.Facts.Lists.Views.{All_at}
 use Rattle.contour_walk.specs.Walks.{same_point}
 use Rattle.contour_walk.specs.WalkLaws.{contour_steps}
 use Rattle.polygon_strings.specs.SliceWalks.{start_of}
@@ -12,7 +12,7 @@ use Rattle.polygon_strings.proofs.string.pieces.point_before.Goals as goal
 
 pub loop-place-preserved : goal.loop-place-preserved
 loop-place-preserved g c =
-    let value = g.I.OverlayInt.value in
+    let value = g.I.IntNumber.value in
     let points = points_of value c.args.points.now in
     let v = point_of value c.args.v in
     let place = c.loop-place.place in
@@ -28,7 +28,7 @@ loop-place-preserved g c =
 
 pub returns-then-is_at-clause-is : goal.returns-then-is_at-clause-is
 returns-then-is_at-clause-is g c =
-    let value = g.I.OverlayInt.value in
+    let value = g.I.IntNumber.value in
     let points = points_of value c.args.points.now in
     let v = point_of value c.args.v in
     let place = c.loop-place.place in
@@ -46,12 +46,12 @@ returns-then-is_at-clause-is g c =
 
 pub returns-then-is_at-clause-in_range : goal.returns-then-is_at-clause-in_range
 returns-then-is_at-clause-in_range g c =
-    All-mapped (IsWithin g.I.OverlayInt.least g.I.OverlayInt.greatest) (point_of g.I.OverlayInt.value) c.args.points.now c.loop-place.place
+    All_at (IsWithin g.I.OverlayInt.least g.I.OverlayInt.greatest) c.args.points.now c.loop-place.place
     c.index-points-place.result c.loop-place-test.true c.index-points-place.is c.requires
 
 pub returns-clause-is : goal.returns-clause-is
 returns-clause-is g c =
-    let value = g.I.OverlayInt.value in
+    let value = g.I.IntNumber.value in
     let points = points_of value c.args.points.now in
     let v = point_of value c.args.v in
     sym (ap (λ l. start_of (find (λ (s : Edge). same_point s.b v) l))

@@ -9,5 +9,5 @@ use Rattle.polygon_strings.proofs.string.pieces.point_before.Given as goal
 -- None of the steps before this place is the one.
 abbrev pub invariant-loop-place : goal.invariant-loop-place
 invariant-loop-place g l =
-    let value = g.I.OverlayInt.value in
+    let value = g.I.IntNumber.value in
     find (λ (s : Edge). same_point s.b (point_of value l.v)) (take l.place (contour_steps (points_of value l.points))) ≡ None

@@ -12,7 +12,7 @@ use Rattle.polygon_strings.proofs.string.pieces.point_behind.Goals as goal
 
 pub loop-place-preserved : goal.loop-place-preserved
 loop-place-preserved g c =
-    let value = g.I.OverlayInt.value in
+    let value = g.I.IntNumber.value in
     let points = points_of value c.args.points.now in
     let v = point_of value c.args.v in
     let place = c.loop-place.place in
@@ -31,7 +31,7 @@ loop-place-preserved g c =
 
 pub returns-then-is_at-clause-is : goal.returns-then-is_at-clause-is
 returns-then-is_at-clause-is g c =
-    let value = g.I.OverlayInt.value in
+    let value = g.I.IntNumber.value in
     let points = points_of value c.args.points.now in
     let v = point_of value c.args.v in
     let place = c.loop-place.place in
@@ -52,7 +52,7 @@ returns-then-is_at-clause-in_range g c = c.point_after.ensures.in_range c.requir
 
 pub returns-clause-is : goal.returns-clause-is
 returns-clause-is g c =
-    let value = g.I.OverlayInt.value in
+    let value = g.I.IntNumber.value in
     let points = points_of value c.args.points.now in
     let v = point_of value c.args.v in
     sym (ap (λ l. end_of (find (λ (s : Edge). same_point s.a v) l))

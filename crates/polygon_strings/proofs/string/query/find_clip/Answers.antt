@@ -63,7 +63,7 @@ build_string_clip-requires-clause-arrangement g c =
 
 pub find_paths-requires : goal.find_paths-requires
 find_paths-requires g c =
-    let value = g.I.OverlayInt.value in
+    let value = g.I.IntNumber.value in
     let fill = fill_rule_of c.args.fill_rule in
     let clip = c.args.clip_rule in
     let es = string_map c.args.solver.now.precision c.args.held.now.edges in
@@ -80,7 +80,7 @@ find_paths-requires g c =
 
 pub returns-clause-clip : goal.returns-clause-clip
 returns-clause-clip g c =
-    let value = g.I.OverlayInt.value in
+    let value = g.I.IntNumber.value in
     let fill = fill_rule_of c.args.fill_rule in
     let clip = c.args.clip_rule in
     let es = string_map c.args.solver.now.precision c.args.held.now.edges in
@@ -97,10 +97,10 @@ returns-clause-in_range g c =
     let es = string_map c.args.solver.now.precision c.args.held.now.edges in
     let inside : AreWithin g.I.OverlayInt.least g.I.OverlayInt.greatest es =
     subst (AreWithin g.I.OverlayInt.least g.I.OverlayInt.greatest) (ap (λ h. h.edges) c.in_ok-redraw.ensures.redrawn) c.in_ok-redraw.ensures.held.within in
-    let found : IfOk c.find_paths.result (λ paths. IsClip (kept_steps (fill_rule_of c.args.fill_rule) c.args.clip_rule es) (contours_of g.I.OverlayInt.value paths.items)) =
+    let found : IfOk c.find_paths.result (λ paths. IsClip (kept_steps (fill_rule_of c.args.fill_rule) c.args.clip_rule es) (contours_of g.I.IntNumber.value paths.items)) =
     returns-clause-clip g c in
     if_answered c.find_paths.result
-    (λ paths is. clip_stands within (fill_rule_of c.args.fill_rule) c.args.clip_rule es (contours_of g.I.OverlayInt.value paths.items) inside is) found
+    (λ paths is. clip_stands within (fill_rule_of c.args.fill_rule) c.args.clip_rule es (contours_of g.I.IntNumber.value paths.items) inside is) found
 
 pub returns-clause-refused : goal.returns-clause-refused
 returns-clause-refused g c =

@@ -33,7 +33,7 @@ returns-in_err-view-clause-asked g c =
 
 pub extract_shapes-requires : goal.extract_shapes-requires
 extract_shapes-requires g c =
-    let value = g.I.OverlayInt.value in
+    let value = g.I.IntNumber.value in
     let fill = fill_rule_of c.args.fill_rule in
     let es = string_map default_precision (held_by c.args.overlay.now) in
     let lent = subst (LendsGraph value g.I.OverlayInt.least g.I.OverlayInt.greatest fill es) c.in-Some.is c.in_ok-view.ensures.lent in
@@ -41,7 +41,7 @@ extract_shapes-requires g c =
 
 pub returns-in-Some-clause-slice : goal.returns-in-Some-clause-slice
 returns-in-Some-clause-slice g c =
-    let value = g.I.OverlayInt.value in
+    let value = g.I.IntNumber.value in
     let fill = fill_rule_of c.args.fill_rule in
     let es = string_map default_precision (held_by c.args.overlay.now) in
     let lent = subst (LendsGraph value g.I.OverlayInt.least g.I.OverlayInt.greatest fill es) c.in-Some.is c.in_ok-view.ensures.lent in
@@ -49,7 +49,7 @@ returns-in-Some-clause-slice g c =
 
 pub returns-in-Some-clause-winds : goal.returns-in-Some-clause-winds
 returns-in-Some-clause-winds g c =
-    let value = g.I.OverlayInt.value in
+    let value = g.I.IntNumber.value in
     let fill = fill_rule_of c.args.fill_rule in
     let es = string_map default_precision (held_by c.args.overlay.now) in
     let lent = subst (LendsGraph value g.I.OverlayInt.least g.I.OverlayInt.greatest fill es) c.in-Some.is c.in_ok-view.ensures.lent in
@@ -63,7 +63,7 @@ returns-in-Some-clause-asked g c =
 
 pub returns-in-None-clause-slice : goal.returns-in-None-clause-slice
 returns-in-None-clause-slice g c =
-    let value = g.I.OverlayInt.value in
+    let value = g.I.IntNumber.value in
     let fill = fill_rule_of c.args.fill_rule in
     let es = string_map default_precision (held_by c.args.overlay.now) in
     let lent = subst (LendsGraph value g.I.OverlayInt.least g.I.OverlayInt.greatest fill es) c.in-None.is c.in_ok-view.ensures.lent in
@@ -71,7 +71,7 @@ returns-in-None-clause-slice g c =
 
 pub returns-in-None-clause-winds : goal.returns-in-None-clause-winds
 returns-in-None-clause-winds g c =
-    let value = g.I.OverlayInt.value in
+    let value = g.I.IntNumber.value in
     let fill = fill_rule_of c.args.fill_rule in
     let es = string_map default_precision (held_by c.args.overlay.now) in
     let lent = subst (LendsGraph value g.I.OverlayInt.least g.I.OverlayInt.greatest fill es) c.in-None.is c.in_ok-view.ensures.lent in
@@ -81,7 +81,7 @@ returns-in-None-clause-winds g c =
 pub returns-in-None-clause-in_range : goal.returns-in-None-clause-in_range
 returns-in-None-clause-in_range g c =
     let within = IsWithin g.I.OverlayInt.least g.I.OverlayInt.greatest in
-    subst (λ items. All (All within) (all_contours (shapes_of g.I.OverlayInt.value items))) (sym c.new.ensures.items) (All-nil (All within))
+    subst (λ items. All (All within) (all_contours (shapes_of g.I.IntNumber.value items))) (sym c.new.ensures.items) (All-nil (All within))
 
 pub returns-in-None-clause-asked : goal.returns-in-None-clause-asked
 returns-in-None-clause-asked g c = record { ready = c.in_ok-view.ensures.asked.ready; refused = tt }

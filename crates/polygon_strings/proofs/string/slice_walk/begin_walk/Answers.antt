@@ -17,7 +17,7 @@ use Rattle.polygon_strings.proofs.string.slice_walk.begin_walk.Goals as goal
 
 pub walk_from-requires-clause-among : goal.walk_from-requires-clause-among
 walk_from-requires-clause-among g c =
-    let value = g.I.OverlayInt.value in
+    let value = g.I.IntNumber.value in
     let links = string_links_of c.args.graph.now in
     let seen = map (overlay_link_of value) links in
     left_among (GoesOnBy c.args.turns.now.clockwise (halves_along seen)) (half_steps c.args.turns.now.clockwise seen) (contours_of value c.args.walks.now.items)
@@ -25,7 +25,7 @@ walk_from-requires-clause-among g c =
 
 pub returns-clause-passed : goal.returns-clause-passed
 returns-clause-passed g c =
-    let value = g.I.OverlayInt.value in
+    let value = g.I.IntNumber.value in
     let links = string_links_of c.args.graph.now in
     let seen = map (overlay_link_of value) links in
     let output = c.args.turns.now.clockwise in
@@ -47,7 +47,7 @@ returns-clause-passed g c =
 
 pub returns-clause-in_range : goal.returns-clause-in_range
 returns-clause-in_range g c =
-    let value = g.I.OverlayInt.value in
+    let value = g.I.IntNumber.value in
     let within = All (IsWithin g.I.OverlayInt.least g.I.OverlayInt.greatest) in
     let walks : contours_of value c.push.new.self.items ≡ contours_of value c.args.walks.now.items ++ points_of value c.in_ok-points.points.items ∷ [] =
     ap (contours_of value) c.in_ok-push.ensures.items ∙ map_push (λ p. points_of value p.points.items) c.args.walks.now.items _ in

@@ -18,7 +18,7 @@ use Rattle.polygon_strings.proofs.string.slice_walk.go_on.Goals as goal
 
 pub loop-next-smaller : goal.loop-next-smaller
 loop-next-smaller g c =
-    let value = g.I.OverlayInt.value in
+    let value = g.I.IntNumber.value in
     let edges = link_edges value (string_links_of c.args.graph.now) in
     let step : Edge = record { a = point_of value c.loop-next.at.point; b = point_of value c.in-Some.next.point } in
     let less : length (step ∷ steps_left edges c.take_next.new.left) ≡ length (steps_left edges c.loop-next.left) =
@@ -42,7 +42,7 @@ returns-in_err-push-clause-stay g c = stay_through c.args.left.now c.loop-next.l
 
 pub loop-next-preserved : goal.loop-next-preserved
 loop-next-preserved g c =
-    let value = g.I.OverlayInt.value in
+    let value = g.I.IntNumber.value in
     let links = string_links_of c.args.graph.now in
     let edges = link_edges value links in
     let old = points_of value c.loop-next.points.items in
@@ -72,7 +72,7 @@ loop-next-preserved g c =
 
 pub returns-clause-come : goal.returns-clause-come
 returns-clause-come g c = λ all h.
-    let value = g.I.OverlayInt.value in
+    let value = g.I.IntNumber.value in
     let links = string_links_of c.args.graph.now in
     let edges = link_edges value links in
     let goes_on = GoesOnBy c.args.turns.now.clockwise (halves_along (map (overlay_link_of value) links)) in

@@ -13,7 +13,7 @@ use Rattle.polygon_strings.proofs.string.slice_walk.go_on.Given as goal
 -- The walk has come to this node by the step of a half, and has passed some of the steps that were left, each once.
 abbrev pub invariant-loop-next : goal.invariant-loop-next
 invariant-loop-next g l =
-    let value = g.I.OverlayInt.value in
+    let value = g.I.IntNumber.value in
     let links = string_links_of l.graph in
     let edges = link_edges value links in
     let seen = map (overlay_link_of value) links in
@@ -31,4 +31,4 @@ invariant-loop-next g l =
 
 -- Each step that is passed leaves one less.
 abbrev pub decreases-loop-next : goal.decreases-loop-next
-decreases-loop-next g l = length (steps_left (link_edges g.I.OverlayInt.value (string_links_of l.graph)) l.left)
+decreases-loop-next g l = length (steps_left (link_edges g.I.IntNumber.value (string_links_of l.graph)) l.left)

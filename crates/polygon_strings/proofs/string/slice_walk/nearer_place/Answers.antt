@@ -7,7 +7,7 @@ use Rattle.polygon_strings.proofs.string.slice_walk.nearer_place.Goals as goal
 
 pub returns-then-not-has_halves-clause-is : goal.returns-then-not-has_halves-clause-is
 returns-then-not-has_halves-clause-is g c = λ places h.
-    let value = g.I.OverlayInt.value in
+    let value = g.I.IntNumber.value in
     let v = point_of value c.args.v in
     let seen = map (overlay_link_of value) c.args.links.now in
     let no = ap (λ l. has_halves l.fill) (link_here value c.args.links.now v c.args.place c.index-links-place.result c.requires.inside c.index-links-place.is) ∙ (sym c.has_halves.ensures ∙ c.if-not-has_halves.true) in
@@ -15,7 +15,7 @@ returns-then-not-has_halves-clause-is g c = λ places h.
 
 pub returns-then-is_nearer-clause-is : goal.returns-then-is_nearer-clause-is
 returns-then-is_nearer-clause-is g c = λ places h.
-    let value = g.I.OverlayInt.value in
+    let value = g.I.IntNumber.value in
     let v = point_of value c.args.v in
     let from = point_of value c.args.from in
     let seen = map (overlay_link_of value) c.args.links.now in
@@ -24,7 +24,7 @@ returns-then-is_nearer-clause-is g c = λ places h.
 
 pub returns-else-is_nearer-clause-is : goal.returns-else-is_nearer-clause-is
 returns-else-is_nearer-clause-is g c = λ places h.
-    let value = g.I.OverlayInt.value in
+    let value = g.I.IntNumber.value in
     let v = point_of value c.args.v in
     let from = point_of value c.args.from in
     let seen = map (overlay_link_of value) c.args.links.now in

@@ -17,7 +17,7 @@ use Rattle.polygon_strings.proofs.string.slice_walk.next_by_search.Goals as goal
 
 pub next_place-requires : goal.next_place-requires
 next_place-requires g c =
-    let value = g.I.OverlayInt.value in
+    let value = g.I.IntNumber.value in
     let links = string_links_of c.args.graph.now in
     let edges = link_edges value links in
     let v = point_of value c.args.at.point in
@@ -36,7 +36,7 @@ next_place-requires g c =
 
 pub returns-clause-goes_on : goal.returns-clause-goes_on
 returns-clause-goes_on g c =
-    let value = g.I.OverlayInt.value in
+    let value = g.I.IntNumber.value in
     let links = string_links_of c.args.graph.now in
     let edges = link_edges value links in
     let v = point_of value c.args.at.point in
@@ -58,7 +58,7 @@ returns-clause-goes_on g c =
 
 pub returns-clause-some : goal.returns-clause-some
 returns-clause-some g c = λ none.
-    let value = g.I.OverlayInt.value in
+    let value = g.I.IntNumber.value in
     let links = string_links_of c.args.graph.now in
     let edges = link_edges value links in
     let v = point_of value c.args.at.point in

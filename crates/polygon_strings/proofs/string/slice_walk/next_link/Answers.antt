@@ -14,7 +14,7 @@ use Rattle.polygon_strings.proofs.string.slice_walk.next_link.Goals as goal
 
 pub returns-in-Some-clause-inside : goal.returns-in-Some-clause-inside
 returns-in-Some-clause-inside g c =
-    let value = g.I.OverlayInt.value in
+    let value = g.I.IntNumber.value in
     let links = string_links_of c.args.graph.now in
     let edges = link_edges value links in
     let output = c.args.turns.now.clockwise in
@@ -29,7 +29,7 @@ returns-in-Some-clause-inside g c =
 
 pub returns-in-Some-clause-goes_on : goal.returns-in-Some-clause-goes_on
 returns-in-Some-clause-goes_on g c = λ d.
-    let value = g.I.OverlayInt.value in
+    let value = g.I.IntNumber.value in
     let links = string_links_of c.args.graph.now in
     let output = c.args.turns.now.clockwise in
     let v = point_of value c.args.at.point in

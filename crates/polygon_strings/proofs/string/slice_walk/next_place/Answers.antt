@@ -8,12 +8,12 @@ use Rattle.polygon_strings.proofs.string.slice_walk.next_place.Goals as goal
 
 pub loop-done-init : goal.loop-done-init
 loop-done-init g c =
-    let value = g.I.OverlayInt.value in
+    let value = g.I.IntNumber.value in
     (ap (points_ahead (point_of value c.args.v) (map (overlay_link_of value) c.args.links.now)) (none_back c.args.places.now), tt)
 
 pub loop-done-preserved : goal.loop-done-preserved
 loop-done-preserved g c =
-    let value = g.I.OverlayInt.value in
+    let value = g.I.IntNumber.value in
     let places = c.args.places.now in
     let i = length places - 1 - c.loop-done.done in
     let inside : i < length places = omega (arith, c.loop-done-test.true) in
@@ -25,7 +25,7 @@ loop-done-preserved g c =
 
 pub returns-clause-is : goal.returns-clause-is
 returns-clause-is g c =
-    let value = g.I.OverlayInt.value in
+    let value = g.I.IntNumber.value in
     subst (λ l. IsNextPlace c.args.clockwise (point_of value c.args.v) (point_of value c.args.from) (map (overlay_link_of value) c.args.links.now) l c.loop-done.found)
     (all_back c.args.places.now c.loop-done.done (omega (arith, c.loop-done-test.false))) c.loop-done.invariant.0
 

@@ -8,6 +8,6 @@ use Rattle.polygon_strings.proofs.string.slice_walk.next_place.Given as goal
 -- Of the places behind, that of the link that is met first is known.
 abbrev pub invariant-loop-done : goal.invariant-loop-done
 invariant-loop-done g l =
-    let value = g.I.OverlayInt.value in
+    let value = g.I.IntNumber.value in
     IsNextPlace l.clockwise (point_of value l.v) (point_of value l.from) (map (overlay_link_of value) l.links) (drop (length l.places - l.done) l.places) l.found
     × IfSome l.found (λ place. place < length l.links)

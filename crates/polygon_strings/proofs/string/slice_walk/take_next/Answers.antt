@@ -19,7 +19,7 @@ use Rattle.polygon_strings.proofs.string.slice_walk.take_next.Goals as goal
 
 pub returns-then-not-is_left-clause-none : goal.returns-then-not-is_left-clause-none
 returns-then-not-is_left-clause-none g c =
-    let value = g.I.OverlayInt.value in
+    let value = g.I.IntNumber.value in
     let links = string_links_of c.args.graph.now in
     let edges = link_edges value links in
     let v = point_of value c.args.at.point in
@@ -46,7 +46,7 @@ returns-clause-stay g c =
 
 pub returns-clause-numbered : goal.returns-clause-numbered
 returns-clause-numbered g c =
-    let value = g.I.OverlayInt.value in
+    let value = g.I.IntNumber.value in
     let links = string_links_of c.args.graph.now in
     let points = ends_of (link_edges value links) in
     let place = c.in_ok-place.place in
@@ -57,7 +57,7 @@ returns-clause-numbered g c =
 
 pub returns-clause-goes_on : goal.returns-clause-goes_on
 returns-clause-goes_on g c =
-    let value = g.I.OverlayInt.value in
+    let value = g.I.IntNumber.value in
     let links = string_links_of c.args.graph.now in
     let edges = link_edges value links in
     let v = point_of value c.args.at.point in
@@ -73,7 +73,7 @@ returns-clause-goes_on g c =
 
 pub returns-clause-passes : goal.returns-clause-passes
 returns-clause-passes g c =
-    let value = g.I.OverlayInt.value in
+    let value = g.I.IntNumber.value in
     let links = string_links_of c.args.graph.now in
     let edges = link_edges value links in
     let v = point_of value c.args.at.point in

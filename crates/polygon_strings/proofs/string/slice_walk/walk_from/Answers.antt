@@ -20,7 +20,7 @@ use Rattle.polygon_strings.proofs.string.slice_walk.walk_from.Goals as goal
 
 pub go_on-requires-clause-numbered : goal.go_on-requires-clause-numbered
 go_on-requires-clause-numbered g c =
-    let value = g.I.OverlayInt.value in
+    let value = g.I.IntNumber.value in
     let links = string_links_of c.args.graph.now in
     let points = ends_of (link_edges value links) in
     let inside : c.args.first < length links = c.requires.inside in
@@ -36,7 +36,7 @@ go_on-requires-clause-numbered g c =
 
 pub go_on-requires-clause-along : goal.go_on-requires-clause-along
 go_on-requires-clause-along g c =
-    let value = g.I.OverlayInt.value in
+    let value = g.I.IntNumber.value in
     let links = string_links_of c.args.graph.now in
     let edges = link_edges value links in
     let left = c.args.left.now in
@@ -53,7 +53,7 @@ go_on-requires-clause-along g c =
 
 pub returns-clause-come : goal.returns-clause-come
 returns-clause-come g c =
-    let value = g.I.OverlayInt.value in
+    let value = g.I.IntNumber.value in
     let links = string_links_of c.args.graph.now in
     let edges = link_edges value links in
     let left = c.args.left.now in
@@ -80,14 +80,14 @@ returns-clause-come g c =
 
 pub go_on-requires-clause-came : goal.go_on-requires-clause-came
 go_on-requires-clause-came g c =
-    let value = g.I.OverlayInt.value in
+    let value = g.I.IntNumber.value in
     let one : points_of value c.push.new.self.items ≡ point_of value c.end_of-start.result.point ∷ [] =
     ap (points_of value) (c.in_ok-push.ensures.items ∙ ap (λ l. l ++ c.end_of-start.result.point ∷ []) c.new-points.ensures.items) in
     ap last_of one
 
 pub go_on-requires-clause-in_range : goal.go_on-requires-clause-in_range
 go_on-requires-clause-in_range g c =
-    let value = g.I.OverlayInt.value in
+    let value = g.I.IntNumber.value in
     let within = IsWithin g.I.OverlayInt.least g.I.OverlayInt.greatest in
     let links = string_links_of c.args.graph.now in
     let link = c.index-links-first.result in

@@ -16,7 +16,7 @@ use Rattle.polygon_strings.proofs.string.slice_walk.walks_of_steps.Goals as goal
 
 pub loop-first-init : goal.loop-first-init
 loop-first-init g c =
-    let value = g.I.OverlayInt.value in
+    let value = g.I.IntNumber.value in
     let links = string_links_of c.args.graph.now in
     let seen = map (overlay_link_of value) links in
     let within = All (IsWithin g.I.OverlayInt.least g.I.OverlayInt.greatest) in
@@ -48,7 +48,7 @@ loop-first-preserved g c =
 
 pub returns-clause-walks : goal.returns-clause-walks
 returns-clause-walks g c =
-    let value = g.I.OverlayInt.value in
+    let value = g.I.IntNumber.value in
     let links = string_links_of c.args.graph.now in
     let edges = link_edges value links in
     let seen = map (overlay_link_of value) links in

@@ -10,7 +10,7 @@ use Rattle.polygon_strings.proofs.string.slice_walk.walks_of_steps.Given as goal
 -- No step is left along the links before this one: the walks that are found pass them, and come round.
 abbrev pub invariant-loop-first : goal.invariant-loop-first
 invariant-loop-first g l =
-    let value = g.I.OverlayInt.value in
+    let value = g.I.IntNumber.value in
     let links = string_links_of l.graph in
     let seen = map (overlay_link_of value) links in
     record {

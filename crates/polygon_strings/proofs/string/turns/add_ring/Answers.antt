@@ -13,7 +13,7 @@ use Rattle.polygon_strings.proofs.string.turns.add_ring.Goals as goal
 
 pub around-requires-clause-here : goal.around-requires-clause-here
 around-requires-clause-here g c =
-    let value = g.I.OverlayInt.value in
+    let value = g.I.IntNumber.value in
     let edges = link_edges value (string_links_of c.args.graph.now) in
     let v = point_of value c.args.at.point in
     let joined = c.nodes.ensures ∙ c.requires.walkable.joined in
@@ -23,7 +23,7 @@ around-requires-clause-here g c =
 
 pub returns-clause-rings : goal.returns-clause-rings
 returns-clause-rings g c =
-    let value = g.I.OverlayInt.value in
+    let value = g.I.IntNumber.value in
     let links = string_links_of c.args.graph.now in
     let edges = link_edges value links in
     let v = point_of value c.args.at.point in

@@ -16,7 +16,7 @@ either P false h = h.1
 
 pub returns-clause-numbered : goal.returns-clause-numbered
 returns-clause-numbered g c =
-    let value = g.I.OverlayInt.value in
+    let value = g.I.IntNumber.value in
     let links = string_links_of c.args.graph.now in
     let points = ends_of (link_edges value links) in
     let link = c.index-links-place.result in
@@ -27,7 +27,7 @@ returns-clause-numbered g c =
 
 pub returns-clause-in_range : goal.returns-clause-in_range
 returns-clause-in_range g c =
-    let value = g.I.OverlayInt.value in
+    let value = g.I.IntNumber.value in
     let least = g.I.OverlayInt.least in
     let greatest = g.I.OverlayInt.greatest in
     let link = c.index-links-place.result in

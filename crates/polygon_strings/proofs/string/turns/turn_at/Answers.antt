@@ -8,7 +8,7 @@ use Rattle.polygon_strings.proofs.string.turns.turn_at.Goals as goal
 
 pub returns : goal.returns
 returns g c =
-    let value = g.I.OverlayInt.value in
+    let value = g.I.IntNumber.value in
     let rings = c.args.turns.now.rings.items in
     let n = c.in_ok-number.number in
     let inside = c.in_ok-number.ensures.inside in

@@ -14,7 +14,7 @@ with_both (Err e) P Q R f p q = tt
 
 pub returns-in-Subject : goal.returns-in-Subject
 returns-in-Subject g c =
-    let value = g.I.OverlayInt.value in
+    let value = g.I.IntNumber.value in
     let is : Subject ≡ overlay_rule_of c.args.overlay_rule = ap overlay_rule_of (sym c.in-Subject.is) in (
       (refl, (λ _. tt), c.build.follows.holds-at-none),
       record {
@@ -33,7 +33,7 @@ returns-in-Subject g c =
 
 pub returns-in-Clip : goal.returns-in-Clip
 returns-in-Clip g c =
-    let value = g.I.OverlayInt.value in
+    let value = g.I.IntNumber.value in
     let is : Clip ≡ overlay_rule_of c.args.overlay_rule = ap overlay_rule_of (sym c.in-Clip.is) in (
       (refl, (λ _. tt), c.build-in-Clip.follows.holds-at-none),
       record {
@@ -52,7 +52,7 @@ returns-in-Clip g c =
 
 pub returns-in-Intersect : goal.returns-in-Intersect
 returns-in-Intersect g c =
-    let value = g.I.OverlayInt.value in
+    let value = g.I.IntNumber.value in
     let is : Intersect ≡ overlay_rule_of c.args.overlay_rule = ap overlay_rule_of (sym c.in-Intersect.is) in (
       (refl, (λ _. tt), c.build-in-Intersect.follows.holds-at-none),
       record {
@@ -71,7 +71,7 @@ returns-in-Intersect g c =
 
 pub returns-in-Union : goal.returns-in-Union
 returns-in-Union g c =
-    let value = g.I.OverlayInt.value in
+    let value = g.I.IntNumber.value in
     let is : Union ≡ overlay_rule_of c.args.overlay_rule = ap overlay_rule_of (sym c.in-Union.is) in (
       (refl, (λ _. tt), c.build-in-Union.follows.holds-at-none),
       record {
@@ -90,7 +90,7 @@ returns-in-Union g c =
 
 pub returns-in-Difference : goal.returns-in-Difference
 returns-in-Difference g c =
-    let value = g.I.OverlayInt.value in
+    let value = g.I.IntNumber.value in
     let is : Difference ≡ overlay_rule_of c.args.overlay_rule = ap overlay_rule_of (sym c.in-Difference.is) in (
       (refl, (λ _. tt), c.build-in-Difference.follows.holds-at-none),
       record {
@@ -109,7 +109,7 @@ returns-in-Difference g c =
 
 pub returns-in-InverseDifference : goal.returns-in-InverseDifference
 returns-in-InverseDifference g c =
-    let value = g.I.OverlayInt.value in
+    let value = g.I.IntNumber.value in
     let is : InverseDifference ≡ overlay_rule_of c.args.overlay_rule = ap overlay_rule_of (sym c.in-InverseDifference.is) in (
       (refl, (λ _. tt), c.build-in-InverseDifference.follows.holds-at-none),
       record {
@@ -128,7 +128,7 @@ returns-in-InverseDifference g c =
 
 pub returns-in-Xor : goal.returns-in-Xor
 returns-in-Xor g c =
-    let value = g.I.OverlayInt.value in
+    let value = g.I.IntNumber.value in
     let is : Xor ≡ overlay_rule_of c.args.overlay_rule = ap overlay_rule_of (sym c.in-Xor.is) in (
       (refl, (λ _. tt), c.build-in-Xor.follows.holds-at-none),
       record {

@@ -5,10 +5,10 @@ use Rattle.segment_split.proofs.count.ShapeCountBooleanWindingCount.exchange.Goa
 
 pub returns-clause-given : goal.returns-clause-given
 returns-clause-given g c _ =
-    let value = g.I.OverlayInt.value in
+    let value = g.I.IntNumber.value in
     map-id (entries_of value c.swap.new.y.items) ∙ ap (λ v. entries_of value v.items) c.swap.ensures.y_after
 
 pub returns-clause-taken : goal.returns-clause-taken
 returns-clause-taken g c _ =
-    let value = g.I.OverlayInt.value in
+    let value = g.I.IntNumber.value in
     ap (λ v. entries_of value v.items) c.swap.ensures.x_after ∙ sym (map-id (entries_of value c.args.sums.now.items))

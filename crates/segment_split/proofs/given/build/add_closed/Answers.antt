@@ -14,9 +14,9 @@ use Rattle.segment_split.proofs.given.build.add_closed.Goals as goal
 
 pub returns-in_err-make_room-clause-refused : goal.returns-in_err-make_room-clause-refused
 returns-in_err-make_room-clause-refused g c =
-    let value = g.I.OverlayInt.value in
+    let value = g.I.IntNumber.value in
     let kind = g.C.WindingCount.counting in
-    let points = points_of value c.args.points.now in
+    let points = c.args.points.now in
     let more : c.count_edges.result ≡ length (laid_path kind c.args.count (closed points)) =
     c.count_edges.ensures ∙ laid_length boolean kind one_subject c.args.count points in
     let p = err_from_is_err_and c.from_residual.result c.from_residual.ensures.1 in
@@ -26,9 +26,9 @@ returns-in_err-make_room-clause-refused g c =
 
 pub loop-i-init : goal.loop-i-init
 loop-i-init g c =
-    let value = g.I.OverlayInt.value in
+    let value = g.I.IntNumber.value in
     let kind = g.C.WindingCount.counting in
-    let points = points_of value c.args.points.now in
+    let points = c.args.points.now in
     let more : c.count_edges.result ≡ length (laid_path kind c.args.count (closed points)) =
     c.count_edges.ensures ∙ laid_length boolean kind one_subject c.args.count points in
     let room : length c.args.segments.now.items + c.count_edges.result ≤ c.make_room.new.segments.cap = c.in_ok-make_room.ensures.room in
@@ -37,18 +37,17 @@ loop-i-init g c =
 
 pub lay_edge-requires : goal.lay_edge-requires
 lay_edge-requires g c =
-    let value = g.I.OverlayInt.value in
+    let value = g.I.IntNumber.value in
     let kind = g.C.WindingCount.counting in
-    let f = point_of value in
     let i = c.loop-i.i in
     let points = c.args.points.now in
     let from = c.index-points-i.result in
     let to = c.index-points-next.result in
-    let path = closed (points_of value points) in
+    let path = closed points in
     let lays = laid_path kind c.args.count in
-    let here = lay kind (f from) (f to) c.args.count in
+    let here = lay kind from to c.args.count in
     let step : lays (drop i path) ≡ here ++ lays (drop (i + 1) path) =
-    step_round kind c.args.count f points i c.if-i-n.next from to c.loop-i-test.true
+    step_round kind c.args.count points i c.if-i-n.next from to c.loop-i-test.true
     (elim c.if-i-n.branch [
       | then-i-n w ↦ inl (w.if-i-n.true, w.next-is)
       | else-i-n w ↦ inr (w.if-i-n.false, w.next-is)
@@ -61,18 +60,17 @@ lay_edge-requires g c =
 
 pub loop-i-preserved : goal.loop-i-preserved
 loop-i-preserved g c =
-    let value = g.I.OverlayInt.value in
+    let value = g.I.IntNumber.value in
     let kind = g.C.WindingCount.counting in
-    let f = point_of value in
     let i = c.loop-i.i in
     let points = c.args.points.now in
     let from = c.index-points-i.result in
     let to = c.index-points-next.result in
-    let path = closed (points_of value points) in
+    let path = closed points in
     let lays = laid_path kind c.args.count in
-    let here = lay kind (f from) (f to) c.args.count in
+    let here = lay kind from to c.args.count in
     let step : lays (drop i path) ≡ here ++ lays (drop (i + 1) path) =
-    step_round kind c.args.count f points i c.if-i-n.next from to c.loop-i-test.true
+    step_round kind c.args.count points i c.if-i-n.next from to c.loop-i-test.true
     (elim c.if-i-n.branch [
       | then-i-n w ↦ inl (w.if-i-n.true, w.next-is)
       | else-i-n w ↦ inr (w.if-i-n.false, w.next-is)
@@ -91,9 +89,9 @@ loop-i-preserved g c =
     let left : length c.lay_edge.new.segments.items + length rest ≤ c.lay_edge.new.segments.cap = omega (arith, room, sum, grown, same) in
     let carrying = carried kind g.D.OverlayEdgeData.join in
     let carries = laid_path carrying (c.args.count, c.args.datum) in
-    let carries_here = lay carrying (f from) (f to) (c.args.count, c.args.datum) in
+    let carries_here = lay carrying from to (c.args.count, c.args.datum) in
     let carries_on : carries (drop i path) ≡ carries_here ++ carries (drop (i + 1) path) =
-    step_round carrying (c.args.count, c.args.datum) f points i c.if-i-n.next from to c.loop-i-test.true
+    step_round carrying (c.args.count, c.args.datum) points i c.if-i-n.next from to c.loop-i-test.true
     (elim c.if-i-n.branch [
       | then-i-n w ↦ inl (w.if-i-n.true, w.next-is)
       | else-i-n w ↦ inr (w.if-i-n.false, w.next-is)
@@ -109,9 +107,9 @@ loop-i-preserved g c =
 
 pub returns-clause-added : goal.returns-clause-added
 returns-clause-added g c =
-    let value = g.I.OverlayInt.value in
+    let value = g.I.IntNumber.value in
     let kind = g.C.WindingCount.counting in
-    let points = points_of value c.args.points.now in
+    let points = c.args.points.now in
     let way = c.loop-i.invariant.0 in
     let counted = length-map c.args.points.now (point_of value) in
     let end : c.loop-i.i ≡ length points = omega (arith, counted, c.loop-i-test.false, c.loop-i.auto.i-end) in
@@ -121,9 +119,9 @@ returns-clause-added g c =
 
 pub returns-clause-few : goal.returns-clause-few
 returns-clause-few g c =
-    let value = g.I.OverlayInt.value in
+    let value = g.I.IntNumber.value in
     let kind = g.C.WindingCount.counting in
-    let points = points_of value c.args.points.now in
+    let points = c.args.points.now in
     let more : c.count_edges.result ≡ length (laid_path kind c.args.count (closed points)) =
     c.count_edges.ensures ∙ laid_length boolean kind one_subject c.args.count points in
     let way = c.loop-i.invariant.0 in
@@ -145,9 +143,9 @@ returns-clause-grows g c = omega (arith, c.make_room.ensures.grows, c.loop-i.inv
 
 pub returns-clause-data : goal.returns-clause-data
 returns-clause-data g c = λ joins.
-    let value = g.I.OverlayInt.value in
+    let value = g.I.IntNumber.value in
     let carrying = carried g.C.WindingCount.counting g.D.OverlayEdgeData.join in
-    let points = points_of value c.args.points.now in
+    let points = c.args.points.now in
     let way = c.loop-i.invariant.3 joins in
     let counted = length-map c.args.points.now (point_of value) in
     let end : c.loop-i.i ≡ length points = omega (arith, counted, c.loop-i-test.false, c.loop-i.auto.i-end) in

@@ -9,7 +9,7 @@ use Rattle.segment_split.proofs.given.build.add_closed.Given as goal
 -- Some edges are added, and there is room for the rest, which are those from this point on. No room is lost.
 abbrev pub invariant-loop-i : goal.invariant-loop-i
 invariant-loop-i g l =
-    let value = g.I.OverlayInt.value in
+    let value = g.I.IntNumber.value in
     let lays = laid_path g.C.WindingCount.counting l.count in
     let carries = laid_path (carried g.C.WindingCount.counting g.D.OverlayEdgeData.join) (l.count, l.datum) in
     let path = closed (points_of value l.points) in

@@ -8,14 +8,14 @@ use Rattle.segment_split.proofs.Redrawing.Counts.{with_count_of}
 use Rattle.segment_split.proofs.lines.bare.keys_of.Goals as goal
 
 pub loop-segment-init : goal.loop-segment-init
-loop-segment-init g c = ap (λ l. with_counts (of_count g.C.WindingCount.of) (entries_of g.I.OverlayInt.value l)) (c.reserve.ensures.items ∙ c.new-keys.ensures.items)
+loop-segment-init g c = ap (λ l. with_counts (of_count g.C.WindingCount.of) (entries_of g.I.IntNumber.value l)) (c.reserve.ensures.items ∙ c.new-keys.ensures.items)
 
 pub loop-segment-smaller : goal.loop-segment-smaller
 loop-segment-smaller g c = omega (arith, c.loop-segment-test.true)
 
 pub loop-segment-preserved : goal.loop-segment-preserved
 loop-segment-preserved g c =
-    let value = g.I.OverlayInt.value in
+    let value = g.I.IntNumber.value in
     let f = of_count g.C.WindingCount.of in
     let segments = c.args.segments.now in
     let i = c.loop-segment.segment-index in
@@ -32,4 +32,4 @@ loop-segment-preserved g c =
 
 pub returns-clause-same : goal.returns-clause-same
 returns-clause-same g c =
-    c.loop-segment.invariant ∙ ap (entries_of g.I.OverlayInt.value) (take_all c.loop-segment.segment-index c.args.segments.now (omega (arith, c.loop-segment-test.false)))
+    c.loop-segment.invariant ∙ ap (entries_of g.I.IntNumber.value) (take_all c.loop-segment.segment-index c.args.segments.now (omega (arith, c.loop-segment-test.false)))

@@ -8,14 +8,14 @@ use Rattle.segment_split.proofs.Redrawing.Counts.{with_count_of}
 use Rattle.segment_split.proofs.lines.bare.put_all.Goals as goal
 
 pub loop-key-init : goal.loop-key-init
-loop-key-init g c = ap (entries_of g.I.OverlayInt.value) (c.reserve.ensures.items ∙ c.clear.ensures.items)
+loop-key-init g c = ap (entries_of g.I.IntNumber.value) (c.reserve.ensures.items ∙ c.clear.ensures.items)
 
 pub loop-key-smaller : goal.loop-key-smaller
 loop-key-smaller g c = omega (arith, c.loop-key-test.true)
 
 pub loop-key-preserved : goal.loop-key-preserved
 loop-key-preserved g c =
-    let value = g.I.OverlayInt.value in
+    let value = g.I.IntNumber.value in
     let f = of_count g.C.WindingCount.of in
     let keys = c.args.keys.now in
     let i = c.loop-key.key-index in
@@ -33,4 +33,4 @@ loop-key-preserved g c =
 pub returns-clause-same : goal.returns-clause-same
 returns-clause-same g c =
     c.loop-key.invariant
-    ∙ ap (λ l. with_counts (of_count g.C.WindingCount.of) (entries_of g.I.OverlayInt.value l)) (take_all c.loop-key.key-index c.args.keys.now (omega (arith, c.loop-key-test.false)))
+    ∙ ap (λ l. with_counts (of_count g.C.WindingCount.of) (entries_of g.I.IntNumber.value l)) (take_all c.loop-key.key-index c.args.keys.now (omega (arith, c.loop-key-test.false)))

@@ -21,7 +21,7 @@ use Rattle.segment_split.proofs.lines.bare.redraw_by_lines.Goals as goal
 
 pub redraw_where_cut-requires-clause-normal : goal.redraw_where_cut-requires-clause-normal
 redraw_where_cut-requires-clause-normal g c =
-    let value = g.I.OverlayInt.value in
+    let value = g.I.IntNumber.value in
     let kind = g.C.WindingCount.counting in
     let fits = g.C.WindingCount.fits in
     let of = g.C.WindingCount.of in
@@ -34,7 +34,7 @@ redraw_where_cut-requires-clause-normal g c =
 
 pub redraw_where_cut-requires-clause-rectilinear : goal.redraw_where_cut-requires-clause-rectilinear
 redraw_where_cut-requires-clause-rectilinear g c =
-    let value = g.I.OverlayInt.value in
+    let value = g.I.IntNumber.value in
     let kind = g.C.WindingCount.counting in
     let fits = g.C.WindingCount.fits in
     let of = g.C.WindingCount.of in
@@ -48,7 +48,7 @@ redraw_where_cut-requires-clause-rectilinear g c =
 
 pub redraw_where_cut-requires-clause-few : goal.redraw_where_cut-requires-clause-few
 redraw_where_cut-requires-clause-few g c =
-    let value = g.I.OverlayInt.value in
+    let value = g.I.IntNumber.value in
     let kind = g.C.WindingCount.counting in
     let fits = g.C.WindingCount.fits in
     let of = g.C.WindingCount.of in
@@ -62,7 +62,7 @@ redraw_where_cut-requires-clause-few g c =
 
 pub returns-in_err-keys : goal.returns-in_err-keys
 returns-in_err-keys g c =
-    let value = g.I.OverlayInt.value in
+    let value = g.I.IntNumber.value in
     let kind = g.C.WindingCount.counting in
     let fits = g.C.WindingCount.fits in
     let joins = g.D.OverlayEdgeData.JOINS in
@@ -75,7 +75,7 @@ returns-in_err-keys g c =
 
 pub returns-in_err-is_marked : goal.returns-in_err-is_marked
 returns-in_err-is_marked g c =
-    let value = g.I.OverlayInt.value in
+    let value = g.I.IntNumber.value in
     let joins = g.D.OverlayEdgeData.JOINS in
     let of = g.C.WindingCount.of in
     let segments = c.args.segments.now.items in
@@ -90,7 +90,7 @@ returns-in_err-is_marked g c =
 
 pub returns-in_err-give_keys : goal.returns-in_err-give_keys
 returns-in_err-give_keys g c =
-    let value = g.I.OverlayInt.value in
+    let value = g.I.IntNumber.value in
     let joins = g.D.OverlayEdgeData.JOINS in
     let of = g.C.WindingCount.of in
     let segments = c.args.segments.now.items in
@@ -105,7 +105,7 @@ returns-in_err-give_keys g c =
 
 pub returns-in_err-give_keys-2 : goal.returns-in_err-give_keys-2
 returns-in_err-give_keys-2 g c =
-    let value = g.I.OverlayInt.value in
+    let value = g.I.IntNumber.value in
     let joins = g.D.OverlayEdgeData.JOINS in
     let of = g.C.WindingCount.of in
     let segments = c.args.segments.now.items in
@@ -120,7 +120,7 @@ returns-in_err-give_keys-2 g c =
 
 pub returns-then-not-is_marked : goal.returns-then-not-is_marked
 returns-then-not-is_marked g c =
-    let value = g.I.OverlayInt.value in
+    let value = g.I.IntNumber.value in
     let joins = g.D.OverlayEdgeData.JOINS in
     let of = g.C.WindingCount.of in
     let segments = c.args.segments.now.items in
@@ -139,7 +139,7 @@ returns-then-not-is_marked g c =
 
 pub returns : goal.returns
 returns g c =
-    let value = g.I.OverlayInt.value in
+    let value = g.I.IntNumber.value in
     let joins = g.D.OverlayEdgeData.JOINS in
     let of = g.C.WindingCount.of in
     let segments = c.args.segments.now.items in

@@ -10,7 +10,7 @@ use Rattle.segment_split.proofs.lines.cut.count_all.Goals as goal
 
 pub loop-left-init : goal.loop-left-init
 loop-left-init g c =
-    let value = g.I.OverlayInt.value in
+    let value = g.I.IntNumber.value in
     let more = c.args.more in
     let order = in_order more (entries_of value c.args.keys.now) c.args.ends.now in
     let many = c.args.many in (
@@ -23,7 +23,7 @@ loop-left-init g c =
 
 pub loop-left-preserved : goal.loop-left-preserved
 loop-left-preserved g c =
-    let value = g.I.OverlayInt.value in
+    let value = g.I.IntNumber.value in
     let left = c.loop-left.left in
     let many = c.args.many in
     let more = c.args.more in
@@ -53,7 +53,7 @@ returns-in_default-clause-all g c = record { within = c.loop-left.invariant.0; a
 
 pub returns-clause-all : goal.returns-clause-all
 returns-clause-all g c =
-    let value = g.I.OverlayInt.value in
+    let value = g.I.IntNumber.value in
     record {
       within = c.loop-left.invariant.0;
       at = c.loop-left.invariant.1;

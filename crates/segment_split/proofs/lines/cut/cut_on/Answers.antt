@@ -15,7 +15,7 @@ first_above-low-requires-clause-placed g c = rw c.deref-2.ensures.value (rw c.de
 
 pub count_all-ends_left-requires-clause-within : goal.count_all-ends_left-requires-clause-within
 count_all-ends_left-requires-clause-within g c =
-    omega (arith, c.requires.left.coming, length-map c.args.ends.now (λ e. entry_at (entries_of g.I.OverlayInt.value c.args.keys.now) e.key))
+    omega (arith, c.requires.left.coming, length-map c.args.ends.now (λ e. entry_at (entries_of g.I.IntNumber.value c.args.keys.now) e.key))
 
 pub returns-then-is_crossed-clause-fewer : goal.returns-then-is_crossed-clause-fewer
 returns-then-is_crossed-clause-fewer g c = λ e. absurd (false≢true (sym e ∙ c.marked.ensures))
@@ -31,14 +31,14 @@ returns-then-is_passed-clause-counted g c = λ e. absurd (false≢true (sym e �
 
 pub returns-clause-fewer : goal.returns-clause-fewer
 returns-clause-fewer g c = λ _.
-    let value = g.I.OverlayInt.value in
+    let value = g.I.IntNumber.value in
     let es = entries_of value c.args.keys.now in
     fewer_left value es c.args.ends.now c.requires.sound c.args.left (point_of value c.next_end-point.result) c.count_all-starts.result c.count_all-ends_left.result false c.next_end-point.ensures
     c.count_all-starts.ensures.all c.count_all-ends_left.ensures.all
 
 pub returns-clause-counted : goal.returns-clause-counted
 returns-clause-counted g c = λ _ is.
-    let value = g.I.OverlayInt.value in
+    let value = g.I.IntNumber.value in
     let es = entries_of value c.args.keys.now in
     let ends = c.args.ends.now in
     let rows = rows_of value c.args.lines.now.rows.items in
@@ -53,7 +53,7 @@ returns-clause-counted g c = λ _ is.
 
 pub returns-then-is_crossed-clause-marked : goal.returns-then-is_crossed-clause-marked
 returns-then-is_crossed-clause-marked g c = λ _ is.
-    let value = g.I.OverlayInt.value in
+    let value = g.I.IntNumber.value in
     let es = entries_of value c.args.keys.now in
     let some = c.is_crossed.ensures.some c.if-is_crossed.true in
     crossing_inside value es c.args.ends.now c.requires.sound (heights_in (rows_of value c.args.lines.now.rows.items)) c.args.left c.args.running.now is (point_of value c.next_end-point.result) c.next_end-point.ensures
@@ -61,7 +61,7 @@ returns-then-is_crossed-clause-marked g c = λ _ is.
 
 pub returns-then-is_passed-clause-marked : goal.returns-then-is_passed-clause-marked
 returns-then-is_passed-clause-marked g c = λ _ is.
-    let value = g.I.OverlayInt.value in
+    let value = g.I.IntNumber.value in
     let es = entries_of value c.args.keys.now in
     end_inside value es c.args.ends.now c.requires.sound (heights_in (rows_of value c.args.lines.now.rows.items)) c.args.left c.args.running.now is (point_of value c.next_end-point.result) c.next_end-point.ensures
     c.requires.left.coming c.place_of-place.result c.first_above-low.result (rw c.deref.ensures.value at c.place_of-place.ensures) (rw c.deref-2.ensures.value at c.first_above-low.ensures)

@@ -10,7 +10,7 @@ use Rattle.segment_split.proofs.lines.cut.is_cut.Goals as goal
 
 pub loop-left-init : goal.loop-left-init
 loop-left-init g c =
-    let value = g.I.OverlayInt.value in
+    let value = g.I.IntNumber.value in
     let keys = c.args.keys.now in
     let ends = c.args.ends.now in
     let lines = c.args.lines.now in
@@ -40,7 +40,7 @@ loop-left-preserved g c =
 
 pub returns-clause-cut : goal.returns-clause-cut
 returns-clause-cut g c = λ precision.
-    let value = g.I.OverlayInt.value in (
+    let value = g.I.IntNumber.value in (
       λ e. absurd (false≢true e),
       λ some. absurd
           (counted_last value (entries_of value c.args.keys.now) c.args.ends.now c.requires.sound (lines_of value c.args.lines.now) c.loop-left.left c.loop-left.running c.requires.normal (omega (arith, c.loop-left-test.false)) c.loop-left.invariant.2 precision some),
@@ -48,6 +48,6 @@ returns-clause-cut g c = λ precision.
 
 pub returns-then-left-clause-cut : goal.returns-then-left-clause-cut
 returns-then-left-clause-cut g c = λ precision.
-    let value = g.I.OverlayInt.value in
+    let value = g.I.IntNumber.value in
     let stop = c.cut_on-left.ensures.marked c.if-left.true c.loop-left.invariant.2 in
     ((λ _. stop_is_marked boolean precision (entries_of value c.args.keys.now) c.requires.normal c.requires.sound.rectilinear stop.2.0 stop.2.1 stop.0 stop.1 stop.2.2), (λ _. refl))

@@ -18,7 +18,7 @@ use Rattle.segment_split.proofs.lines.status.change_all.Goals as goal
 
 pub loop-left-init : goal.loop-left-init
 loop-left-init g c =
-    let value = g.I.OverlayInt.value in
+    let value = g.I.IntNumber.value in
     let order = in_order c.args.more (entries_of value c.args.keys.now) c.args.ends.now in
     let many = c.args.many in (
       omega arith,
@@ -31,14 +31,14 @@ loop-left-init g c =
 
 pub change_line-requires-clause-placed : goal.change_line-requires-clause-placed
 change_line-requires-clause-placed g c = λ wide.
-    let value = g.I.OverlayInt.value in
+    let value = g.I.IntNumber.value in
     let last = c.in-Some.ensures.there in
     placed_at (entries_of value c.args.keys.now) c.requires.sound.rectilinear c.args.more (point_of value c.args.point) (entry_of value c.in-Some.key) last.listed last.at wide
     (heights_in (rows_of value c.loop-left.lines.rows.items)) c.args.place c.loop-left.invariant.5
 
 pub loop-left-preserved : goal.loop-left-preserved
 loop-left-preserved g c =
-    let value = g.I.OverlayInt.value in
+    let value = g.I.IntNumber.value in
     let left = c.loop-left.left in
     let many = c.args.many in
     let more = c.args.more in
@@ -53,7 +53,7 @@ loop-left-preserved g c =
       one_more_at more (point_of value c.args.point) order many left (entry_of value key) (omega (arith, c.loop-left-test.true)) c.loop-left.invariant.0 c.requires.within last.is last.at c.loop-left.invariant.2,
       subst (λ (l : _). AreRising l.rows) (sym c.in_ok-change_line.ensures.changed) (rising_line s f (lines_of value c.loop-left.lines) c.loop-left.invariant.3),
       c.in_ok-change_line.ensures.seen,
-      subst (λ hs. IsPlaceOf (value c.args.point.y) hs c.args.place) (sym (ap (λ l. heights_in l.rows) c.in_ok-change_line.ensures.changed ∙ at_line_heights s f (lines_of value c.loop-left.lines))) c.loop-left.invariant.5,
+      subst (λ hs. IsPlaceOf c.args.point.y hs c.args.place) (sym (ap (λ l. heights_in l.rows) c.in_ok-change_line.ensures.changed ∙ at_line_heights s f (lines_of value c.loop-left.lines))) c.loop-left.invariant.5,
     )
 
 pub returns-in_default-clause-all : goal.returns-in_default-clause-all
@@ -61,7 +61,7 @@ returns-in_default-clause-all g c = record { within = c.loop-left.invariant.0; a
 
 pub returns-clause-all : goal.returns-clause-all
 returns-clause-all g c =
-    let value = g.I.OverlayInt.value in
+    let value = g.I.IntNumber.value in
     record {
       within = c.loop-left.invariant.0;
       at = c.loop-left.invariant.2;
@@ -70,7 +70,7 @@ returns-clause-all g c =
 
 pub returns-in_err-change_line-clause-refused : goal.returns-in_err-change_line-clause-refused
 returns-in_err-change_line-clause-refused g c =
-    let value = g.I.OverlayInt.value in
+    let value = g.I.IntNumber.value in
     let left = c.loop-left.left in
     let many = c.args.many in
     let more = c.args.more in

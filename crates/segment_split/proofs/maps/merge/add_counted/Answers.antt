@@ -9,7 +9,7 @@ use Rattle.segment_split.proofs.maps.merge.add_counted.Goals as goal
 
 pub loop-segment-preserved : goal.loop-segment-preserved
 loop-segment-preserved g c =
-    let value = g.I.OverlayInt.value in
+    let value = g.I.IntNumber.value in
     let joins = g.D.OverlayEdgeData.JOINS in
     let counting = g.C.WindingCount.counting in
     let f = seen_entry_of value joins in
@@ -30,7 +30,7 @@ loop-segment-preserved g c =
 
 pub returns-in_ok-extend_from_slice-clause-added : goal.returns-in_ok-extend_from_slice-clause-added
 returns-in_ok-extend_from_slice-clause-added g c =
-    let value = g.I.OverlayInt.value in
+    let value = g.I.IntNumber.value in
     let joins = g.D.OverlayEdgeData.JOINS in
     let old = c.args.joined.now.items in
     let fresh = c.args.fresh.now in

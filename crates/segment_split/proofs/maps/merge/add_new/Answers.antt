@@ -16,7 +16,7 @@ use Rattle.segment_split.proofs.maps.merge.add_new.Goals as goal
 
 pub returns-clause-told : goal.returns-clause-told
 returns-clause-told g c =
-    let value = g.I.OverlayInt.value in
+    let value = g.I.IntNumber.value in
     let joins = g.D.OverlayEdgeData.JOINS in
     let f = entry_of value in
     let before = c.args.joined.now in

@@ -20,7 +20,7 @@ use Rattle.segment_split.proofs.maps.merge.join_maps.Goals as goal
 
 pub loop-more-init : goal.loop-more-init
 loop-more-init g c =
-    let value = g.I.OverlayInt.value in
+    let value = g.I.IntNumber.value in
     let kept = entries_of value c.args.kept.now in
     rw (c.clear.ensures.items, c.clear-2.ensures.items) (
       refl,
@@ -33,18 +33,18 @@ loop-more-init g c =
 pub join_next-requires-clause-kept_map : goal.join_next-requires-clause-kept_map
 join_next-requires-clause-kept_map g c =
     let behind = c.loop-more.invariant.1 in
-    back_map g.C.WindingCount.counting behind.0 (entries_of g.I.OverlayInt.value c.loop-more.left.now) (subst (IsMap g.C.WindingCount.counting) behind.1 c.requires.kept_map)
+    back_map g.C.WindingCount.counting behind.0 (entries_of g.I.IntNumber.value c.loop-more.left.now) (subst (IsMap g.C.WindingCount.counting) behind.1 c.requires.kept_map)
 
 pub join_next-requires-clause-pieces_map : goal.join_next-requires-clause-pieces_map
 join_next-requires-clause-pieces_map g c =
     let joins = g.D.OverlayEdgeData.JOINS in
     let kind = carrying g.C.WindingCount.counting joins g.D.OverlayEdgeData.join in
     let behind = c.loop-more.invariant.2 in
-    back_map kind behind.0 (seen_entries_of g.I.OverlayInt.value joins c.loop-more.more.now) (subst (IsMap kind) behind.1 c.requires.pieces_map)
+    back_map kind behind.0 (seen_entries_of g.I.IntNumber.value joins c.loop-more.more.now) (subst (IsMap kind) behind.1 c.requires.pieces_map)
 
 pub returns-in_err-taken-clause-refused : goal.returns-in_err-taken-clause-refused
 returns-in_err-taken-clause-refused g c =
-    let value = g.I.OverlayInt.value in
+    let value = g.I.IntNumber.value in
     let joins = g.D.OverlayEdgeData.JOINS in
     let join = g.D.OverlayEdgeData.join in
     let counting = g.C.WindingCount.counting in
@@ -65,7 +65,7 @@ returns-in_err-taken-clause-refused g c =
 
 pub loop-more-preserved : goal.loop-more-preserved
 loop-more-preserved g c =
-    let value = g.I.OverlayInt.value in
+    let value = g.I.IntNumber.value in
     let f = entry_of value in
     let kept = entries_of value c.args.kept.now in
     let left = c.loop-more.left.now in
@@ -89,7 +89,7 @@ loop-more-preserved g c =
 
 pub returns-clause-data : goal.returns-clause-data
 returns-clause-data g c =
-    let value = g.I.OverlayInt.value in
+    let value = g.I.IntNumber.value in
     let joins = g.D.OverlayEdgeData.JOINS in
     let join = g.D.OverlayEdgeData.join in
     let counting = g.C.WindingCount.counting in
@@ -108,7 +108,7 @@ returns-clause-data g c =
 
 pub returns-clause-skips : goal.returns-clause-skips
 returns-clause-skips g c =
-    let value = g.I.OverlayInt.value in
+    let value = g.I.IntNumber.value in
     let f = entry_of value in
     let kept = edges_of (entries_of value c.args.kept.now) in
     let left = edges_of (entries_of value c.loop-more.left.now) in
@@ -130,6 +130,6 @@ returns-clause-skips g c =
 
 pub returns-clause-refused : goal.returns-clause-refused
 returns-clause-refused g c =
-    let value = g.I.OverlayInt.value in
+    let value = g.I.IntNumber.value in
     let joins = g.D.OverlayEdgeData.JOINS in
     memory_refused (Clashes (carrying g.C.WindingCount.counting joins g.D.OverlayEdgeData.join) (λ c. g.C.WindingCount.fits c.0) (seen_entries_of value joins c.args.kept.now) (seen_entries_of value joins c.args.pieces.now)) ⊥ c.fill.result c.fill.ensures.memory

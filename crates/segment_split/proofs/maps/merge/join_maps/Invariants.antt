@@ -9,7 +9,7 @@ use Rattle.segment_split.proofs.maps.merge.join_maps.Given as goal
 -- Of both lists a part is joined, and what is left of them is to follow it. Of what is joined it is told which are old.
 abbrev pub invariant-loop-more : goal.invariant-loop-more
 invariant-loop-more g l =
-    let value = g.I.OverlayInt.value in
+    let value = g.I.IntNumber.value in
     let joins = g.D.OverlayEdgeData.JOINS in
     let all = normal_seen g.C.WindingCount.counting joins g.D.OverlayEdgeData.join in
     let seen = seen_entries_of value joins in

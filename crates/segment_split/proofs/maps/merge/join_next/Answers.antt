@@ -20,7 +20,7 @@ use Rattle.segment_split.proofs.maps.merge.join_next.Goals as goal
 
 pub join_pieces-requires-clause-kept_map : goal.join_pieces-requires-clause-kept_map
 join_pieces-requires-clause-kept_map g c =
-    let value = g.I.OverlayInt.value in
+    let value = g.I.IntNumber.value in
     let kept = c.args.kept.now in
     let n = c.place_of-n.result in
     rw c.split_at.ensures.back
@@ -28,7 +28,7 @@ join_pieces-requires-clause-kept_map g c =
 
 pub join_pieces-requires-clause-first : goal.join_pieces-requires-clause-first
 join_pieces-requires-clause-first g c = λ p e ps es second first greater.
-    let value = g.I.OverlayInt.value in
+    let value = g.I.IntNumber.value in
     let f = entry_of value in
     let pieces = c.args.pieces.now in
     let own = f c.index-pieces-0.result in
@@ -38,7 +38,7 @@ join_pieces-requires-clause-first g c = λ p e ps es second first greater.
 
 pub returns-clause-joined : goal.returns-clause-joined
 returns-clause-joined g c =
-    let value = g.I.OverlayInt.value in
+    let value = g.I.IntNumber.value in
     let joins = g.D.OverlayEdgeData.JOINS in
     let join = g.D.OverlayEdgeData.join in
     let counting = g.C.WindingCount.counting in
@@ -69,7 +69,7 @@ returns-clause-taken g c =
 
 pub returns-clause-told : goal.returns-clause-told
 returns-clause-told g c = λ old all told.
-    let value = g.I.OverlayInt.value in
+    let value = g.I.IntNumber.value in
     let f = entry_of value in
     let kept = c.args.kept.now in
     let n = c.place_of-n.result in
@@ -88,7 +88,7 @@ returns-clause-told g c = λ old all told.
 
 pub returns-in_err-taken-clause-refused : goal.returns-in_err-taken-clause-refused
 returns-in_err-taken-clause-refused g c =
-    let value = g.I.OverlayInt.value in
+    let value = g.I.IntNumber.value in
     let joins = g.D.OverlayEdgeData.JOINS in
     let join = g.D.OverlayEdgeData.join in
     let counting = g.C.WindingCount.counting in

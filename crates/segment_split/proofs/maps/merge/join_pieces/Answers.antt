@@ -24,7 +24,7 @@ use Rattle.segment_split.proofs.maps.merge.join_pieces.Goals as goal
 
 pub returns-then-is_empty-clause-joined : goal.returns-then-is_empty-clause-joined
 returns-then-is_empty-clause-joined g c =
-    let value = g.I.OverlayInt.value in
+    let value = g.I.IntNumber.value in
     let joins = g.D.OverlayEdgeData.JOINS in
     let join = g.D.OverlayEdgeData.join in
     let counting = g.C.WindingCount.counting in
@@ -46,7 +46,7 @@ returns-then-is_empty-clause-told g c = λ old all told. c.in_ok-add_new.ensures
 
 pub returns-in_err-sum-clause-refused : goal.returns-in_err-sum-clause-refused
 returns-in_err-sum-clause-refused g c =
-    let value = g.I.OverlayInt.value in
+    let value = g.I.IntNumber.value in
     let joins = g.D.OverlayEdgeData.JOINS in
     let join = g.D.OverlayEdgeData.join in
     let counting = g.C.WindingCount.counting in
@@ -69,7 +69,7 @@ returns-in_err-sum-clause-refused g c =
 
 pub returns-then-is_eq-clause-joined : goal.returns-then-is_eq-clause-joined
 returns-then-is_eq-clause-joined g c =
-    let value = g.I.OverlayInt.value in
+    let value = g.I.IntNumber.value in
     let joins = g.D.OverlayEdgeData.JOINS in
     let join = g.D.OverlayEdgeData.join in
     let counting = g.C.WindingCount.counting in
@@ -90,7 +90,7 @@ returns-then-is_eq-clause-joined g c =
 
 pub returns-then-is_eq-clause-told : goal.returns-then-is_eq-clause-told
 returns-then-is_eq-clause-told g c = λ old all told.
-    let value = g.I.OverlayInt.value in
+    let value = g.I.IntNumber.value in
     let kind = g.C.WindingCount.counting in
     let f = entry_of value in
     let kept = c.args.kept.now in
@@ -104,7 +104,7 @@ returns-then-is_eq-clause-told g c = λ old all told.
 
 pub returns-clause-joined : goal.returns-clause-joined
 returns-clause-joined g c =
-    let value = g.I.OverlayInt.value in
+    let value = g.I.IntNumber.value in
     let joins = g.D.OverlayEdgeData.JOINS in
     let join = g.D.OverlayEdgeData.join in
     let counting = g.C.WindingCount.counting in
@@ -126,7 +126,7 @@ returns-clause-joined g c =
 
 pub returns-clause-taken : goal.returns-clause-taken
 returns-clause-taken g c =
-    let value = g.I.OverlayInt.value in
+    let value = g.I.IntNumber.value in
     let f = entry_of value in
     let kept = c.args.kept.now in
     let pieces = c.args.pieces.now in
@@ -147,4 +147,4 @@ pub returns-clause-told : goal.returns-clause-told
 returns-clause-told g c = λ old all told. c.in_ok-add_new-2.ensures.told old told
 
 pub place_of-n-requires : goal.place_of-n-requires
-place_of-n-requires g c = sorted_without g.I.OverlayInt.value g.D.OverlayEdgeData.JOINS c.args.pieces.now (map_sorted c.requires.pieces_map)
+place_of-n-requires g c = sorted_without g.I.IntNumber.value g.D.OverlayEdgeData.JOINS c.args.pieces.now (map_sorted c.requires.pieces_map)

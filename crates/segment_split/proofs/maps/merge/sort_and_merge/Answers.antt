@@ -20,7 +20,7 @@ use Rattle.segment_split.proofs.maps.merge.sort_and_merge.Goals as goal
 
 pub returns-in_err-join_neighbours-clause-refused : goal.returns-in_err-join_neighbours-clause-refused
 returns-in_err-join_neighbours-clause-refused g c =
-    let value = g.I.OverlayInt.value in
+    let value = g.I.IntNumber.value in
     let kind = g.C.WindingCount.counting in
     let fits = g.C.WindingCount.fits in
     let kept = entries_of value c.args.kept.now in
@@ -34,14 +34,14 @@ returns-in_err-join_neighbours-clause-refused g c =
 
 pub join_maps-requires-clause-pieces_map : goal.join_maps-requires-clause-pieces_map
 join_maps-requires-clause-pieces_map g c =
-    let value = g.I.OverlayInt.value in
+    let value = g.I.IntNumber.value in
     let joins = g.D.OverlayEdgeData.JOINS in
     let kind = carrying g.C.WindingCount.counting joins g.D.OverlayEdgeData.join in
     rw c.deref.ensures.value (subst (IsMap kind) (sym c.in_ok-join_neighbours.ensures.joined) (normal_map kind (seen_entries_of value joins c.sort.new.segments.items)))
 
 pub returns-clause-data : goal.returns-clause-data
 returns-clause-data g c =
-    let value = g.I.OverlayInt.value in
+    let value = g.I.IntNumber.value in
     let joins = g.D.OverlayEdgeData.JOINS in
     let join = g.D.OverlayEdgeData.join in
     let counting = g.C.WindingCount.counting in
@@ -60,7 +60,7 @@ returns-clause-data g c =
 
 pub returns-clause-normal : goal.returns-clause-normal
 returns-clause-normal g c =
-    let value = g.I.OverlayInt.value in
+    let value = g.I.IntNumber.value in
     let joins = g.D.OverlayEdgeData.JOINS in
     let join = g.D.OverlayEdgeData.join in
     let counting = g.C.WindingCount.counting in
@@ -86,7 +86,7 @@ returns-clause-normal g c =
 
 pub returns-clause-refused : goal.returns-clause-refused
 returns-clause-refused g c =
-    let value = g.I.OverlayInt.value in
+    let value = g.I.IntNumber.value in
     let joins = g.D.OverlayEdgeData.JOINS in
     let join = g.D.OverlayEdgeData.join in
     let counting = g.C.WindingCount.counting in

@@ -18,7 +18,7 @@ join_neighbours-requires g c = record { sorted = c.in_ok-sort.ensures.sorted }
 
 pub returns-clause-data : goal.returns-clause-data
 returns-clause-data g c =
-    let value = g.I.OverlayInt.value in
+    let value = g.I.IntNumber.value in
     let joins = g.D.OverlayEdgeData.JOINS in
     let join = g.D.OverlayEdgeData.join in
     let counting = g.C.WindingCount.counting in
@@ -32,7 +32,7 @@ returns-clause-data g c =
 
 pub returns-clause-normal : goal.returns-clause-normal
 returns-clause-normal g c =
-    let value = g.I.OverlayInt.value in
+    let value = g.I.IntNumber.value in
     let joins = g.D.OverlayEdgeData.JOINS in
     let join = g.D.OverlayEdgeData.join in
     let counting = g.C.WindingCount.counting in
@@ -49,7 +49,7 @@ returns-clause-normal g c =
 
 pub returns-in_err-join_neighbours-clause-refused : goal.returns-in_err-join_neighbours-clause-refused
 returns-in_err-join_neighbours-clause-refused g c =
-    let value = g.I.OverlayInt.value in
+    let value = g.I.IntNumber.value in
     let p = err_from_is_err_and c.from_residual-in_err-join_neighbours.result c.from_residual-in_err-join_neighbours.ensures.1 in
     rw p.1 (handed_on c.in_err-join_neighbours.field-0.0 p.0 p.2
     (overfull_before g.C.WindingCount.counting g.C.WindingCount.fits (entries_of value c.args.segments.now.items) (entries_of value c.sort.new.segments.items) (IsPermutation-map (entry_of value) c.args.segments.now.items c.sort.new.segments.items c.in_ok-sort.ensures.same))

@@ -18,7 +18,7 @@ returns-in_err-push-clause-data g c = rw ((err_from_is_err_and c.from_residual.r
 
 pub returns-in_ok-push-clause-data : goal.returns-in_ok-push-clause-data
 returns-in_ok-push-clause-data g c =
-    let value = g.I.OverlayInt.value in
+    let value = g.I.IntNumber.value in
     let joins = g.D.OverlayEdgeData.JOINS in
     let old = c.args.pieces.now.items in
     ap (seen_entries_of value joins) c.in_ok-push.ensures.items

@@ -18,7 +18,7 @@ use Rattle.segment_split.proofs.pairs.buckets.find_marks.Goals as goal
 
 pub pass_all-requires : goal.pass_all-requires
 pass_all-requires g c =
-    let value = g.I.OverlayInt.value in
+    let value = g.I.IntNumber.value in
     let segments = c.pass.inside.segments.now in
     let trees = c.in-Some.trees in
     as_seen (entry_of value) segments (pass_seen c.pass.invariant c.pass.view_is) (λ es told _. HoldAll es told 0 trees.new_ones trees.old_ones)
@@ -28,7 +28,7 @@ pub returns-clause-found : goal.returns-clause-found
 returns-clause-found g c =
     let least = g.I.OverlayInt.least in
     let greatest = g.I.OverlayInt.greatest in
-    let value = g.I.OverlayInt.value in
+    let value = g.I.IntNumber.value in
     let rounding = c.args.pass.now.rounding in
     let es = c.args.pass.now.edges in
     let pass = pass_seen c.pass.invariant c.pass.view_is in
@@ -42,7 +42,7 @@ pub returns-clause-whole : goal.returns-clause-whole
 returns-clause-whole g c =
     let least = g.I.OverlayInt.least in
     let greatest = g.I.OverlayInt.greatest in
-    let value = g.I.OverlayInt.value in
+    let value = g.I.IntNumber.value in
     let rounding = c.args.pass.now.rounding in
     let es = c.args.pass.now.edges in
     let pass = pass_seen c.pass.invariant c.pass.view_is in
@@ -112,17 +112,17 @@ returns-in_err-trees-clause-buckets g c = none_counted c.args.steps.now (most_by
 pub returns-in_default-clause-buckets : goal.returns-in_default-clause-buckets
 returns-in_default-clause-buckets g c =
     let es = c.args.pass.now.edges in
-    let laid_out = as_seen (entry_of g.I.OverlayInt.value) c.pass.inside.segments.now (pass_seen c.pass.invariant c.pass.view_is) (λ es _ _. has_layout (all_values y_range es) ≡ false) (rw c.in_default.is at c.in_ok-trees.ensures.none) in
+    let laid_out = as_seen (entry_of g.I.IntNumber.value) c.pass.inside.segments.now (pass_seen c.pass.invariant c.pass.view_is) (λ es _ _. has_layout (all_values y_range es) ≡ false) (rw c.in_default.is at c.in_ok-trees.ensures.none) in
     subst (λ (b : Bool). CountsPairsUpTo c.args.steps.now c.find_marks.new.steps (cond b (bucket_pairs (y_buckets es) es) (all_pairs es))) (sym laid_out) c.find_marks.ensures.steps
 
 pub returns-in_err-is_off_grid-clause-buckets : goal.returns-in_err-is_off_grid-clause-buckets
 returns-in_err-is_off_grid-clause-buckets g c =
     let es = c.args.pass.now.edges in
-    let laid_out = as_seen (entry_of g.I.OverlayInt.value) c.pass.inside.segments.now (pass_seen c.pass.invariant c.pass.view_is) (λ es _ _. has_layout (all_values y_range es) ≡ true) (rw c.in-Some.is at c.in_ok-trees.ensures.some) in
+    let laid_out = as_seen (entry_of g.I.IntNumber.value) c.pass.inside.segments.now (pass_seen c.pass.invariant c.pass.view_is) (λ es _ _. has_layout (all_values y_range es) ≡ true) (rw c.in-Some.is at c.in_ok-trees.ensures.some) in
     subst (λ (b : Bool). CountsPairsUpTo c.args.steps.now c.pass_all.new.steps (cond b (bucket_pairs (y_buckets es) es) (all_pairs es))) (sym laid_out) c.pass_all.ensures.steps
 
 pub returns-clause-buckets : goal.returns-clause-buckets
 returns-clause-buckets g c =
     let es = c.args.pass.now.edges in
-    let laid_out = as_seen (entry_of g.I.OverlayInt.value) c.pass.inside.segments.now (pass_seen c.pass.invariant c.pass.view_is) (λ es _ _. has_layout (all_values y_range es) ≡ true) (rw c.in-Some.is at c.in_ok-trees.ensures.some) in
+    let laid_out = as_seen (entry_of g.I.IntNumber.value) c.pass.inside.segments.now (pass_seen c.pass.invariant c.pass.view_is) (λ es _ _. has_layout (all_values y_range es) ≡ true) (rw c.in-Some.is at c.in_ok-trees.ensures.some) in
     subst (λ (b : Bool). CountsPairsUpTo c.args.steps.now c.pass_all.new.steps (cond b (bucket_pairs (y_buckets es) es) (all_pairs es))) (sym laid_out) c.pass_all.ensures.steps

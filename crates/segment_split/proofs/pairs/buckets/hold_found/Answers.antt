@@ -15,7 +15,7 @@ pub loop-k-preserved : goal.loop-k-preserved
 loop-k-preserved g c =
     let least = g.I.OverlayInt.least in
     let greatest = g.I.OverlayInt.greatest in
-    let value = g.I.OverlayInt.value in
+    let value = g.I.IntNumber.value in
     let rounding = c.args.pass.now.rounding in
     let es = c.args.pass.now.edges in
     let found = c.args.found.now in
@@ -34,7 +34,7 @@ loop-k-preserved g c =
 
 pub returns-clause-found : goal.returns-clause-found
 returns-clause-found g c =
-    let value = g.I.OverlayInt.value in
+    let value = g.I.IntNumber.value in
     let found = c.args.found.now in
     finds_fewer g.I.OverlayInt.stride g.I.OverlayInt.least g.I.OverlayInt.greatest c.args.pass.now.rounding c.args.pass.now.edges
     (HeldTo found c.args.j c.loop-k.k) (λ h k. (k ≡ c.args.j) × HasNumber found h) (held_all found c.args.j c.loop-k.k (omega (arith, c.loop-k-test.false)))
@@ -76,7 +76,7 @@ none_held found j i j' (e, (q, l, is)) = omega (arith, l)
 pub loop-k-init : goal.loop-k-init
 loop-k-init g c = (
   finds_none g.I.OverlayInt.stride g.I.OverlayInt.least g.I.OverlayInt.greatest c.args.pass.now.rounding c.args.pass.now.edges
-      (HeldTo c.args.found.now c.args.j 0) (none_held c.args.found.now c.args.j) (laid_marks g.I.OverlayInt.value g.I.Wide.WideIntNumber.number c.args.marks.now.items),
+      (HeldTo c.args.found.now c.args.j 0) (none_held c.args.found.now c.args.j) (laid_marks g.I.IntNumber.value g.I.Wide.WideIntNumber.number c.args.marks.now.items),
   record { comparisons = refl; pairs = omega arith; bound = omega arith },
 )
 
@@ -87,10 +87,10 @@ pub look-requires-clause-within : goal.look-requires-clause-within
 look-requires-clause-within g c = c.requires.within
 
 pub bounds-segments-i : goal.bounds-segments-i
-bounds-segments-i g c = let h = c.requires.earlier c.loop-k.k nobody c.loop-k-test.true in omega (arith, h, c.requires.within, seen_long (entry_of g.I.OverlayInt.value) c.pass.inside.segments.now (pass_seen c.pass.invariant c.pass.view_is))
+bounds-segments-i g c = let h = c.requires.earlier c.loop-k.k nobody c.loop-k-test.true in omega (arith, h, c.requires.within, seen_long (entry_of g.I.IntNumber.value) c.pass.inside.segments.now (pass_seen c.pass.invariant c.pass.view_is))
 
 pub look-requires-clause-at : goal.look-requires-clause-at
 look-requires-clause-at g c =
     let i = (slice_index_or c.args.found.now c.loop-k.k nobody).number in
     let before = c.requires.earlier c.loop-k.k nobody c.loop-k-test.true in
-    seen_at (entry_of g.I.OverlayInt.value) c.pass.inside.segments.now (pass_seen c.pass.invariant c.pass.view_is) i c.index-segments-i.result (omega (arith, before, c.requires.within)) c.index-segments-i.is
+    seen_at (entry_of g.I.IntNumber.value) c.pass.inside.segments.now (pass_seen c.pass.invariant c.pass.view_is) i c.index-segments-i.result (omega (arith, before, c.requires.within)) c.index-segments-i.is

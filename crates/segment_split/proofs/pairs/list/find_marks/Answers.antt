@@ -19,14 +19,14 @@ loop-i-init g c =
     let rounding = c.args.pass.now.rounding in
     let es = c.args.pass.now.edges in
     let none : ℕ → ℕ → Type 0 = λ h k. (h < 0) × MarksAhead (marks_by rounding) es h k in (
-      subst (λ ms. Finds g.I.OverlayInt.stride least greatest (marks_by rounding) es none [] (laid_marks g.I.OverlayInt.value g.I.Wide.WideIntNumber.number ms) false) (sym c.clear.ensures.items)
+      subst (λ ms. Finds g.I.OverlayInt.stride least greatest (marks_by rounding) es none [] (laid_marks g.I.IntNumber.value g.I.Wide.WideIntNumber.number ms) false) (sym c.clear.ensures.items)
           (finds_none g.I.OverlayInt.stride least greatest rounding es none (λ h k held. let l : h < 0 = held.0 in omega (arith, l)) []),
       record { comparisons = refl; pairs = omega arith; bound = omega arith },
     )
 
 pub returns-clause-found : goal.returns-clause-found
 returns-clause-found g c =
-    let value = g.I.OverlayInt.value in
+    let value = g.I.IntNumber.value in
     let least = g.I.OverlayInt.least in
     let greatest = g.I.OverlayInt.greatest in
     let rounding = c.args.pass.now.rounding in
@@ -39,7 +39,7 @@ returns-clause-found g c =
 
 pub returns-clause-whole : goal.returns-clause-whole
 returns-clause-whole g c =
-    let value = g.I.OverlayInt.value in
+    let value = g.I.IntNumber.value in
     let least = g.I.OverlayInt.least in
     let greatest = g.I.OverlayInt.greatest in
     let rounding = c.args.pass.now.rounding in
@@ -52,7 +52,7 @@ returns-clause-whole g c =
 
 pub loop-i-preserved : goal.loop-i-preserved
 loop-i-preserved g c =
-    let value = g.I.OverlayInt.value in
+    let value = g.I.IntNumber.value in
     let least = g.I.OverlayInt.least in
     let greatest = g.I.OverlayInt.greatest in
     let rounding = c.args.pass.now.rounding in
@@ -72,7 +72,7 @@ returns-in_err-own-clause-steps g c =
     let es = c.args.pass.now.edges in
     let n = length es in
     let i = c.loop-i.i in
-    let less : i < n = omega (arith, c.loop-i-test.true, seen_long (entry_of g.I.OverlayInt.value) c.pass.inside.segments.now (pass_seen c.pass.invariant c.pass.view_is)) in
+    let less : i < n = omega (arith, c.loop-i-test.true, seen_long (entry_of g.I.IntNumber.value) c.pass.inside.segments.now (pass_seen c.pass.invariant c.pass.view_is)) in
     let most : pairs_to n (i + 1) ≤ all_pairs es = pairs_to_all es n refl (i + 1) (omega (arith, less)) in
     let more = pairs_to_more n i in
     up_to_more c.args.steps.now c.loop-i.steps c.look_ahead.new.steps (pairs_to n i) (n - (i + 1)) (all_pairs es) (omega (arith, most, more)) c.loop-i.invariant.1 c.look_ahead.ensures.steps
@@ -82,7 +82,7 @@ returns-clause-steps g c =
     let es = c.args.pass.now.edges in
     let n = length es in
     let i = c.loop-i.i in
-    up_to_greater c.args.steps.now c.loop-i.steps (pairs_to n i) (all_pairs es) (pairs_to_all es n refl i (omega (arith, c.loop-i.auto.i-end, seen_long (entry_of g.I.OverlayInt.value) c.pass.inside.segments.now (pass_seen c.pass.invariant c.pass.view_is)))) c.loop-i.invariant.1
+    up_to_greater c.args.steps.now c.loop-i.steps (pairs_to n i) (all_pairs es) (pairs_to_all es n refl i (omega (arith, c.loop-i.auto.i-end, seen_long (entry_of g.I.IntNumber.value) c.pass.inside.segments.now (pass_seen c.pass.invariant c.pass.view_is)))) c.loop-i.invariant.1
 
 pub look_ahead-requires-clause-within : goal.look_ahead-requires-clause-within
-look_ahead-requires-clause-within g c = omega (arith, c.loop-i-test.true, seen_long (entry_of g.I.OverlayInt.value) c.pass.inside.segments.now (pass_seen c.pass.invariant c.pass.view_is))
+look_ahead-requires-clause-within g c = omega (arith, c.loop-i-test.true, seen_long (entry_of g.I.IntNumber.value) c.pass.inside.segments.now (pass_seen c.pass.invariant c.pass.view_is))

@@ -10,7 +10,7 @@ use Rattle.segment_split.proofs.pairs.list.look_ahead.Goals as goal
 
 pub loop-j-init : goal.loop-j-init
 loop-j-init g c =
-    let value = g.I.OverlayInt.value in
+    let value = g.I.IntNumber.value in
     let least = g.I.OverlayInt.least in
     let greatest = g.I.OverlayInt.greatest in
     let rounding = c.args.pass.now.rounding in
@@ -27,7 +27,7 @@ loop-j-init g c =
 
 pub loop-j-preserved : goal.loop-j-preserved
 loop-j-preserved g c =
-    let value = g.I.OverlayInt.value in
+    let value = g.I.IntNumber.value in
     let least = g.I.OverlayInt.least in
     let greatest = g.I.OverlayInt.greatest in
     let rounding = c.args.pass.now.rounding in
@@ -50,7 +50,7 @@ loop-j-preserved g c =
 
 pub returns-then-ends_before-clause-found : goal.returns-then-ends_before-clause-found
 returns-then-ends_before-clause-found g c =
-    let value = g.I.OverlayInt.value in
+    let value = g.I.IntNumber.value in
     let rounding = c.args.pass.now.rounding in
     let f = entry_of value in
     let segments = c.pass.inside.segments.now in
@@ -69,23 +69,23 @@ returns-then-ends_before-clause-found g c =
 
 pub look-requires-clause-at : goal.look-requires-clause-at
 look-requires-clause-at g c =
-    seen_at (entry_of g.I.OverlayInt.value) c.pass.inside.segments.now (pass_seen c.pass.invariant c.pass.view_is) c.args.i c.index-segments-i.result c.requires.within c.index-segments-i.is
+    seen_at (entry_of g.I.IntNumber.value) c.pass.inside.segments.now (pass_seen c.pass.invariant c.pass.view_is) c.args.i c.index-segments-i.result c.requires.within c.index-segments-i.is
 
 pub look-requires-clause-before : goal.look-requires-clause-before
 look-requires-clause-before g c = c.loop-j.invariant.2
 
 pub look-requires-clause-within : goal.look-requires-clause-within
-look-requires-clause-within g c = omega (arith, c.loop-j-test.true, seen_long (entry_of g.I.OverlayInt.value) c.pass.inside.segments.now (pass_seen c.pass.invariant c.pass.view_is))
+look-requires-clause-within g c = omega (arith, c.loop-j-test.true, seen_long (entry_of g.I.IntNumber.value) c.pass.inside.segments.now (pass_seen c.pass.invariant c.pass.view_is))
 
 pub bounds-segments-i : goal.bounds-segments-i
-bounds-segments-i g c = omega (arith, c.requires.within, seen_long (entry_of g.I.OverlayInt.value) c.pass.inside.segments.now (pass_seen c.pass.invariant c.pass.view_is))
+bounds-segments-i g c = omega (arith, c.requires.within, seen_long (entry_of g.I.IntNumber.value) c.pass.inside.segments.now (pass_seen c.pass.invariant c.pass.view_is))
 
 pub loop-j-smaller : goal.loop-j-smaller
-loop-j-smaller g c = omega (arith, c.loop-j-test.true, c.step_to-j-in-loop-j.ensures.from, seen_long (entry_of g.I.OverlayInt.value) c.pass.inside.segments.now (pass_seen c.pass.invariant c.pass.view_is))
+loop-j-smaller g c = omega (arith, c.loop-j-test.true, c.step_to-j-in-loop-j.ensures.from, seen_long (entry_of g.I.IntNumber.value) c.pass.inside.segments.now (pass_seen c.pass.invariant c.pass.view_is))
 
 pub returns-clause-found : goal.returns-clause-found
 returns-clause-found g c =
-    let value = g.I.OverlayInt.value in
+    let value = g.I.IntNumber.value in
     let es = c.args.pass.now.edges in
     let end : length es ≤ c.loop-j.j = omega (arith, c.loop-j-test.false, seen_long (entry_of value) c.pass.inside.segments.now (pass_seen c.pass.invariant c.pass.view_is)) in
     ahead_done g.I.OverlayInt.stride g.I.OverlayInt.least g.I.OverlayInt.greatest c.args.pass.now.rounding es c.args.i c.loop-j.j
@@ -97,14 +97,14 @@ returns-then-ends_before-clause-steps g c =
     let n = length c.args.pass.now.edges in
     let ticked : c.ends_before.new.steps.pairs ≡ c.loop-j.steps.pairs + 1 = rw c.if-ends_before.true at c.ends_before.ensures.pairs in
     up_to_ticked c.args.steps.now c.loop-j.steps c.ends_before.new.steps (min c.loop-j.j n - (c.args.i + 1)) (n - (c.args.i + 1))
-    (omega (arith, c.loop-j-test.true, c.loop-j.invariant.2, seen_long (entry_of g.I.OverlayInt.value) c.pass.inside.segments.now (pass_seen c.pass.invariant c.pass.view_is))) c.loop-j.invariant.1 c.ends_before.ensures.comparisons ticked
+    (omega (arith, c.loop-j-test.true, c.loop-j.invariant.2, seen_long (entry_of g.I.IntNumber.value) c.pass.inside.segments.now (pass_seen c.pass.invariant c.pass.view_is))) c.loop-j.invariant.1 c.ends_before.ensures.comparisons ticked
 
 pub returns-in_err-own-clause-steps : goal.returns-in_err-own-clause-steps
 returns-in_err-own-clause-steps g c =
     let n = length c.args.pass.now.edges in
     let still : c.ends_before.new.steps.pairs ≡ c.loop-j.steps.pairs + 0 = rw c.if-ends_before.false at c.ends_before.ensures.pairs in
     up_to_ticked c.args.steps.now c.loop-j.steps c.look.new.steps (min c.loop-j.j n - (c.args.i + 1)) (n - (c.args.i + 1))
-    (omega (arith, c.loop-j-test.true, c.loop-j.invariant.2, seen_long (entry_of g.I.OverlayInt.value) c.pass.inside.segments.now (pass_seen c.pass.invariant c.pass.view_is))) c.loop-j.invariant.1
+    (omega (arith, c.loop-j-test.true, c.loop-j.invariant.2, seen_long (entry_of g.I.IntNumber.value) c.pass.inside.segments.now (pass_seen c.pass.invariant c.pass.view_is))) c.loop-j.invariant.1
     (c.look.ensures.comparisons ∙ c.ends_before.ensures.comparisons) (omega (arith, c.look.ensures.pairs, still))
 
 pub returns-clause-steps : goal.returns-clause-steps

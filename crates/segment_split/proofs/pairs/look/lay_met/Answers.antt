@@ -14,7 +14,7 @@ use Rattle.segment_split.proofs.pairs.look.lay_met.Goals as goal
 
 pub meet_closely-found-requires-clause-not_greater : goal.meet_closely-found-requires-clause-not_greater
 meet_closely-found-requires-clause-not_greater g c =
-    let f = entry_of g.I.OverlayInt.value in
+    let f = entry_of g.I.IntNumber.value in
     let segments = c.pass.inside.segments.now in
     let es = c.args.pass.now.edges in
     let i = c.args.i in
@@ -30,18 +30,18 @@ meet_closely-found-requires-clause-not_greater g c =
 pub meet_closely-found-requires-clause-target_in_range : goal.meet_closely-found-requires-clause-target_in_range
 meet_closely-found-requires-clause-target_in_range g c =
     rw (← c.index-segments-i.is)
-    (All-mapped (λ e. IsEdgeWithin g.I.OverlayInt.least g.I.OverlayInt.greatest e.edge) (entry_of g.I.OverlayInt.value) c.pass.inside.segments.now c.args.i c.index-segments-i.result
-    (omega (arith, c.requires.before, c.requires.within, seen_long (entry_of g.I.OverlayInt.value) c.pass.inside.segments.now (pass_seen c.pass.invariant c.pass.view_is))) c.index-segments-i.is c.pass.invariant.within)
+    (All-mapped (λ e. IsEdgeWithin g.I.OverlayInt.least g.I.OverlayInt.greatest e.edge) (entry_of g.I.IntNumber.value) c.pass.inside.segments.now c.args.i c.index-segments-i.result
+    (omega (arith, c.requires.before, c.requires.within, seen_long (entry_of g.I.IntNumber.value) c.pass.inside.segments.now (pass_seen c.pass.invariant c.pass.view_is))) c.index-segments-i.is c.pass.invariant.within)
 
 pub meet_closely-found-requires-clause-other_in_range : goal.meet_closely-found-requires-clause-other_in_range
 meet_closely-found-requires-clause-other_in_range g c =
     rw (← c.index-segments-j.is)
-    (All-mapped (λ e. IsEdgeWithin g.I.OverlayInt.least g.I.OverlayInt.greatest e.edge) (entry_of g.I.OverlayInt.value) c.pass.inside.segments.now c.args.j c.index-segments-j.result
-    (omega (arith, c.requires.within, seen_long (entry_of g.I.OverlayInt.value) c.pass.inside.segments.now (pass_seen c.pass.invariant c.pass.view_is))) c.index-segments-j.is c.pass.invariant.within)
+    (All-mapped (λ e. IsEdgeWithin g.I.OverlayInt.least g.I.OverlayInt.greatest e.edge) (entry_of g.I.IntNumber.value) c.pass.inside.segments.now c.args.j c.index-segments-j.result
+    (omega (arith, c.requires.within, seen_long (entry_of g.I.IntNumber.value) c.pass.inside.segments.now (pass_seen c.pass.invariant c.pass.view_is))) c.index-segments-j.is c.pass.invariant.within)
 
 pub meet_closely-found-requires-clause-sides : goal.meet_closely-found-requires-clause-sides
 meet_closely-found-requires-clause-sides g c =
-    let f = entry_of g.I.OverlayInt.value in
+    let f = entry_of g.I.IntNumber.value in
     let segments = c.pass.inside.segments.now in
     let i = c.args.i in
     let j = c.args.j in
@@ -59,7 +59,7 @@ lay-requires-2 g c = c.meet_closely-found.ensures.within.second
 
 pub returns-clause-found : goal.returns-clause-found
 returns-clause-found g c =
-    let value = g.I.OverlayInt.value in
+    let value = g.I.IntNumber.value in
     let least = g.I.OverlayInt.least in
     let greatest = g.I.OverlayInt.greatest in
     let f = entry_of value in
@@ -81,7 +81,7 @@ returns-clause-found g c =
     (c.in_ok-lay-2.ensures.laid ∙ ap (λ l. l ++ laid_on g.I.OverlayInt.stride j t m.second) c.in_ok-lay.ensures.laid))
 
 pub bounds-segments-i : goal.bounds-segments-i
-bounds-segments-i g c = omega (arith, c.requires.before, c.requires.within, seen_long (entry_of g.I.OverlayInt.value) c.pass.inside.segments.now (pass_seen c.pass.invariant c.pass.view_is))
+bounds-segments-i g c = omega (arith, c.requires.before, c.requires.within, seen_long (entry_of g.I.IntNumber.value) c.pass.inside.segments.now (pass_seen c.pass.invariant c.pass.view_is))
 
 pub bounds-segments-j : goal.bounds-segments-j
-bounds-segments-j g c = omega (arith, c.requires.within, seen_long (entry_of g.I.OverlayInt.value) c.pass.inside.segments.now (pass_seen c.pass.invariant c.pass.view_is))
+bounds-segments-j g c = omega (arith, c.requires.within, seen_long (entry_of g.I.IntNumber.value) c.pass.inside.segments.now (pass_seen c.pass.invariant c.pass.view_is))

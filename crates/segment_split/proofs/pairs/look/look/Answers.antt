@@ -14,19 +14,19 @@ use Rattle.segment_split.proofs.pairs.look.look.Goals as goal
 pub sides_unless_apart-requires-clause-target_in_range : goal.sides_unless_apart-requires-clause-target_in_range
 sides_unless_apart-requires-clause-target_in_range g c =
     let es = c.args.pass.now.edges in
-    let s = edge_of g.I.OverlayInt.value c.args.s in
+    let s = edge_of g.I.IntNumber.value c.args.s in
     let pass = pass_seen c.pass.invariant c.pass.view_is in
     All-contains (IsEdgeWithin g.I.OverlayInt.least g.I.OverlayInt.greatest) es s pass.within (at_contains es c.args.i s c.requires.at)
 
 pub sides_unless_apart-requires-clause-other_in_range : goal.sides_unless_apart-requires-clause-other_in_range
 sides_unless_apart-requires-clause-other_in_range g c =
     rw (← c.index-segments-j.is)
-    (All-mapped (λ e. IsEdgeWithin g.I.OverlayInt.least g.I.OverlayInt.greatest e.edge) (entry_of g.I.OverlayInt.value) c.pass.inside.segments.now c.args.j c.index-segments-j.result
-    (omega (arith, c.requires.within, seen_long (entry_of g.I.OverlayInt.value) c.pass.inside.segments.now (pass_seen c.pass.invariant c.pass.view_is))) c.index-segments-j.is c.pass.invariant.within)
+    (All-mapped (λ e. IsEdgeWithin g.I.OverlayInt.least g.I.OverlayInt.greatest e.edge) (entry_of g.I.IntNumber.value) c.pass.inside.segments.now c.args.j c.index-segments-j.result
+    (omega (arith, c.requires.within, seen_long (entry_of g.I.IntNumber.value) c.pass.inside.segments.now (pass_seen c.pass.invariant c.pass.view_is))) c.index-segments-j.is c.pass.invariant.within)
 
 pub returns-in_default-clause-found : goal.returns-in_default-clause-found
 returns-in_default-clause-found g c =
-    let value = g.I.OverlayInt.value in
+    let value = g.I.IntNumber.value in
     let f = entry_of value in
     let segments = c.pass.inside.segments.now in
     let es = c.args.pass.now.edges in
@@ -40,7 +40,7 @@ returns-in_default-clause-found g c =
 
 pub lay_met-requires-clause-sides : goal.lay_met-requires-clause-sides
 lay_met-requires-clause-sides g c = λ s t at there.
-    let value = g.I.OverlayInt.value in
+    let value = g.I.IntNumber.value in
     let f = entry_of value in
     let segments = c.pass.inside.segments.now in
     let es = c.args.pass.now.edges in
@@ -56,4 +56,4 @@ lay_met-requires-clause-sides g c = λ s t at there.
     (subst (λ u. AreSides g.I.Wide.WideIntNumber.number g.I.OverlayInt.most own u sides) (at_same es j other t stands there) are)
 
 pub bounds-segments-j : goal.bounds-segments-j
-bounds-segments-j g c = omega (arith, c.requires.within, seen_long (entry_of g.I.OverlayInt.value) c.pass.inside.segments.now (pass_seen c.pass.invariant c.pass.view_is))
+bounds-segments-j g c = omega (arith, c.requires.within, seen_long (entry_of g.I.IntNumber.value) c.pass.inside.segments.now (pass_seen c.pass.invariant c.pass.view_is))

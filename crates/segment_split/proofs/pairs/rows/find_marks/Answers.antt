@@ -34,7 +34,7 @@ pub returns-clause-found : goal.returns-clause-found
 returns-clause-found g c =
     let least = g.I.OverlayInt.least in
     let greatest = g.I.OverlayInt.greatest in
-    let value = g.I.OverlayInt.value in
+    let value = g.I.IntNumber.value in
     let rounding = c.args.pass.now.rounding in
     let es = c.args.pass.now.edges in
     let next_new = c.args.pass.now.next_new in
@@ -49,7 +49,7 @@ pub returns-clause-whole : goal.returns-clause-whole
 returns-clause-whole g c = λ down.
     let least = g.I.OverlayInt.least in
     let greatest = g.I.OverlayInt.greatest in
-    let value = g.I.OverlayInt.value in
+    let value = g.I.IntNumber.value in
     let rounding = c.args.pass.now.rounding in
     let es = c.args.pass.now.edges in
     let next_new = c.args.pass.now.next_new in
@@ -64,7 +64,7 @@ returns-clause-whole g c = λ down.
 
 pub returns-then-first-pass-clause-found : goal.returns-then-first-pass-clause-found
 returns-then-first-pass-clause-found g c =
-    let value = g.I.OverlayInt.value in
+    let value = g.I.IntNumber.value in
     let rounding = c.args.pass.now.rounding in
     let es = c.args.pass.now.edges in
     let pass = pass_seen c.pass.invariant c.pass.view_is in
@@ -76,7 +76,7 @@ returns-then-first-pass-clause-found g c =
 
 pub returns-then-first-pass-clause-whole : goal.returns-then-first-pass-clause-whole
 returns-then-first-pass-clause-whole g c = λ _.
-    let value = g.I.OverlayInt.value in
+    let value = g.I.IntNumber.value in
     let es = c.args.pass.now.edges in
     let pass = pass_seen c.pass.invariant c.pass.view_is in
     let next = c.next_from-first.result in

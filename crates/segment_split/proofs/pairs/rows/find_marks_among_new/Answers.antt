@@ -18,7 +18,7 @@ use Rattle.segment_split.proofs.pairs.rows.find_marks_among_new.Goals as goal
 
 pub returns-clause-steps : goal.returns-clause-steps
 returns-clause-steps g c = λ test takes.
-    let value = g.I.OverlayInt.value in
+    let value = g.I.IntNumber.value in
     let es = c.args.pass.now.edges in
     let next_new = c.args.pass.now.next_new in
     let pass = pass_seen c.pass.invariant c.pass.view_is in
@@ -42,7 +42,7 @@ pub returns-clause-found : goal.returns-clause-found
 returns-clause-found g c =
     let least = g.I.OverlayInt.least in
     let greatest = g.I.OverlayInt.greatest in
-    let value = g.I.OverlayInt.value in
+    let value = g.I.IntNumber.value in
     let rounding = c.args.pass.now.rounding in
     let es = c.args.pass.now.edges in
     let next_new = c.args.pass.now.next_new in
@@ -70,22 +70,22 @@ returns-clause-found g c =
 
 pub hold_rows-requires-clause-told : goal.hold_rows-requires-clause-told
 hold_rows-requires-clause-told g c =
-    as_seen (entry_of g.I.OverlayInt.value) c.pass.inside.segments.now (pass_seen c.pass.invariant c.pass.view_is) (λ es _ _. AreTold es c.deref.result.now) (rw c.deref.ensures.value c.in_ok-reaches.ensures.told)
+    as_seen (entry_of g.I.IntNumber.value) c.pass.inside.segments.now (pass_seen c.pass.invariant c.pass.view_is) (λ es _ _. AreTold es c.deref.result.now) (rw c.deref.ensures.value c.in_ok-reaches.ensures.told)
 
 pub hold_rows-requires-clause-from_rows : goal.hold_rows-requires-clause-from_rows
 hold_rows-requires-clause-from_rows g c =
     let fresh = c.in_ok-rows.rows.fresh in
-    as_seen (entry_of g.I.OverlayInt.value) c.pass.inside.segments.now (pass_seen c.pass.invariant c.pass.view_is) (λ _ _ n. AreRows n fresh.begins.items fresh.passes.items) c.in_ok-rows.ensures.fresh_rows
+    as_seen (entry_of g.I.IntNumber.value) c.pass.inside.segments.now (pass_seen c.pass.invariant c.pass.view_is) (λ _ _ n. AreRows n fresh.begins.items fresh.passes.items) c.in_ok-rows.ensures.fresh_rows
 
 pub hold_rows-requires-clause-to_rows : goal.hold_rows-requires-clause-to_rows
 hold_rows-requires-clause-to_rows g c =
     let fresh = c.in_ok-rows.rows.fresh in
-    as_seen (entry_of g.I.OverlayInt.value) c.pass.inside.segments.now (pass_seen c.pass.invariant c.pass.view_is) (λ _ _ n. AreRows n fresh.begins.items fresh.passes.items) c.in_ok-rows.ensures.fresh_rows
+    as_seen (entry_of g.I.IntNumber.value) c.pass.inside.segments.now (pass_seen c.pass.invariant c.pass.view_is) (λ _ _ n. AreRows n fresh.begins.items fresh.passes.items) c.in_ok-rows.ensures.fresh_rows
 
 pub place_all-requires-clause-few : goal.place_all-requires-clause-few
 place_all-requires-clause-few g c =
     let pass = pass_seen c.pass.invariant c.pass.view_is in
-    omega (arith, pass.few, seen_long (entry_of g.I.OverlayInt.value) c.pass.inside.segments.now pass)
+    omega (arith, pass.few, seen_long (entry_of g.I.IntNumber.value) c.pass.inside.segments.now pass)
 
 pub place_all-requires-clause-in_range : goal.place_all-requires-clause-in_range
 place_all-requires-clause-in_range g c = c.pass.invariant.within

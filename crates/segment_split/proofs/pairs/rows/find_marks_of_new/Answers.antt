@@ -19,7 +19,7 @@ use Rattle.segment_split.proofs.pairs.rows.find_marks_of_new.Goals as goal
 few_of_new : (g : Over) (c : After-hold_all g) → (test : Edge → Edge → Bool) → TakesNew c.args.pass.now.edges c.args.pass.now.next_new test
     → CountsPairsUpTo c.args.steps.now c.hold_all.new.steps (pairs_by test c.args.pass.now.edges)
 few_of_new g c test takes =
-    let value = g.I.OverlayInt.value in
+    let value = g.I.IntNumber.value in
     let es = c.args.pass.now.edges in
     let next_new = c.args.pass.now.next_new in
     let pass = pass_seen c.pass.invariant c.pass.view_is in
@@ -49,7 +49,7 @@ pub returns-clause-found : goal.returns-clause-found
 returns-clause-found g c =
     let least = g.I.OverlayInt.least in
     let greatest = g.I.OverlayInt.greatest in
-    let value = g.I.OverlayInt.value in
+    let value = g.I.IntNumber.value in
     let rounding = c.args.pass.now.rounding in
     let es = c.args.pass.now.edges in
     let next_new = c.args.pass.now.next_new in
@@ -75,7 +75,7 @@ pub returns-clause-whole : goal.returns-clause-whole
 returns-clause-whole g c = λ down i j s t at there differ.
     let least = g.I.OverlayInt.least in
     let greatest = g.I.OverlayInt.greatest in
-    let value = g.I.OverlayInt.value in
+    let value = g.I.IntNumber.value in
     let rounding = c.args.pass.now.rounding in
     let es = c.args.pass.now.edges in
     let next_new = c.args.pass.now.next_new in
@@ -100,22 +100,22 @@ returns-clause-whole g c = λ down i j s t at there differ.
 
 pub hold_all-requires-clause-told : goal.hold_all-requires-clause-told
 hold_all-requires-clause-told g c =
-    as_seen (entry_of g.I.OverlayInt.value) c.pass.inside.segments.now (pass_seen c.pass.invariant c.pass.view_is) (λ es _ _. AreTold es c.deref.result.now) (rw c.deref.ensures.value c.in_ok-reaches.ensures.told)
+    as_seen (entry_of g.I.IntNumber.value) c.pass.inside.segments.now (pass_seen c.pass.invariant c.pass.view_is) (λ es _ _. AreTold es c.deref.result.now) (rw c.deref.ensures.value c.in_ok-reaches.ensures.told)
 
 pub hold_all-requires-clause-fresh_rows : goal.hold_all-requires-clause-fresh_rows
 hold_all-requires-clause-fresh_rows g c =
     let fresh = c.in_ok-rows.rows.fresh in
-    as_seen (entry_of g.I.OverlayInt.value) c.pass.inside.segments.now (pass_seen c.pass.invariant c.pass.view_is) (λ _ _ n. AreRows n fresh.begins.items fresh.passes.items) c.in_ok-rows.ensures.fresh_rows
+    as_seen (entry_of g.I.IntNumber.value) c.pass.inside.segments.now (pass_seen c.pass.invariant c.pass.view_is) (λ _ _ n. AreRows n fresh.begins.items fresh.passes.items) c.in_ok-rows.ensures.fresh_rows
 
 pub hold_all-requires-clause-old_rows : goal.hold_all-requires-clause-old_rows
 hold_all-requires-clause-old_rows g c =
     let old = c.in_ok-rows.rows.old in
-    as_seen (entry_of g.I.OverlayInt.value) c.pass.inside.segments.now (pass_seen c.pass.invariant c.pass.view_is) (λ _ _ n. AreRows n old.begins.items old.passes.items) c.in_ok-rows.ensures.old_rows
+    as_seen (entry_of g.I.IntNumber.value) c.pass.inside.segments.now (pass_seen c.pass.invariant c.pass.view_is) (λ _ _ n. AreRows n old.begins.items old.passes.items) c.in_ok-rows.ensures.old_rows
 
 pub place_all-requires-clause-few : goal.place_all-requires-clause-few
 place_all-requires-clause-few g c =
     let pass = pass_seen c.pass.invariant c.pass.view_is in
-    omega (arith, pass.few, seen_long (entry_of g.I.OverlayInt.value) c.pass.inside.segments.now pass)
+    omega (arith, pass.few, seen_long (entry_of g.I.IntNumber.value) c.pass.inside.segments.now pass)
 
 pub place_all-requires-clause-in_range : goal.place_all-requires-clause-in_range
 place_all-requires-clause-in_range g c = c.pass.invariant.within

@@ -18,7 +18,7 @@ use Rattle.segment_split.proofs.pass.cutting.cut_all.Goals as goal
 
 pub loop-left-init : goal.loop-left-init
 loop-left-init g c =
-    let value = g.I.OverlayInt.value in
+    let value = g.I.IntNumber.value in
     let seen = seen_entries_of value g.D.OverlayEdgeData.JOINS in (
       all_left (laid_marks value g.I.Wide.WideIntNumber.number c.args.marks.now),
       omega arith,
@@ -29,7 +29,7 @@ loop-left-init g c =
 -- ---- the segment of the first mark that is left
 
 abbrev view : (g : Over) → Mark g.row.I.Denot g.row.I-Wide.Denot → LaidMark
-view g = laid_of g.I.OverlayInt.value g.I.Wide.WideIntNumber.number
+view g = laid_of g.I.IntNumber.value g.I.Wide.WideIntNumber.number
 
 abbrev next : (g : Over) (c : After-split_at g) → ℕ
 next g c = (get_or c.loop-left.left.now 0 c.index-left-0.result).segment
@@ -95,7 +95,7 @@ loop-left-smaller g c =
 pub loop-left-preserved : goal.loop-left-preserved
 loop-left-preserved g c =
     let at = (goal.at.loop-left-preserved g c).After-split_at in
-    let value = g.I.OverlayInt.value in
+    let value = g.I.IntNumber.value in
     let stride = g.I.OverlayInt.stride in
     let least = g.I.OverlayInt.least in
     let greatest = g.I.OverlayInt.greatest in
@@ -139,7 +139,7 @@ none_left g c =
 
 pub returns-clause-cut : goal.returns-clause-cut
 returns-clause-cut g c =
-    let value = g.I.OverlayInt.value in
+    let value = g.I.IntNumber.value in
     let segments = c.args.segments.now in
     let kept = c.loop-left.kept.items in
     cut_to_end (entry_of value) segments c.requires.normal g.I.OverlayInt.stride g.I.OverlayInt.least g.I.OverlayInt.greatest g.I.OverlayInt.span
@@ -149,7 +149,7 @@ returns-clause-cut g c =
 
 pub returns-clause-data : goal.returns-clause-data
 returns-clause-data g c =
-    let value = g.I.OverlayInt.value in
+    let value = g.I.IntNumber.value in
     let joins = g.D.OverlayEdgeData.JOINS in
     let segments = c.args.segments.now in
     let kept = c.loop-left.kept.items in

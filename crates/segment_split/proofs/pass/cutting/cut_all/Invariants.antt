@@ -9,7 +9,7 @@ use Rattle.segment_split.proofs.pass.cutting.cut_all.Given as goal
 -- The segments before this one are cut or kept, and their marks are done with.
 abbrev pub invariant-loop-left : goal.invariant-loop-left
 invariant-loop-left g l =
-    let value = g.I.OverlayInt.value in
+    let value = g.I.IntNumber.value in
     let stride = g.I.OverlayInt.stride in
     let least = g.I.OverlayInt.least in
     let greatest = g.I.OverlayInt.greatest in

@@ -13,7 +13,7 @@ use Rattle.segment_split.proofs.pass.cutting.lay_run.Goals as goal
 
 pub loop-mark-preserved : goal.loop-mark-preserved
 loop-mark-preserved g c =
-    let value = g.I.OverlayInt.value in
+    let value = g.I.IntNumber.value in
     let joins = g.D.OverlayEdgeData.JOINS in
     let kind = g.C.WindingCount.counting in
     let kind_seen = carrying kind joins g.D.OverlayEdgeData.join in
@@ -40,7 +40,7 @@ loop-mark-preserved g c =
 
 pub returns-clause-data : goal.returns-clause-data
 returns-clause-data g c =
-    let value = g.I.OverlayInt.value in
+    let value = g.I.IntNumber.value in
     let joins = g.D.OverlayEdgeData.JOINS in
     let kind_seen = carrying g.C.WindingCount.counting joins g.D.OverlayEdgeData.join in
     let segment = c.args.segment in

@@ -9,7 +9,7 @@ use Rattle.segment_split.proofs.pass.cutting.lay_run.Given as goal
 -- What is laid, and then what the path lays from this mark on, is all.
 abbrev pub invariant-loop-mark : goal.invariant-loop-mark
 invariant-loop-mark g l =
-    let value = g.I.OverlayInt.value in
+    let value = g.I.IntNumber.value in
     let lays = laid_path g.C.WindingCount.counting l.fn.segment.count in
     let rest = map (λ m. m.point) (laid_marks value g.I.Wide.WideIntNumber.number (drop l.mark-index l.run)) ++ (point_of value l.fn.segment.x_segment.b ∷ []) in
     let joins = g.D.OverlayEdgeData.JOINS in

@@ -13,7 +13,7 @@ eq-requires g c κs = λ h. h
 
 pub returns-clause-data : goal.returns-clause-data
 returns-clause-data g c =
-    let value = g.I.OverlayInt.value in
+    let value = g.I.IntNumber.value in
     let joins = g.D.OverlayEdgeData.JOINS in
     let kind = carrying g.C.WindingCount.counting joins g.D.OverlayEdgeData.join in
     c.in_ok-lay_step.ensures.«data»

@@ -18,10 +18,10 @@ cut_by_slope-requires-clause-in_place g c = rw c.deref.ensures.value c.in_ok-put
 
 -- the segments, cut apart and the pieces in order
 apart : (g : Over) (c : Joined-is_marked g) → IsCutApart g.I.OverlayInt.stride g.I.OverlayInt.least g.I.OverlayInt.greatest g.C.WindingCount.counting (of_count g.C.WindingCount.of)
-    (laid_marks g.I.OverlayInt.value g.I.Wide.WideIntNumber.number c.args.room.now.marks.items) (entries_of g.I.OverlayInt.value c.args.segments.now)
-    (entries_of g.I.OverlayInt.value c.if-is_marked.lines.items) (entries_of g.I.OverlayInt.value c.cut_by_slope.new.others.items)
+    (laid_marks g.I.IntNumber.value g.I.Wide.WideIntNumber.number c.args.room.now.marks.items) (entries_of g.I.IntNumber.value c.args.segments.now)
+    (entries_of g.I.IntNumber.value c.if-is_marked.lines.items) (entries_of g.I.IntNumber.value c.cut_by_slope.new.others.items)
 apart g c =
-    let value = g.I.OverlayInt.value in
+    let value = g.I.IntNumber.value in
     let seen = laid_of value g.I.Wide.WideIntNumber.number in
     let es = entries_of value c.args.segments.now in
     let found = c.args.room.now.marks.items in
@@ -65,7 +65,7 @@ returns-clause-unmarked g c = λ none.
 
 pub returns-clause-order : goal.returns-clause-order
 returns-clause-order g c =
-    let value = g.I.OverlayInt.value in
+    let value = g.I.IntNumber.value in
     let es = entries_of value c.args.segments.now in
     let marks = c.args.room.now.marks in
     let ordered = c.put_in_order.new.marks.items in

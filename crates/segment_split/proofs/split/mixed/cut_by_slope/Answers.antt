@@ -17,7 +17,7 @@ use Rattle.segment_split.proofs.split.mixed.cut_by_slope.Goals as goal
 
 pub loop-i-init : goal.loop-i-init
 loop-i-init g c =
-    let value = g.I.OverlayInt.value in
+    let value = g.I.IntNumber.value in
     let of = of_count g.C.WindingCount.of in
     let none : with_counts of (entries_of value c.reserve.new.self.items) ≡ [] = ap (λ l. with_counts of (entries_of value l)) (c.reserve.ensures.items ∙ c.clear.ensures.items) in (
       all_left (laid_marks value g.I.Wide.WideIntNumber.number c.args.marks.now),
@@ -29,7 +29,7 @@ loop-i-init g c =
 
 pub loop-i-preserved : goal.loop-i-preserved
 loop-i-preserved g c =
-    let value = g.I.OverlayInt.value in
+    let value = g.I.IntNumber.value in
     let f = entry_of value in
     let kind = g.C.WindingCount.counting in
     let of = of_count g.C.WindingCount.of in
@@ -78,7 +78,7 @@ loop-i-preserved g c =
 
 pub returns-clause-cut : goal.returns-clause-cut
 returns-clause-cut g c = λ precision k marked.
-    let value = g.I.OverlayInt.value in
+    let value = g.I.IntNumber.value in
     let kind = g.C.WindingCount.counting in
     let segments = c.args.segments.now in
     let es = entries_of value segments in
@@ -89,9 +89,9 @@ returns-clause-cut g c = λ precision k marked.
     (c.loop-i.invariant.4 precision k marked ∙ ap (λ l. all_cut kind (marks_in precision k) (edges_of es) (slanted_among l)) whole)
 
 pub returns-clause-directed : goal.returns-clause-directed
-returns-clause-directed g c = directed_sums (of_count g.C.WindingCount.of) (entries_of g.I.OverlayInt.value c.loop-i.lines.items) c.loop-i.invariant.1
+returns-clause-directed g c = directed_sums (of_count g.C.WindingCount.of) (entries_of g.I.IntNumber.value c.loop-i.lines.items) c.loop-i.invariant.1
 
 pub returns-clause-unmarked : goal.returns-clause-unmarked
 returns-clause-unmarked g c = λ none.
     c.loop-i.invariant.2 none
-    ∙ ap (λ l. lines_among (entries_of g.I.OverlayInt.value l)) (take_all c.loop-i.i c.args.segments.now (omega (arith, c.loop-i-test.false)))
+    ∙ ap (λ l. lines_among (entries_of g.I.IntNumber.value l)) (take_all c.loop-i.i c.args.segments.now (omega (arith, c.loop-i-test.false)))

@@ -13,7 +13,7 @@ use Rattle.segment_split.proofs.split.mixed.cut_by_slope.Given as goal
 -- The segments before this one are cut, horizontal and vertical ones apart from slanted ones, and their marks are done with.
 abbrev pub invariant-loop-i : goal.invariant-loop-i
 invariant-loop-i g l =
-    let value = g.I.OverlayInt.value in
+    let value = g.I.IntNumber.value in
     let kind = g.C.WindingCount.counting in
     let edges = edges_of (entries_of value l.segments) in
     let before = entries_of value (take l.i l.segments) in

@@ -35,8 +35,8 @@ none_of {X} {Y} f xs = (ap (map f), back xs)
 -- the map, cut at the marks
 cut : (g : Over) (c : In_ok-is_marked g)
     → IsCutApart g.I.OverlayInt.stride g.I.OverlayInt.least g.I.OverlayInt.greatest g.C.WindingCount.counting (of_count g.C.WindingCount.of)
-    (laid_marks g.I.OverlayInt.value g.I.Wide.WideIntNumber.number c.args.room.now.marks.items) (entries_of g.I.OverlayInt.value c.args.segments.now.items)
-    (entries_of g.I.OverlayInt.value c.cut_apart.new.lines.items) (entries_of g.I.OverlayInt.value c.cut_apart.new.others.items)
+    (laid_marks g.I.IntNumber.value g.I.Wide.WideIntNumber.number c.args.room.now.marks.items) (entries_of g.I.IntNumber.value c.args.segments.now.items)
+    (entries_of g.I.IntNumber.value c.cut_apart.new.lines.items) (entries_of g.I.IntNumber.value c.cut_apart.new.others.items)
 cut g c = rw c.deref-2.ensures.value at c.in_ok-is_marked.ensures.cut
 
 added : (g : Over) (c : In_ok-is_marked g) → IsAdded g.C.WindingCount.counting g.C.WindingCount.fits g.C.WindingCount.of
@@ -44,7 +44,7 @@ added g c = g.met.C.WindingCount.added c.requires.adds
 
 pub returns-in_err-is_marked : goal.returns-in_err-is_marked
 returns-in_err-is_marked g c = λ solver first s.
-    let value = g.I.OverlayInt.value in
+    let value = g.I.IntNumber.value in
     let joins = g.D.OverlayEdgeData.JOINS in
     let given = listed value joins c.args.segments.now.items in
     let lines = c.cut_apart.new.lines.items in
@@ -57,7 +57,7 @@ returns-in_err-is_marked g c = λ solver first s.
 
 pub lay_marked-requires-clause-rectilinear : goal.lay_marked-requires-clause-rectilinear
 lay_marked-requires-clause-rectilinear g c =
-    let value = g.I.OverlayInt.value in
+    let value = g.I.IntNumber.value in
     let at = (goal.at.lay_marked-requires-clause-rectilinear g c).In_ok-is_marked in
     let searched = c.requires.searched in
     let s = searched.2 in
@@ -67,7 +67,7 @@ lay_marked-requires-clause-rectilinear g c =
 
 pub lay_marked-requires-clause-unmarked : goal.lay_marked-requires-clause-unmarked
 lay_marked-requires-clause-unmarked g c = λ down.
-    let value = g.I.OverlayInt.value in
+    let value = g.I.IntNumber.value in
     let at = (goal.at.lay_marked-requires-clause-unmarked g c).In_ok-is_marked in
     let uncut = rw c.deref-2.ensures.value at c.in_ok-is_marked.ensures.unmarked in
     rw c.deref-3.ensures.value (uncut_normal (added g at) (entries_of value c.args.segments.now.items) c.requires.can.normal
@@ -75,7 +75,7 @@ lay_marked-requires-clause-unmarked g c = λ down.
 
 pub returns-in_err-lay_marked : goal.returns-in_err-lay_marked
 returns-in_err-lay_marked g c = λ solver first s.
-    let value = g.I.OverlayInt.value in
+    let value = g.I.IntNumber.value in
     let joins = g.D.OverlayEdgeData.JOINS in
     let at = (goal.at.returns-in_err-lay_marked g c).In_ok-is_marked in
     let given = listed value joins c.args.segments.now.items in
@@ -90,11 +90,11 @@ returns-in_err-lay_marked g c = λ solver first s.
 
 -- whether anything is marked
 told : (g : Over) (c : In_ok-lay_marked g) (solver : Solver) (first : _) → IsSearched g.I.OverlayInt.stride g.I.OverlayInt.least g.I.OverlayInt.greatest solver
-    (entries_of g.I.OverlayInt.value c.args.segments.now.items)
-    (laid_marks g.I.OverlayInt.value g.I.Wide.WideIntNumber.number c.args.room.now.marks.items) c.args.is_last first c.args.steps.now
-    → (c.in_ok-lay_marked.field-0 ≡ true) ↔ MarksSome (marks_in solver.precision 0) (edges_of (entries_of g.I.OverlayInt.value c.args.segments.now.items))
+    (entries_of g.I.IntNumber.value c.args.segments.now.items)
+    (laid_marks g.I.IntNumber.value g.I.Wide.WideIntNumber.number c.args.room.now.marks.items) c.args.is_last first c.args.steps.now
+    → (c.in_ok-lay_marked.field-0 ≡ true) ↔ MarksSome (marks_in solver.precision 0) (edges_of (entries_of g.I.IntNumber.value c.args.segments.now.items))
 told g c solver first s =
-    let value = g.I.OverlayInt.value in
+    let value = g.I.IntNumber.value in
     let number = g.I.Wide.WideIntNumber.number in
     let marks = c.args.room.now.marks.items in
     let uncut = rw c.deref-2.ensures.value at c.in_ok-is_marked.ensures.unmarked in
@@ -109,7 +109,7 @@ told g c solver first s =
 
 pub returns-then-not-branch : goal.returns-then-not-branch
 returns-then-not-branch g c = λ solver first s.
-    let value = g.I.OverlayInt.value in
+    let value = g.I.IntNumber.value in
     let joins = g.D.OverlayEdgeData.JOINS in
     let steps = goal.at.returns-then-not-branch g c in
     let at = steps.In_ok-is_marked in
@@ -124,7 +124,7 @@ returns-then-not-branch g c = λ solver first s.
 
 pub returns-in_err-put_all : goal.returns-in_err-put_all
 returns-in_err-put_all g c = λ solver first s.
-    let value = g.I.OverlayInt.value in
+    let value = g.I.IntNumber.value in
     let joins = g.D.OverlayEdgeData.JOINS in
     let at = (goal.at.returns-in_err-put_all g c).In_ok-is_marked in
     let work = work_of g.C.WindingCount.counting g.C.WindingCount.fits joins g.D.OverlayEdgeData.join solver in
@@ -140,17 +140,17 @@ returns-in_err-put_all g c = λ solver first s.
 -- ---- the laid lines
 
 laid_is : (g : Over) (c : In_ok-put_all g)
-    → entries_of g.I.OverlayInt.value c.lay_marked.new.laid.items ≡ pass_by boolean late_marks (entries_of g.I.OverlayInt.value c.cut_apart.new.lines.items)
+    → entries_of g.I.IntNumber.value c.lay_marked.new.laid.items ≡ pass_by boolean late_marks (entries_of g.I.IntNumber.value c.cut_apart.new.lines.items)
 laid_is g c = rw c.deref-3.ensures.value at (c.in_ok-lay_marked.ensures.laid c.if-not-branch.false)
 
 kept_is : (g : Over) (c : In_ok-put_all g)
-    → entries_of g.I.OverlayInt.value c.put_all.new.segments.items ≡
-    with_counts (of_count g.C.WindingCount.of) (entries_of g.I.OverlayInt.value c.lay_marked.new.laid.items)
+    → entries_of g.I.IntNumber.value c.put_all.new.segments.items ≡
+    with_counts (of_count g.C.WindingCount.of) (entries_of g.I.IntNumber.value c.lay_marked.new.laid.items)
 kept_is g c = rw c.deref-4.ensures.value at c.in_ok-put_all.ensures.same
 
 pub returns-then-saturating_add-ge-TOO_MANY : goal.returns-then-saturating_add-ge-TOO_MANY
 returns-then-saturating_add-ge-TOO_MANY g c = λ solver first s.
-    let value = g.I.OverlayInt.value in
+    let value = g.I.IntNumber.value in
     let joins = g.D.OverlayEdgeData.JOINS in
     let steps = goal.at.returns-then-saturating_add-ge-TOO_MANY g c in
     let at = steps.In_ok-is_marked in
@@ -184,7 +184,7 @@ returns-then-saturating_add-ge-TOO_MANY g c = λ solver first s.
 
 pub sort_and_merge-requires : goal.sort_and_merge-requires
 sort_and_merge-requires g c =
-    let value = g.I.OverlayInt.value in
+    let value = g.I.IntNumber.value in
     let steps = goal.at.sort_and_merge-requires g c in
     let at = steps.In_ok-is_marked in
     let searched = c.requires.searched in
@@ -198,7 +198,7 @@ sort_and_merge-requires g c =
 
 pub returns-in_err-sort_and_merge : goal.returns-in_err-sort_and_merge
 returns-in_err-sort_and_merge g c = λ solver first s.
-    let value = g.I.OverlayInt.value in
+    let value = g.I.IntNumber.value in
     let joins = g.D.OverlayEdgeData.JOINS in
     let steps = goal.at.returns-in_err-sort_and_merge g c in
     let at = steps.In_ok-is_marked in
@@ -213,7 +213,7 @@ returns-in_err-sort_and_merge g c = λ solver first s.
 
 pub returns : goal.returns
 returns g c = λ solver first s.
-    let value = g.I.OverlayInt.value in
+    let value = g.I.IntNumber.value in
     let kind = g.C.WindingCount.counting in
     let joins = g.D.OverlayEdgeData.JOINS in
     let join = g.D.OverlayEdgeData.join in

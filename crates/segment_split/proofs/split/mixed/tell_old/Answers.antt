@@ -1,6 +1,6 @@
 use mathlib.Core.Bool.{beq}
 use Rattle.std.specs.Prelude.{◌≡◌, ◌+◌, ◌≤◌, Bool, true, false, not, cond, length, Result, Ok, Err, OnOk}
-use Rattle.std.proofs.Common.{get_or, refl, sym, ◌∙◌, subst, arith}
+use Rattle.std.proofs.Common.{ap, get_or, refl, sym, ◌∙◌, subst, arith}
 use Rattle.plane_base.specs.Plane.{Edge}
 use Rattle.plane_base.specs.SegmentViews.{edge_of}
 use Rattle.segment_split.specs.LineLaws.{is_rectilinear}
@@ -34,7 +34,7 @@ old_is flag level told e same = by flag level (subst (λ b. not (beq b flag) ≡
 
 pub loop-i-preserved : goal.loop-i-preserved
 loop-i-preserved g c =
-    let value = g.I.OverlayInt.value in
+    let value = g.I.IntNumber.value in
     let es = edges_of (entries_of value c.args.segments.now) in
     let i = c.loop-i.i in
     let flag = c.args.are_lines_old in
@@ -44,13 +44,14 @@ loop-i-preserved g c =
     let at : IsAt es i s = edge_read (entry_of value) c.args.segments.now i segment (omega (arith, c.loop-i-test.true)) c.index-segments-i.is in
     let before = c.loop-i.next_new.items in
     let told = c.is_rectilinear.result in
+    let own = rw (ap (λ s. s.x_segment) c.segment.view_is, c.index-segments-i.is) at c.is_rectilinear.ensures in
     elim c.if-is_rectilinear-are_lines_old.branch [
       | then-is_rectilinear-are_lines_old+in_ok-fill+in_ok-push w ↦
           let full = w.fill.new.next_new.items in
           let long = w.in_ok-fill.ensures.len c.loop-i.invariant.short in
-          rw w.next_new-is (tells_new test es before full w.push.new.self.items i s at (new_is flag (is_rectilinear s) told c.is_rectilinear.ensures w.if-is_rectilinear-are_lines_old.true) long w.in_ok-fill.ensures.is w.in_ok-push.ensures.items c.loop-i.invariant)
+          rw w.next_new-is (tells_new test es before full w.push.new.self.items i s at (new_is flag (is_rectilinear s) told own w.if-is_rectilinear-are_lines_old.true) long w.in_ok-fill.ensures.is w.in_ok-push.ensures.items c.loop-i.invariant)
       | else-is_rectilinear-are_lines_old w ↦
-          rw w.next_new-is (tells_old test es before i s at (old_is flag (is_rectilinear s) told c.is_rectilinear.ensures w.if-is_rectilinear-are_lines_old.false) c.loop-i.invariant)
+          rw w.next_new-is (tells_old test es before i s at (old_is flag (is_rectilinear s) told own w.if-is_rectilinear-are_lines_old.false) c.loop-i.invariant)
     ]
 
 on_ok_both : {T E P Q R : Type 0} (r : Result T E) → (P → Q → R) → OnOk r P → OnOk r Q → OnOk r R
@@ -59,7 +60,7 @@ on_ok_both (Err e) f p q = tt
 
 pub returns-clause-told : goal.returns-clause-told
 returns-clause-told g c =
-    let value = g.I.OverlayInt.value in
+    let value = g.I.IntNumber.value in
     let es = edges_of (entries_of value c.args.segments.now) in
     let flag = c.args.are_lines_old in
     let test = λ (s : Edge). cond flag (is_rectilinear s) (not (is_rectilinear s)) in

@@ -27,11 +27,11 @@ pub returns-then-is_err-clause-is : goal.returns-then-is_err-clause-is
 returns-then-is_err-clause-is g c = where_refused _ c.join-done.result (sym c.is_err.ensures.value ∙ c.if-is_err.true)
 
 pub returns-then-is_err-clause-refused : goal.returns-then-is_err-clause-refused
-returns-then-is_err-clause-refused g c = where_it_may_be _ c.join-done.result (ap (shapes_of g.I.OverlayInt.value) c.clear.ensures.items)
+returns-then-is_err-clause-refused g c = where_it_may_be _ c.join-done.result (ap (shapes_of g.I.IntNumber.value) c.clear.ensures.items)
 
 pub returns-else-is_err-clause-is : goal.returns-else-is_err-clause-is
 returns-else-is_err-clause-is g c =
-    let value = g.I.OverlayInt.value in
+    let value = g.I.IntNumber.value in
     let v = c.args.self.now.shapes in
     let new = c.join-done.new.shapes in
     let long : length new ≡ v.len = c.join-done.ensures.len ∙ c.deref_mut.ensures.len in

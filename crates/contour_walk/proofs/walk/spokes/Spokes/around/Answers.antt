@@ -15,13 +15,13 @@ use Rattle.contour_walk.proofs.walk.spokes.Spokes.around.Goals as goal
 
 pub sorted_spokes-requires-clause-inside : goal.sorted_spokes-requires-clause-inside
 sorted_spokes-requires-clause-inside g c =
-    let value = g.I.OverlayInt.value in
+    let value = g.I.IntNumber.value in
     let links = c.args.links.now in
     places_inside (link_edges value links) (point_of value c.args.center) (length links) c.args.places.now (length-map links (link_edge_of value)) c.requires.here
 
 pub sorted_spokes-requires-2-clause-inside : goal.sorted_spokes-requires-2-clause-inside
 sorted_spokes-requires-2-clause-inside g c =
-    let value = g.I.OverlayInt.value in
+    let value = g.I.IntNumber.value in
     let links = c.args.links.now in
     places_inside (link_edges value links) (point_of value c.args.center) (length links) c.args.places.now (length-map links (link_edge_of value)) c.requires.here
 
@@ -33,7 +33,7 @@ rise-requires-else-not-rise-clause-in_range g c = rw c.deref-else-not-rise.ensur
 
 pub returns-clause-round : goal.returns-clause-round
 returns-clause-round g c =
-    let value = g.I.OverlayInt.value in
+    let value = g.I.IntNumber.value in
     let links = c.args.links.now in
     let edges = link_edges value links in
     let states = c.args.states.now in

@@ -6,7 +6,7 @@ use Rattle.polygon_overlay.proofs.edge_overlay.tally.Tally.is_level.Goals as goa
 
 pub are_level-requires : goal.are_level-requires
 are_level-requires g c =
-    let value = g.I.OverlayInt.value in
+    let value = g.I.IntNumber.value in
     record {
       sorted =
           subst (λ es. AreSorted (leavings_of value es)) (sym c.deref.ensures.value)

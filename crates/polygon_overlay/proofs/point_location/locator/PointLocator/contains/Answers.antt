@@ -10,14 +10,14 @@ use Rattle.polygon_overlay.proofs.point_location.locator.PointLocator.contains.G
 pub is_in_shapes-requires-clause-in_range : goal.is_in_shapes-requires-clause-in_range
 is_in_shapes-requires-clause-in_range g c =
     let within = All (IsWithin g.I.OverlayInt.least g.I.OverlayInt.greatest) in
-    subst (λ ss. All (All within) (shapes_of g.I.OverlayInt.value ss)) (sym c.deref.ensures.value) c.self.invariant.0
+    subst (λ ss. All (All within) (shapes_of g.I.IntNumber.value ss)) (sym c.deref.ensures.value) c.self.invariant.0
 
 pub is_in_shapes-requires-clause-indexed : goal.is_in_shapes-requires-clause-indexed
 is_in_shapes-requires-clause-indexed g c =
-    subst (λ ss. IsIndexed g.I.OverlayInt.value (shapes_of g.I.OverlayInt.value ss) c.self.inside.index) (sym c.deref.ensures.value) c.self.invariant.1
+    subst (λ ss. IsIndexed g.I.IntNumber.value (shapes_of g.I.IntNumber.value ss) c.self.inside.index) (sym c.deref.ensures.value) c.self.invariant.1
 
 pub returns : goal.returns
 returns g c =
-    let value = g.I.OverlayInt.value in
+    let value = g.I.IntNumber.value in
     let p = whole (point_of value c.args.point) in
     c.is_in_shapes.ensures ∙ (ap (λ ss. in_shapes (shapes_of value ss) p) c.deref.ensures.value ∙ ap (λ ss. in_shapes ss p) c.self.view_is)

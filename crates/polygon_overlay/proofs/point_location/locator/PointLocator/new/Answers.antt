@@ -8,7 +8,7 @@ use Rattle.polygon_overlay.proofs.point_location.locator.PointLocator.new.Goals 
 
 pub invariant_of-result : goal.invariant_of-result
 invariant_of-result g c =
-    let value = g.I.OverlayInt.value in
+    let value = g.I.IntNumber.value in
     let within = All (IsWithin g.I.OverlayInt.least g.I.OverlayInt.greatest) in
     let copied = c.in_ok-shapes.shapes.shapes.items in
     let same : shapes_of value copied ≡ shapes_of value c.args.shapes.now.shapes.items =
@@ -19,4 +19,4 @@ invariant_of-result g c =
 
 pub returns-clause-made : goal.returns-clause-made
 returns-clause-made g c =
-    shapes_cloned g.I.OverlayInt.value c.args.shapes.now.shapes.items c.in_ok-shapes.shapes.shapes.items c.in_ok-shapes.ensures.cases
+    shapes_cloned g.I.IntNumber.value c.args.shapes.now.shapes.items c.in_ok-shapes.shapes.shapes.items c.in_ok-shapes.ensures.cases

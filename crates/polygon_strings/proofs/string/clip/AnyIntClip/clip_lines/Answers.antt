@@ -12,9 +12,9 @@ returns-in_err-overlay-clause-clip g c = rw ((err_from_is_err_and c.from_residua
 
 pub returns-in_err-overlay-clause-refused : goal.returns-in_err-overlay-clause-refused
 returns-in_err-overlay-clause-refused g c =
-    let value = g.I.OverlayInt.value in
-    let shape = map (points_of value) (g.S.IntShapeResource.paths c.args.self.now) in
-    let strings = map (points_of value) c.args.lines.now in
+    let value = g.I.IntNumber.value in
+    let shape = (g.S.IntShapeResource.paths c.args.self.now) in
+    let strings = c.args.lines.now in
     let p = err_from_is_err_and c.from_residual.result c.from_residual.ensures.1 in
     rw p.1 (subst (IsClipRefused shape strings) (sym p.2) (not_made shape strings _ c.in_err-overlay.ensures.refused))
 
@@ -24,9 +24,9 @@ returns-in_err-add_string_lines-clause-clip g c =
 
 pub returns-in_err-add_string_lines-clause-refused : goal.returns-in_err-add_string_lines-clause-refused
 returns-in_err-add_string_lines-clause-refused g c =
-    let value = g.I.OverlayInt.value in
-    let shape = map (points_of value) (g.S.IntShapeResource.paths c.args.self.now) in
-    let strings = map (points_of value) c.args.lines.now in
+    let value = g.I.IntNumber.value in
+    let shape = (g.S.IntShapeResource.paths c.args.self.now) in
+    let strings = c.args.lines.now in
     let new = c.in_ok-overlay.ensures.made in
     let p = err_from_is_err_and c.from_residual-in_err-add_string_lines.result c.from_residual-in_err-add_string_lines.ensures.1 in
     rw p.1 (subst (IsClipRefused shape strings) (sym p.2)
@@ -34,9 +34,9 @@ returns-in_err-add_string_lines-clause-refused g c =
 
 pub returns-clause-clip : goal.returns-clause-clip
 returns-clause-clip g c =
-    let value = g.I.OverlayInt.value in
-    let shape = map (points_of value) (g.S.IntShapeResource.paths c.args.self.now) in
-    let strings = map (points_of value) c.args.lines.now in
+    let value = g.I.IntNumber.value in
+    let shape = (g.S.IntShapeResource.paths c.args.self.now) in
+    let strings = c.args.lines.now in
     let new = c.in_ok-overlay.ensures.made in
     clip_answered shape strings (fill_rule_of c.args.fill_rule) c.args.clip_rule c.add_string_lines.new.self.held.edges
     (c.in_ok-overlay.overlay.held.edges, new.held, c.in_ok-add_string_lines.ensures.added) g.I.OverlayInt.least g.I.OverlayInt.greatest (λ paths. contours_of value paths.items) c.clip_string_lines.result
@@ -44,9 +44,9 @@ returns-clause-clip g c =
 
 pub returns-clause-refused : goal.returns-clause-refused
 returns-clause-refused g c =
-    let value = g.I.OverlayInt.value in
-    let shape = map (points_of value) (g.S.IntShapeResource.paths c.args.self.now) in
-    let strings = map (points_of value) c.args.lines.now in
+    let value = g.I.IntNumber.value in
+    let shape = (g.S.IntShapeResource.paths c.args.self.now) in
+    let strings = c.args.lines.now in
     let new = c.in_ok-overlay.ensures.made in
     clip_refused shape strings (fill_rule_of c.args.fill_rule) c.args.clip_rule c.add_string_lines.new.self.held.edges
     (c.in_ok-overlay.overlay.held.edges, new.held, c.in_ok-add_string_lines.ensures.added) c.add_string_lines.new.self.held.has_failed c.clip_string_lines.result

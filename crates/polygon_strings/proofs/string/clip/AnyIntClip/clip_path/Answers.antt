@@ -15,8 +15,8 @@ returns-in_err-overlay-clause-clip g c = rw ((err_from_is_err_and c.from_residua
 
 pub returns-in_err-overlay-clause-refused : goal.returns-in_err-overlay-clause-refused
 returns-in_err-overlay-clause-refused g c =
-    let value = g.I.OverlayInt.value in
-    let shape = map (points_of value) (g.S.IntShapeResource.paths c.args.self.now) in
+    let value = g.I.IntNumber.value in
+    let shape = (g.S.IntShapeResource.paths c.args.self.now) in
     let path = points_of value c.args.path.now.points.items in
     let p = err_from_is_err_and c.from_residual.result c.from_residual.ensures.1 in
     rw p.1 (subst (IsClipRefused shape (path ∷ [])) (sym p.2) (not_made shape (path ∷ []) _ c.in_err-overlay.ensures.refused))
@@ -24,7 +24,7 @@ returns-in_err-overlay-clause-refused g c =
 pub add_string_path-requires : goal.add_string_path-requires
 add_string_path-requires g c = record {
   in_range =
-      subst (All (IsWithin g.I.OverlayInt.least g.I.OverlayInt.greatest)) (sym (ap (points_of g.I.OverlayInt.value) c.deref.ensures.value))
+      subst (All (IsWithin g.I.OverlayInt.least g.I.OverlayInt.greatest)) (sym (ap (points_of g.I.IntNumber.value) c.deref.ensures.value))
       c.requires.path_in_range;
 }
 
@@ -34,8 +34,8 @@ returns-in_err-add_string_path-clause-clip g c =
 
 pub returns-in_err-add_string_path-clause-refused : goal.returns-in_err-add_string_path-clause-refused
 returns-in_err-add_string_path-clause-refused g c =
-    let value = g.I.OverlayInt.value in
-    let shape = map (points_of value) (g.S.IntShapeResource.paths c.args.self.now) in
+    let value = g.I.IntNumber.value in
+    let shape = (g.S.IntShapeResource.paths c.args.self.now) in
     let path = points_of value c.args.path.now.points.items in
     let new = c.in_ok-overlay.ensures.made in
     let given = points_of value c.deref.result.now in
@@ -47,8 +47,8 @@ returns-in_err-add_string_path-clause-refused g c =
 
 pub returns-clause-clip : goal.returns-clause-clip
 returns-clause-clip g c =
-    let value = g.I.OverlayInt.value in
-    let shape = map (points_of value) (g.S.IntShapeResource.paths c.args.self.now) in
+    let value = g.I.IntNumber.value in
+    let shape = (g.S.IntShapeResource.paths c.args.self.now) in
     let path = points_of value c.args.path.now.points.items in
     let new = c.in_ok-overlay.ensures.made in
     let given = points_of value c.deref.result.now in
@@ -61,8 +61,8 @@ returns-clause-clip g c =
 
 pub returns-clause-refused : goal.returns-clause-refused
 returns-clause-refused g c =
-    let value = g.I.OverlayInt.value in
-    let shape = map (points_of value) (g.S.IntShapeResource.paths c.args.self.now) in
+    let value = g.I.IntNumber.value in
+    let shape = (g.S.IntShapeResource.paths c.args.self.now) in
     let path = points_of value c.args.path.now.points.items in
     let new = c.in_ok-overlay.ensures.made in
     let given = points_of value c.deref.result.now in

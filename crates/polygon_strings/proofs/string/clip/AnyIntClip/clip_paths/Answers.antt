@@ -12,8 +12,8 @@ returns-in_err-overlay-clause-clip g c = rw ((err_from_is_err_and c.from_residua
 
 pub returns-in_err-overlay-clause-refused : goal.returns-in_err-overlay-clause-refused
 returns-in_err-overlay-clause-refused g c =
-    let value = g.I.OverlayInt.value in
-    let shape = map (points_of value) (g.S.IntShapeResource.paths c.args.self.now) in
+    let value = g.I.IntNumber.value in
+    let shape = (g.S.IntShapeResource.paths c.args.self.now) in
     let strings = contours_of value c.args.paths.now in
     let p = err_from_is_err_and c.from_residual.result c.from_residual.ensures.1 in
     rw p.1 (subst (IsClipRefused shape strings) (sym p.2) (not_made shape strings _ c.in_err-overlay.ensures.refused))
@@ -24,8 +24,8 @@ returns-in_err-add_each_path-clause-clip g c =
 
 pub returns-in_err-add_each_path-clause-refused : goal.returns-in_err-add_each_path-clause-refused
 returns-in_err-add_each_path-clause-refused g c =
-    let value = g.I.OverlayInt.value in
-    let shape = map (points_of value) (g.S.IntShapeResource.paths c.args.self.now) in
+    let value = g.I.IntNumber.value in
+    let shape = (g.S.IntShapeResource.paths c.args.self.now) in
     let strings = contours_of value c.args.paths.now in
     let new = c.in_ok-overlay.ensures.made in
     let p = err_from_is_err_and c.from_residual-in_err-add_each_path.result c.from_residual-in_err-add_each_path.ensures.1 in
@@ -34,8 +34,8 @@ returns-in_err-add_each_path-clause-refused g c =
 
 pub returns-clause-clip : goal.returns-clause-clip
 returns-clause-clip g c =
-    let value = g.I.OverlayInt.value in
-    let shape = map (points_of value) (g.S.IntShapeResource.paths c.args.self.now) in
+    let value = g.I.IntNumber.value in
+    let shape = (g.S.IntShapeResource.paths c.args.self.now) in
     let strings = contours_of value c.args.paths.now in
     let new = c.in_ok-overlay.ensures.made in
     clip_answered shape strings (fill_rule_of c.args.fill_rule) c.args.clip_rule c.add_each_path.new.self.held.edges
@@ -44,8 +44,8 @@ returns-clause-clip g c =
 
 pub returns-clause-refused : goal.returns-clause-refused
 returns-clause-refused g c =
-    let value = g.I.OverlayInt.value in
-    let shape = map (points_of value) (g.S.IntShapeResource.paths c.args.self.now) in
+    let value = g.I.IntNumber.value in
+    let shape = (g.S.IntShapeResource.paths c.args.self.now) in
     let strings = contours_of value c.args.paths.now in
     let new = c.in_ok-overlay.ensures.made in
     clip_refused shape strings (fill_rule_of c.args.fill_rule) c.args.clip_rule c.add_each_path.new.self.held.edges

@@ -11,12 +11,12 @@ use Rattle.polygon_strings.proofs.string.overlay.StringOverlay.add_each_path.Goa
 
 pub loop-i-init : goal.loop-i-init
 loop-i-init g c =
-    let value = g.I.OverlayInt.value in
+    let value = g.I.IntNumber.value in
     none_yet (contours_of value c.args.paths.now) c.args.self.now (sym c.has_failed.ensures ∙ c.if-has_failed.false)
 
 pub add_string_path-requires : goal.add_string_path-requires
 add_string_path-requires g c =
-    let value = g.I.OverlayInt.value in
+    let value = g.I.IntNumber.value in
     let points = c.deref.ensures.value ∙ ap (λ path. path.points.items) (sym c.index-paths-i.is) in
     let inside : c.loop-i.i < length c.args.paths.now = omega (arith, c.loop-i-test.true) in
     record {
@@ -28,7 +28,7 @@ add_string_path-requires g c =
 
 pub returns-in_err-add_string_path : goal.returns-in_err-add_string_path
 returns-in_err-add_string_path g c =
-    let value = g.I.OverlayInt.value in
+    let value = g.I.IntNumber.value in
     let points = c.deref.ensures.value ∙ ap (λ path. path.points.items) (sym c.index-paths-i.is) in
     let inside : c.loop-i.i < length c.args.paths.now = omega (arith, c.loop-i-test.true) in
     let within = path_inside (λ path. points_of value path.points.items) c.args.paths.now c.loop-i.i inside c.index-paths-i.result c.index-paths-i.is in
@@ -44,7 +44,7 @@ returns-in_err-add_string_path g c =
 
 pub loop-i-preserved : goal.loop-i-preserved
 loop-i-preserved g c =
-    let value = g.I.OverlayInt.value in
+    let value = g.I.IntNumber.value in
     let points = c.deref.ensures.value ∙ ap (λ path. path.points.items) (sym c.index-paths-i.is) in
     let inside : c.loop-i.i < length c.args.paths.now = omega (arith, c.loop-i-test.true) in
     let within = path_inside (λ path. points_of value path.points.items) c.args.paths.now c.loop-i.i inside c.index-paths-i.result c.index-paths-i.is in
@@ -54,7 +54,7 @@ loop-i-preserved g c =
 
 pub returns : goal.returns
 returns g c =
-    let value = g.I.OverlayInt.value in
+    let value = g.I.IntNumber.value in
     let paths = contours_of value c.args.paths.now in
     let all = take_all c.loop-i.i paths (omega (arith, length-map c.args.paths.now (λ path. points_of value path.points.items), c.loop-i-test.false)) in
     all_more paths c.loop-i.i all c.args.self.now c.loop-i.self tt (sym c.has_failed.ensures ∙ c.if-has_failed.false) c.loop-i.invariant

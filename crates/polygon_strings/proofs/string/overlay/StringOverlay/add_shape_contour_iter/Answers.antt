@@ -25,14 +25,14 @@ add_shape_contour-requires g c =
     let same = sym (c.deref.ensures.value ∙ ran.2.0) in
     record {
       in_range =
-          subst (λ points. All (IsWithin g.I.OverlayInt.least g.I.OverlayInt.greatest) (points_of g.I.OverlayInt.value points)) same
+          subst (λ points. All (IsWithin g.I.OverlayInt.least g.I.OverlayInt.greatest) (points_of g.I.IntNumber.value points)) same
           (c.requires.in_range ran.0 (drained g.It.Iterator.next_gives (Unit {0}) c.args.iter ran.0 tt ran.1));
     }
 
 pub returns : goal.returns
 returns g c =
     let ran = c.in_ok-points.ensures.ran in
-    let value = g.I.OverlayInt.value in
+    let value = g.I.IntNumber.value in
     let self = c.args.self.now in
     let same = c.deref.ensures.value ∙ ran.2.0 in
     let gives = drained g.It.Iterator.next_gives (Unit {0}) c.args.iter ran.0 tt ran.1 in

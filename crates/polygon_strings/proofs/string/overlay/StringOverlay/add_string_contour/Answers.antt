@@ -14,7 +14,7 @@ add_string_path-requires g c = record { in_range = c.requires.in_range }
 
 pub returns-in_err-add_string_path : goal.returns-in_err-add_string_path
 returns-in_err-add_string_path g c =
-    let points = points_of g.I.OverlayInt.value c.args.contour.now in
+    let points = points_of g.I.IntNumber.value c.args.contour.now in
     let old = c.args.self.now in
     let new = c.add_string_path.new.self in
     let p = err_from_is_err_and c.from_residual.result c.from_residual.ensures.1 in
@@ -25,12 +25,12 @@ returns-in_err-add_string_path g c =
 pub returns-then-is_empty : goal.returns-then-is_empty
 returns-then-is_empty g c =
     let contour = c.args.contour.now in
-    closed_nothing (point_of g.I.OverlayInt.value) contour (none_first (length contour) c.is_empty.ensures c.if-is_empty.true) c.args.self.now c.add_string_path.new.self (Ok tt)
+    closed_nothing (point_of g.I.IntNumber.value) contour (none_first (length contour) c.is_empty.ensures c.if-is_empty.true) c.args.self.now c.add_string_path.new.self (Ok tt)
     c.in_ok-add_string_path.ensures
 
 pub add_step-requires : goal.add_step-requires
 add_step-requires g c =
-    let f = point_of g.I.OverlayInt.value in
+    let f = point_of g.I.IntNumber.value in
     let within = IsWithin g.I.OverlayInt.least g.I.OverlayInt.greatest in
     let contour = c.args.contour.now in
     let last = c.index-contour-contour.result in
@@ -42,7 +42,7 @@ add_step-requires g c =
 
 pub returns : goal.returns
 returns g c =
-    let f = point_of g.I.OverlayInt.value in
+    let f = point_of g.I.IntNumber.value in
     let contour = c.args.contour.now in
     let last = c.index-contour-contour.result in
     let first = c.index-contour-0.result in

@@ -60,7 +60,7 @@ returns-then-branch g c =
 
 pub returns : goal.returns
 returns g c =
-    let value = g.I.OverlayInt.value in
+    let value = g.I.IntNumber.value in
     let made = c.in_ok-make_graph.ensures in (
       (
         refl,

@@ -15,8 +15,8 @@ returns-in_err-overlay-clause-slice g c = rw ((err_from_is_err_and c.from_residu
 
 pub returns-in_err-overlay-clause-refused : goal.returns-in_err-overlay-clause-refused
 returns-in_err-overlay-clause-refused g c =
-    let value = g.I.OverlayInt.value in
-    let shape = map (points_of value) (g.S.IntShapeResource.paths c.args.self.now) in
+    let value = g.I.IntNumber.value in
+    let shape = (g.S.IntShapeResource.paths c.args.self.now) in
     let path = points_of value c.args.line in
     let p = err_from_is_err_and c.from_residual.result c.from_residual.ensures.1 in
     rw p.1 (subst (IsSliceRefused shape (path ∷ [])) (sym p.2) (not_made shape (path ∷ []) _ c.in_err-overlay.ensures.refused))
@@ -27,8 +27,8 @@ returns-in_err-add_string_path-clause-slice g c =
 
 pub returns-in_err-add_string_path-clause-refused : goal.returns-in_err-add_string_path-clause-refused
 returns-in_err-add_string_path-clause-refused g c =
-    let value = g.I.OverlayInt.value in
-    let shape = map (points_of value) (g.S.IntShapeResource.paths c.args.self.now) in
+    let value = g.I.IntNumber.value in
+    let shape = (g.S.IntShapeResource.paths c.args.self.now) in
     let path = points_of value c.args.line in
     let new = c.in_ok-overlay.ensures.made in
     let p = err_from_is_err_and c.from_residual-in_err-add_string_path.result c.from_residual-in_err-add_string_path.ensures.1 in
@@ -37,8 +37,8 @@ returns-in_err-add_string_path-clause-refused g c =
 
 pub returns-clause-slice : goal.returns-clause-slice
 returns-clause-slice g c =
-    let value = g.I.OverlayInt.value in
-    let shape = map (points_of value) (g.S.IntShapeResource.paths c.args.self.now) in
+    let value = g.I.IntNumber.value in
+    let shape = (g.S.IntShapeResource.paths c.args.self.now) in
     let path = points_of value c.args.line in
     let new = c.in_ok-overlay.ensures.made in
     slice_answered shape (path ∷ []) (fill_rule_of c.args.fill_rule) c.add_string_path.new.self.held.edges
@@ -47,8 +47,8 @@ returns-clause-slice g c =
 
 pub returns-clause-refused : goal.returns-clause-refused
 returns-clause-refused g c =
-    let value = g.I.OverlayInt.value in
-    let shape = map (points_of value) (g.S.IntShapeResource.paths c.args.self.now) in
+    let value = g.I.IntNumber.value in
+    let shape = (g.S.IntShapeResource.paths c.args.self.now) in
     let path = points_of value c.args.line in
     let new = c.in_ok-overlay.ensures.made in
     slice_refused shape (path ∷ []) (fill_rule_of c.args.fill_rule) c.add_string_path.new.self.held.edges

@@ -17,8 +17,8 @@ returns-in_err-overlay-clause-slice g c = rw ((err_from_is_err_and c.from_residu
 
 pub returns-in_err-overlay-clause-refused : goal.returns-in_err-overlay-clause-refused
 returns-in_err-overlay-clause-refused g c =
-    let value = g.I.OverlayInt.value in
-    let shape = map (points_of value) (g.S.IntShapeResource.paths c.args.self.now) in
+    let value = g.I.IntNumber.value in
+    let shape = (g.S.IntShapeResource.paths c.args.self.now) in
     let path = points_of value c.args.path.now.points.items in
     let p = err_from_is_err_and c.from_residual.result c.from_residual.ensures.1 in
     rw p.1 (subst (IsSliceRefused shape (path ∷ [])) (sym p.2) (not_made shape (path ∷ []) _ c.in_err-overlay.ensures.refused))
@@ -26,7 +26,7 @@ returns-in_err-overlay-clause-refused g c =
 pub add_string_path-requires : goal.add_string_path-requires
 add_string_path-requires g c = record {
   in_range =
-      subst (All (IsWithin g.I.OverlayInt.least g.I.OverlayInt.greatest)) (sym (ap (points_of g.I.OverlayInt.value) c.deref.ensures.value))
+      subst (All (IsWithin g.I.OverlayInt.least g.I.OverlayInt.greatest)) (sym (ap (points_of g.I.IntNumber.value) c.deref.ensures.value))
       c.requires.path_in_range;
 }
 
@@ -36,8 +36,8 @@ returns-in_err-add_string_path-clause-slice g c =
 
 pub returns-in_err-add_string_path-clause-refused : goal.returns-in_err-add_string_path-clause-refused
 returns-in_err-add_string_path-clause-refused g c =
-    let value = g.I.OverlayInt.value in
-    let shape = map (points_of value) (g.S.IntShapeResource.paths c.args.self.now) in
+    let value = g.I.IntNumber.value in
+    let shape = (g.S.IntShapeResource.paths c.args.self.now) in
     let path = points_of value c.args.path.now.points.items in
     let new = c.in_ok-overlay.ensures.made in
     let given = points_of value c.deref.result.now in
@@ -49,8 +49,8 @@ returns-in_err-add_string_path-clause-refused g c =
 
 pub returns-clause-slice : goal.returns-clause-slice
 returns-clause-slice g c =
-    let value = g.I.OverlayInt.value in
-    let shape = map (points_of value) (g.S.IntShapeResource.paths c.args.self.now) in
+    let value = g.I.IntNumber.value in
+    let shape = (g.S.IntShapeResource.paths c.args.self.now) in
     let path = points_of value c.args.path.now.points.items in
     let new = c.in_ok-overlay.ensures.made in
     let given = points_of value c.deref.result.now in
@@ -63,8 +63,8 @@ returns-clause-slice g c =
 
 pub returns-clause-refused : goal.returns-clause-refused
 returns-clause-refused g c =
-    let value = g.I.OverlayInt.value in
-    let shape = map (points_of value) (g.S.IntShapeResource.paths c.args.self.now) in
+    let value = g.I.IntNumber.value in
+    let shape = (g.S.IntShapeResource.paths c.args.self.now) in
     let path = points_of value c.args.path.now.points.items in
     let new = c.in_ok-overlay.ensures.made in
     let given = points_of value c.deref.result.now in

@@ -11,7 +11,7 @@ use Rattle.segment_split.proofs.given.held.Held.add_contour.Goals as goal
 
 pub returns : goal.returns
 returns g c =
-    let value = g.I.OverlayInt.value in
+    let value = g.I.IntNumber.value in
     let kind = g.C.WindingCount.counting in
     let points = points_of value c.args.points.now in
     let segments = c.self.inside.segments in

@@ -17,7 +17,7 @@ three (Err e) f p q s = f p q s
 
 pub returns-clause-takes : goal.returns-clause-takes
 returns-clause-takes g c =
-    let value = g.I.OverlayInt.value in
+    let value = g.I.IntNumber.value in
     let kind = g.C.WindingCount.counting in
     let from = point_of value c.args.from in
     let to = point_of value c.args.to in
@@ -40,7 +40,7 @@ pub returns-clause-data : goal.returns-clause-data
 returns-clause-data g c =
     let kind = carried g.C.WindingCount.counting g.D.OverlayEdgeData.join in
     let turns = MayBeTurned g.D.OverlayEdgeData.JOINS g.D.OverlayEdgeData.turns_to in
-    let value = g.I.OverlayInt.value in
+    let value = g.I.IntNumber.value in
     let new = data_entries_of value c.add_edge.new.segments.items in
     on_answer c.add_edge.result
     (subst (λ h. LaysWith kind turns (point_of value c.args.from) (point_of value c.args.to) c.args.count c.args.datum h.with_data new) c.self.view_is)
@@ -48,6 +48,6 @@ returns-clause-data g c =
 
 pub returns-clause-joined : goal.returns-clause-joined
 returns-clause-joined g c = λ joins.
-    let value = g.I.OverlayInt.value in
+    let value = g.I.IntNumber.value in
     let laid = lay (carried g.C.WindingCount.counting g.D.OverlayEdgeData.join) (point_of value c.args.from) (point_of value c.args.to) (c.args.count, c.args.datum) in
     on_answer c.add_edge.result (λ is. is ∙ ap (λ h. h.with_data ++ laid) c.self.view_is) (c.add_edge.ensures.joined joins)

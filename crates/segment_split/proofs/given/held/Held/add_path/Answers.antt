@@ -6,7 +6,7 @@ use Rattle.segment_split.proofs.given.held.Held.add_path.Goals as goal
 
 pub returns : goal.returns
 returns g c =
-    let value = g.I.OverlayInt.value in
+    let value = g.I.IntNumber.value in
     let segments = c.self.inside.segments in
     takes_path g.C.WindingCount.counting c.args.count
     (record {

@@ -7,7 +7,7 @@ use Rattle.segment_split.proofs.given.held.Held.add_source.Goals as goal
 
 pub returns : goal.returns
 returns g c =
-    let value = g.I.OverlayInt.value in
+    let value = g.I.IntNumber.value in
     let segments = c.self.inside.segments in
     takes_source g.C.WindingCount.counting c.args.count c.args.keep_all
     (record {
@@ -18,5 +18,5 @@ returns g c =
       room = segments.cap;
     }) c.args.self.now (entries_of value c.add_source.new.segments.items) (data_entries_of value c.add_source.new.segments.items) c.add_source.new.store
     c.add_source.new.segments.cap c.add_source.result c.self.view_is c.if-self.false
-    c.add_source.ensures.grows (map (points_of value) (g.R.IntShapeResource.paths c.args.source.now)) c.add_source.ensures.added c.add_source.ensures.refused
+    c.add_source.ensures.grows (g.R.IntShapeResource.paths c.args.source.now) c.add_source.ensures.added c.add_source.ensures.refused
     c.add_source.ensures.room

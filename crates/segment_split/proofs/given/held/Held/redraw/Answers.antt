@@ -20,7 +20,7 @@ invariant_of-self-in-Err g c = subst (λ l. length l < 2 ^ 31) (sym c.in-Err.ens
 
 pub returns-in-Ok-clause-redrawn : goal.returns-in-Ok-clause-redrawn
 returns-in-Ok-clause-redrawn g c =
-    let value = g.I.OverlayInt.value in
+    let value = g.I.IntNumber.value in
     let kind = g.C.WindingCount.counting in
     let segments = c.self.inside.segments in
     made_others (λ es. redrawn kind c.args.solver.now.precision (normal kind es)) (entries_of value c.split_segments_with_store-split.new.segments.items)

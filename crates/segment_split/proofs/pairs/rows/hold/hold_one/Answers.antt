@@ -14,7 +14,7 @@ use Rattle.segment_split.proofs.pairs.rows.hold.hold_one.Goals as goal
 
 pub returns-then-to-k-clause-found : goal.returns-then-to-k-clause-found
 returns-then-to-k-clause-found g c =
-    let value = g.I.OverlayInt.value in
+    let value = g.I.IntNumber.value in
     let pass = pass_seen c.pass.invariant c.pass.view_is in
     let to = c.args.to.now in
     let k = c.loop-k.k in
@@ -28,7 +28,7 @@ returns-then-to-k-clause-found g c =
 
 pub loop-k-preserved : goal.loop-k-preserved
 loop-k-preserved g c =
-    let value = g.I.OverlayInt.value in
+    let value = g.I.IntNumber.value in
     let rounding = c.args.pass.now.rounding in
     let es = c.args.pass.now.edges in
     let pass = pass_seen c.pass.invariant c.pass.view_is in
@@ -57,7 +57,7 @@ loop-k-preserved g c =
 
 pub returns-clause-found : goal.returns-clause-found
 returns-clause-found g c =
-    let value = g.I.OverlayInt.value in
+    let value = g.I.IntNumber.value in
     let to = c.args.to.now in
     let k = c.loop-k.k in
     let reach = slice_index_or (all_reaches c.args.pass.now.edges c.args.reaches.now) c.args.seat.number 0 in
@@ -88,7 +88,7 @@ returns-in_err-own-clause-steps g c =
     let p = place_in c.args.seat.row c.args.seat.number in
     let q = place_in c.args.seat.row reach in
     let follows : p < slice_index_or to k 0 = c.requires.first.after k (omega (arith, c.loop-k.auto.k)) (omega (arith, c.loop-k-test.true)) in
-    let reached = as_seen (entry_of g.I.OverlayInt.value) c.pass.inside.segments.now (pass_seen c.pass.invariant c.pass.view_is) (λ es _ _. c.reach_of-reach.result ≡ slice_index_or (all_reaches es c.args.reaches.now) c.args.seat.number 0) c.reach_of-reach.ensures in
+    let reached = as_seen (entry_of g.I.IntNumber.value) c.pass.inside.segments.now (pass_seen c.pass.invariant c.pass.view_is) (λ es _ _. c.reach_of-reach.result ≡ slice_index_or (all_reaches es c.args.reaches.now) c.args.seat.number 0) c.reach_of-reach.ensures in
     let close : slice_index_or to k 0 < q = omega (arith, c.if-to-k.false, c.place_in-end.ensures, reached) in
     let one = next_between to p q k (omega (arith, c.loop-k-test.true)) follows close in
     let all = all_between to p q (k + 1) in
@@ -130,12 +130,12 @@ none_held to row i first i' j (e, (q, l, m, is)) = omega (arith, l, m)
 pub loop-k-init : goal.loop-k-init
 loop-k-init g c = (
   finds_none g.I.OverlayInt.stride g.I.OverlayInt.least g.I.OverlayInt.greatest c.args.pass.now.rounding c.args.pass.now.edges
-      (HeldTo c.args.to.now c.args.seat.row c.args.seat.number c.args.first c.args.first) (none_held c.args.to.now c.args.seat.row c.args.seat.number c.args.first) (laid_marks g.I.OverlayInt.value g.I.Wide.WideIntNumber.number c.args.marks.now.items),
+      (HeldTo c.args.to.now c.args.seat.row c.args.seat.number c.args.first c.args.first) (none_held c.args.to.now c.args.seat.row c.args.seat.number c.args.first) (laid_marks g.I.IntNumber.value g.I.Wide.WideIntNumber.number c.args.marks.now.items),
   record { comparisons = refl; pairs = omega arith; bound = omega arith },
 )
 
 pub reach_of-reach-requires-clause-within : goal.reach_of-reach-requires-clause-within
-reach_of-reach-requires-clause-within g c = omega (arith, c.requires.within, seen_long (entry_of g.I.OverlayInt.value) c.pass.inside.segments.now (pass_seen c.pass.invariant c.pass.view_is))
+reach_of-reach-requires-clause-within g c = omega (arith, c.requires.within, seen_long (entry_of g.I.IntNumber.value) c.pass.inside.segments.now (pass_seen c.pass.invariant c.pass.view_is))
 
 pub reach_of-reach-requires-clause-normal : goal.reach_of-reach-requires-clause-normal
 reach_of-reach-requires-clause-normal g c = c.pass.invariant.normal
@@ -150,7 +150,7 @@ place_in-end-requires-clause-row g c = c.requires.row
 
 pub place_in-end-requires-clause-number : goal.place_in-end-requires-clause-number
 place_in-end-requires-clause-number g c =
-    let value = g.I.OverlayInt.value in
+    let value = g.I.IntNumber.value in
     let es = c.args.pass.now.edges in
     let pass = pass_seen c.pass.invariant c.pass.view_is in
     let few = reach_few es (all_reaches es c.args.reaches.now) (omega (arith, pass.few)) (told_are es c.args.reaches.now pass.rising c.requires.told) c.args.seat.number in
@@ -159,14 +159,14 @@ place_in-end-requires-clause-number g c =
 
 pub look-requires-clause-at : goal.look-requires-clause-at
 look-requires-clause-at g c =
-    seen_at (entry_of g.I.OverlayInt.value) c.pass.inside.segments.now (pass_seen c.pass.invariant c.pass.view_is) c.args.seat.number c.index-segments-seat.result c.requires.within c.index-segments-seat.is
+    seen_at (entry_of g.I.IntNumber.value) c.pass.inside.segments.now (pass_seen c.pass.invariant c.pass.view_is) c.args.seat.number c.index-segments-seat.result c.requires.within c.index-segments-seat.is
 
 pub bounds-segments-seat : goal.bounds-segments-seat
-bounds-segments-seat g c = omega (arith, c.requires.within, seen_long (entry_of g.I.OverlayInt.value) c.pass.inside.segments.now (pass_seen c.pass.invariant c.pass.view_is))
+bounds-segments-seat g c = omega (arith, c.requires.within, seen_long (entry_of g.I.IntNumber.value) c.pass.inside.segments.now (pass_seen c.pass.invariant c.pass.view_is))
 
 pub look-requires-clause-before : goal.look-requires-clause-before
 look-requires-clause-before g c =
-    let value = g.I.OverlayInt.value in
+    let value = g.I.IntNumber.value in
     let es = c.args.pass.now.edges in
     let pass = pass_seen c.pass.invariant c.pass.view_is in
     let k = c.loop-k.k in
@@ -204,14 +204,14 @@ returns-then-not-has_more-clause-found g c =
     let past : (m : ℕ) → first ≤ m → m < length to → place_in row reach ≤ slice_index_or to m 0 = λ m l n. let h = last m l n in omega (arith, h, few) in
     finds_none g.I.OverlayInt.stride g.I.OverlayInt.least g.I.OverlayInt.greatest c.args.pass.now.rounding es
     (FollowsIn to row reach i) (none_follow to row i reach first c.requires.to_sorted c.requires.first past)
-    (laid_marks g.I.OverlayInt.value g.I.Wide.WideIntNumber.number c.args.marks.now.items)
+    (laid_marks g.I.IntNumber.value g.I.Wide.WideIntNumber.number c.args.marks.now.items)
 
 pub returns-then-not-has_more-clause-steps : goal.returns-then-not-has_more-clause-steps
 returns-then-not-has_more-clause-steps g c = record { comparisons = refl; pairs = omega arith; bound = omega arith }
 
 pub returns-then-not-has_before-clause-found : goal.returns-then-not-has_before-clause-found
 returns-then-not-has_before-clause-found g c =
-    let value = g.I.OverlayInt.value in
+    let value = g.I.IntNumber.value in
     let es = c.args.pass.now.edges in
     let pass = pass_seen c.pass.invariant c.pass.view_is in
     let to = c.args.to.now in

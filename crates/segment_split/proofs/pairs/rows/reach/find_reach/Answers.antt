@@ -8,7 +8,7 @@ use Rattle.segment_split.proofs.pairs.rows.reach.find_reach.Goals as goal
 
 pub returns : goal.returns
 returns g c =
-    let value = g.I.OverlayInt.value in
+    let value = g.I.IntNumber.value in
     let segments = c.args.segments.now in
     let entries = entries_of value segments in
     let es = edges_of entries in

@@ -10,7 +10,7 @@ use Rattle.segment_split.proofs.pairs.rows.reach.find_reaches.Goals as goal
 
 pub loop-i-preserved : goal.loop-i-preserved
 loop-i-preserved g c =
-    let value = g.I.OverlayInt.value in
+    let value = g.I.IntNumber.value in
     let segments = c.args.segments.now in
     let es = edges_of (entries_of value segments) in
     let i = c.loop-i.i in
@@ -32,7 +32,7 @@ without_run-reach-requires-clause-long g c = rw c.deref.ensures.value c.in_ok-ru
 
 pub without_run-reach-requires-clause-upto : goal.without_run-reach-requires-clause-upto
 without_run-reach-requires-clause-upto g c =
-    let value = g.I.OverlayInt.value in
+    let value = g.I.IntNumber.value in
     let segments = c.args.segments.now in
     let entries = entries_of value segments in
     let within = (pasts_are (edges_of entries) (edges_rising entries c.requires.normal)).within c.loop-i.i in

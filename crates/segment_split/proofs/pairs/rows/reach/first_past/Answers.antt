@@ -8,7 +8,7 @@ use Rattle.segment_split.proofs.pairs.rows.reach.first_past.Goals as goal
 
 pub loop-low-preserved-then-begins_past : goal.loop-low-preserved-then-begins_past
 loop-low-preserved-then-begins_past g c =
-    let value = g.I.OverlayInt.value in
+    let value = g.I.IntNumber.value in
     let segments = c.args.segments.now in
     let entries = entries_of value segments in
     let middle = c.loop-low.low + (c.loop-low.high - c.loop-low.low) / 2 in
@@ -25,7 +25,7 @@ loop-low-preserved-then-begins_past g c =
 
 pub loop-low-preserved : goal.loop-low-preserved
 loop-low-preserved g c =
-    let value = g.I.OverlayInt.value in
+    let value = g.I.IntNumber.value in
     let segments = c.args.segments.now in
     let entries = entries_of value segments in
     let middle = c.loop-low.low + (c.loop-low.high - c.loop-low.low) / 2 in

@@ -11,7 +11,7 @@ returns-then-to-from-clause-near g c = λ _ j t l m at. absurd (omega (arith, l,
 
 pub returns-clause-near : goal.returns-clause-near
 returns-clause-near g c = λ _ j t l m there.
-    let value = g.I.OverlayInt.value in
+    let value = g.I.IntNumber.value in
     let segments = c.args.segments.now in
     let entries = entries_of value segments in
     let last = c.args.to - 1 in
@@ -24,7 +24,7 @@ returns-clause-near g c = λ _ j t l m there.
 
 pub returns-then-begins_past-clause-past : goal.returns-then-begins_past-clause-past
 returns-then-begins_past-clause-past g c = λ _ j t l there.
-    let value = g.I.OverlayInt.value in
+    let value = g.I.IntNumber.value in
     let segments = c.args.segments.now in
     let entries = entries_of value segments in
     let last = c.args.to - 1 in

@@ -8,11 +8,11 @@ use Rattle.segment_split.proofs.Rows.Reaches.{run_none, run_one, run_more}
 use Rattle.segment_split.proofs.pairs.rows.reach.run_to.Goals as goal
 
 pub returns-then-not-is_wide-clause-is : goal.returns-then-not-is_wide-clause-is
-returns-then-not-is_wide-clause-is g c = run_none (edges_of (entries_of g.I.OverlayInt.value c.args.segments.now)) c.args.i (c.args.i + 1) (omega arith)
+returns-then-not-is_wide-clause-is g c = run_none (edges_of (entries_of g.I.IntNumber.value c.args.segments.now)) c.args.i (c.args.i + 1) (omega arith)
 
 pub returns-then-i-eq0-clause-is : goal.returns-then-i-eq0-clause-is
 returns-then-i-eq0-clause-is g c =
-    let value = g.I.OverlayInt.value in
+    let value = g.I.IntNumber.value in
     let segments = c.args.segments.now in
     let es = edges_of (entries_of value segments) in
     let i = c.args.i in
@@ -22,7 +22,7 @@ returns-then-i-eq0-clause-is g c =
 
 pub returns-clause-is : goal.returns-clause-is
 returns-clause-is g c =
-    let value = g.I.OverlayInt.value in
+    let value = g.I.IntNumber.value in
     let segments = c.args.segments.now in
     let es = edges_of (entries_of value segments) in
     let i = c.args.i in
@@ -32,7 +32,7 @@ returns-clause-is g c =
 
 pub returns-then-begins_at-clause-is : goal.returns-then-begins_at-clause-is
 returns-then-begins_at-clause-is g c =
-    let value = g.I.OverlayInt.value in
+    let value = g.I.IntNumber.value in
     let segments = c.args.segments.now in
     let es = edges_of (entries_of value segments) in
     let i = c.args.i in

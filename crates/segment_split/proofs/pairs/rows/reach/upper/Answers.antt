@@ -8,7 +8,7 @@ use Rattle.segment_split.proofs.pairs.rows.reach.upper.Goals as goal
 
 pub returns-then-begins_past-clause-past : goal.returns-then-begins_past-clause-past
 returns-then-begins_past-clause-past g c =
-    let value = g.I.OverlayInt.value in
+    let value = g.I.IntNumber.value in
     let segments = c.args.segments.now in
     let entries = entries_of value segments in
     let guess = c.args.guess in

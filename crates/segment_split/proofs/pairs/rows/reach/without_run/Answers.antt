@@ -8,17 +8,17 @@ use Rattle.segment_split.proofs.Rows.Reaches.{past_is_reach, run_is_reach}
 use Rattle.segment_split.proofs.pairs.rows.reach.without_run.Goals as goal
 
 pub returns-then-past-eq0 : goal.returns-then-past-eq0
-returns-then-past-eq0 g c = λ s at. past_is_reach (edges_of (entries_of g.I.OverlayInt.value c.args.segments.now)) (edges_rising (entries_of g.I.OverlayInt.value c.args.segments.now) c.requires.normal) c.args.i s at c.args.past c.requires.past
+returns-then-past-eq0 g c = λ s at. past_is_reach (edges_of (entries_of g.I.IntNumber.value c.args.segments.now)) (edges_rising (entries_of g.I.IntNumber.value c.args.segments.now) c.requires.normal) c.args.i s at c.args.past c.requires.past
 
 pub returns-then-not-is_wide : goal.returns-then-not-is_wide
-returns-then-not-is_wide g c = λ s at. past_is_reach (edges_of (entries_of g.I.OverlayInt.value c.args.segments.now)) (edges_rising (entries_of g.I.OverlayInt.value c.args.segments.now) c.requires.normal) c.args.i s at c.args.past c.requires.past
+returns-then-not-is_wide g c = λ s at. past_is_reach (edges_of (entries_of g.I.IntNumber.value c.args.segments.now)) (edges_rising (entries_of g.I.IntNumber.value c.args.segments.now) c.requires.normal) c.args.i s at c.args.past c.requires.past
 
 pub returns : goal.returns
-returns g c = λ s at. past_is_reach (edges_of (entries_of g.I.OverlayInt.value c.args.segments.now)) (edges_rising (entries_of g.I.OverlayInt.value c.args.segments.now) c.requires.normal) c.args.i s at c.args.past c.requires.past
+returns g c = λ s at. past_is_reach (edges_of (entries_of g.I.IntNumber.value c.args.segments.now)) (edges_rising (entries_of g.I.IntNumber.value c.args.segments.now) c.requires.normal) c.args.i s at c.args.past c.requires.past
 
 pub returns-then-begins_at : goal.returns-then-begins_at
 returns-then-begins_at g c = λ t here.
-    let value = g.I.OverlayInt.value in
+    let value = g.I.IntNumber.value in
     let segments = c.args.segments.now in
     let entries = entries_of value segments in
     let es = edges_of entries in
