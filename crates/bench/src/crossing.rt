@@ -1,9 +1,7 @@
 //! Crosses ten million pairs of segments in all: parted ones, ones that cross properly, and ones on one line. A line for each
 //! kind says how many of them mark, and the nanoseconds that a pair took go to standard error.
 
-ghost use Rattle.std.specs.Prelude.{◌≡◌, ◌≢◌, ◌<◌, pos, negsuc};
-ghost use Rattle.std.specs.declared.cmp.Ordering.TheVariants.{Greater};
-ghost use Rattle.plane_base.specs.Plane.{edge_order};
+ghost use Rattle.std.specs.Prelude.{◌≡◌, ◌<◌, pos, negsuc};
 ghost use Rattle.plane_base.specs.Segments.{IsEdgeWithin};
 ghost use Rattle.plane_base.specs.SegmentViews.{edge_of};
 
@@ -71,7 +69,7 @@ fn segment(x: u32, y: u32, end: u32) -> XSegment<i32>
     requires x { x < 70000 }
     requires y { y < 200000 }
     requires end { end < 200000 }
-    ensures within { IsEdgeWithin (negsuc 524287) (pos 524287) (edge_of (λ z. z) result) }
+    ensures within { IsEdgeWithin (negsuc 524287) (pos 524287) (edge_of result) }
     ensures begins { result.a.x ≡ pos x }
 {
     XSegment {

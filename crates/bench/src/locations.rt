@@ -115,7 +115,7 @@ fn count_inside(
 
 // Whether all coordinates are in range.
 fn are_in_range(shapes: &[IntShape<i32>]) -> bool
-    ensures { IsTrue result → All (All (IsWithin (negsuc 524287) (pos 524287))) (all_contours (shapes_of (λ x. x) shapes.now)) }
+    ensures { IsTrue result → All (All (IsWithin (negsuc 524287) (pos 524287))) (all_contours (shapes_of shapes.now)) }
 {
     for shape in shapes {
         if !all_contours_in_range(&shape.contours) {

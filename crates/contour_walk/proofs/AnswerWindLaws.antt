@@ -1,11 +1,9 @@
 -- The answer winds as its contours do, parted or not, and has what reaches the least area.
-use Rattle.std.proofs.Common.{◌≡◌, refl, sym, ap, ◌∙◌, subst, List, map, Bool}
-use Rattle.plane_base.specs.Plane.{Point}
+use Rattle.std.proofs.Common.{◌≡◌, refl, sym, ap, ◌∙◌, subst, List, map}
 use Rattle.plane_base.proofs.Facts.Windings.Sums.{contour_winding_permutation}
 use Rattle.plane_base.specs.Windings.{contour_winding}
 use Rattle.contour_walk.specs.Answering.{Answering, with_all, answer_with, AnswersThoseLeft}
 use Rattle.contour_walk.specs.AnswerLaws.{AnswersWind}
-use Rattle.contour_walk.specs.BinderOwners.{RunAlong}
 use Rattle.contour_walk.specs.BindingLaws.{FinishedPassingWinds, all_contours}
 use Rattle.contour_walk.specs.Least.{reaching, AreLeft}
 use Rattle.contour_walk.specs.Parted.{contours_for}

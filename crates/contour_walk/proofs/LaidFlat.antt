@@ -2,12 +2,9 @@
 use Rattle.std.specs.Prelude.{◌≡◌, ℕ, ℤ, true, false, cond, List, [], ◌∷◌, ◌++◌, map, filter, length, Result, Ok, Err, OnOk}
 use Rattle.std.specs.declared.ops.Range.{Range}
 use Rattle.std.specs.Result.{is_err}
-use Rattle.std.proofs.Common.{refl, sym, ap, ap₂, subst, ◌∙◌, append_assoc, append-nil}
-use Rattle.std.proofs.lemmas.List.{map-append, length-map}
+use Rattle.std.proofs.Common.{refl, sym, ap, subst, ◌∙◌, append_assoc, append-nil}
 use Rattle.plane_base.specs.Plane.{Point}
-use Rattle.plane_base.specs.Flat.{AreRangesOf, AreLaid}
-use Rattle.plane_base.specs.Views.{point_of, points_of}
-use Rattle.plane_base.specs.declared.point.IntPoint.{IntPoint}
+use Rattle.plane_base.specs.Flat.{AreLaid}
 use Rattle.plane_base.specs.declared.flat.FlatContoursBuffer.{FlatContoursBuffer}
 use Rattle.plane_base.proofs.Facts.Flat.{laid_none, laid_more, laid_tells}
 use Rattle.contour_walk.specs.Walks.{Contour}
@@ -20,46 +17,42 @@ use Rattle.contour_walk.specs.Answering.{Answering, flat_contours}
 
 module _ {I : Type 0} (value : I → ℤ) where
   -- a buffer without contours
-  pub none_laid : (buffer : FlatContoursBuffer I) → buffer.points.items ≡ [] → buffer.ranges.items ≡ [] → IsLaidFlat value [] buffer
+  pub none_laid : (buffer : FlatContoursBuffer I) → buffer.points.items ≡ [] → buffer.ranges.items ≡ [] → IsLaidFlat [] buffer
   none_laid buffer points ranges =
-      subst (λ ps. AreLaid {A = Point} [] (points_of value ps) buffer.ranges.items) (sym points)
+      subst (λ ps. AreLaid {A = Point} [] ps buffer.ranges.items) (sym points)
       (subst (λ (rs : List (Range ℕ)). AreLaid {A = Point} [] [] rs) (sym ranges) laid_none)
 
   -- what a buffer has
-  pub laid_is : (contours : List (List Point)) (buffer : FlatContoursBuffer I) → IsLaidFlat value contours buffer → flat_of value buffer ≡ contours
-  laid_is contours buffer laid = (laid_tells contours (points_of value buffer.points.items) buffer.ranges.items laid).0
+  pub laid_is : (contours : List (List Point)) (buffer : FlatContoursBuffer I) → IsLaidFlat contours buffer → flat_of buffer ≡ contours
+  laid_is contours buffer laid = (laid_tells contours buffer.points.items buffer.ranges.items laid).0
 
-  pub laid_is_flat : (contours : List (List Point)) (buffer : FlatContoursBuffer I) → IsLaidFlat value contours buffer → IsFlat buffer
+  pub laid_is_flat : (contours : List (List Point)) (buffer : FlatContoursBuffer I) → IsLaidFlat contours buffer → IsFlat buffer
   laid_is_flat contours buffer laid =
-      subst (λ n. AreRangesOf n buffer.ranges.items) (length-map buffer.points.items (point_of value))
-      (laid_tells contours (points_of value buffer.points.items) buffer.ranges.items laid).1
+      (laid_tells contours buffer.points.items buffer.ranges.items laid).1
 
   -- no contour, one, or those of two steps
-  pub lays_nothing : (buffer : FlatContoursBuffer I) → LaysBehind value [] buffer buffer
-  lays_nothing buffer = λ before laid. subst (λ cs. IsLaidFlat value cs buffer) (sym (append-nil before)) laid
+  pub lays_nothing : (buffer : FlatContoursBuffer I) → LaysBehind [] buffer buffer
+  lays_nothing buffer = λ before laid. subst (λ cs. IsLaidFlat cs buffer) (sym (append-nil before)) laid
 
-  pub lays_one : (points : List (IntPoint I)) (old new : FlatContoursBuffer I) → new.points.items ≡ old.points.items ++ points
+  pub lays_one : (points : List Point) (old new : FlatContoursBuffer I) → new.points.items ≡ old.points.items ++ points
       → new.ranges.items ≡ old.ranges.items ++ record { start = length old.points.items; end = length new.points.items } ∷ []
-      → LaysBehind value (points_of value points ∷ []) old new
+      → LaysBehind (points ∷ []) old new
   lays_one points old new all rs = λ before laid.
-      let front = points_of value old.points.items in
-      let contour = points_of value points in
-      let seen : points_of value new.points.items ≡ front ++ contour = ap (points_of value) all ∙ map-append (point_of value) old.points.items points in
-      let end : length new.points.items ≡ length (front ++ contour) = sym (length-map new.points.items (point_of value)) ∙ ap length seen in
-      let ranges : new.ranges.items ≡ old.ranges.items ++ record { start = length front; end = length (front ++ contour) } ∷ []
-      = rs ∙ ap₂ (λ (a b : ℕ). old.ranges.items ++ record { start = a; end = b } ∷ []) (sym (length-map old.points.items (point_of value))) end in
-      subst (λ ps. AreLaid (before ++ contour ∷ []) ps new.ranges.items) (sym seen)
-      (subst (AreLaid (before ++ contour ∷ []) (front ++ contour)) (sym ranges) (laid_more before contour front old.ranges.items laid))
+      let front = old.points.items in
+      let ranges : new.ranges.items ≡ old.ranges.items ++ record { start = length front; end = length (front ++ points) } ∷ []
+      = rs ∙ ap (λ (n : ℕ). old.ranges.items ++ record { start = length front; end = n } ∷ []) (ap length all) in
+      subst (λ ps. AreLaid (before ++ points ∷ []) ps new.ranges.items) (sym all)
+      (subst (AreLaid (before ++ points ∷ []) (front ++ points)) (sym ranges) (laid_more before points front old.ranges.items laid))
 
-  pub lays_then : (first second : List (List Point)) (old middle new : FlatContoursBuffer I) → LaysBehind value first old middle → LaysBehind value second middle new
-      → LaysBehind value (first ++ second) old new
+  pub lays_then : (first second : List (List Point)) (old middle new : FlatContoursBuffer I) → LaysBehind first old middle → LaysBehind second middle new
+      → LaysBehind (first ++ second) old new
   lays_then first second old middle new one two = λ before laid.
-      subst (λ cs. IsLaidFlat value cs new) (append_assoc before first second) (two (before ++ first) (one before laid))
+      subst (λ cs. IsLaidFlat cs new) (append_assoc before first second) (two (before ++ first) (one before laid))
 
   -- the same contours, in other words
   pub lays_same : {T E : Type 0} (r : Result T E) (contours others : List (List Point)) (old new : FlatContoursBuffer I) → contours ≡ others
-      → OnOk r (LaysBehind value contours old new) → OnOk r (LaysBehind value others old new)
-  lays_same r contours others old new same laid = subst (λ cs. OnOk r (LaysBehind value cs old new)) same laid
+      → OnOk r (LaysBehind contours old new) → OnOk r (LaysBehind others old new)
+  lays_same r contours others old new same laid = subst (λ cs. OnOk r (LaysBehind cs old new)) same laid
 
 -- ---- contours
 

@@ -6,7 +6,6 @@ use Rattle.std.proofs.lemmas.Grind.{flat_map-append}
 use Rattle.std.proofs.lemmas.List.{drop-map, take-map, length-map}
 use Rattle.plane_base.specs.Plane.{Point}
 use Rattle.plane_base.specs.Flat.{part, parts, parts_of_parts, AreRangesOf, AreLaid}
-use Rattle.plane_base.specs.Views.{point_of, points_of}
 use Rattle.plane_base.specs.declared.flat.FlatContoursBuffer.{FlatContoursBuffer}
 use Rattle.plane_base.specs.declared.flat_shapes.FlatShapesBuffer.{FlatShapesBuffer}
 use Rattle.plane_base.proofs.Facts.Flat.{laid_tells}
@@ -29,18 +28,18 @@ all_more shapes s = flat_map-append (λ shape. shape) shapes (s ∷ []) ∙ ap (
 
 module _ {I : Type 0} (value : I → ℤ) where
   -- there are as many ranges as contours
-  pub laid_many : (contours : List (List Point)) (buffer : FlatContoursBuffer I) → IsLaidFlat value contours buffer → length buffer.ranges.items ≡ length contours
+  pub laid_many : (contours : List (List Point)) (buffer : FlatContoursBuffer I) → IsLaidFlat contours buffer → length buffer.ranges.items ≡ length contours
   laid_many contours buffer laid =
-      sym (length-map buffer.ranges.items (part (points_of value buffer.points.items))) ∙ ap length (laid_is value contours buffer laid)
+      sym (length-map buffer.ranges.items (part buffer.points.items)) ∙ ap length (laid_is value contours buffer laid)
 
   -- the same shapes, in other words
-  pub same_laid : {buffer : FlatShapesBuffer I} (shapes others : List (List (List Point))) → shapes ≡ others → AreLaidShapes value shapes buffer → AreLaidShapes value others buffer
-  same_laid {buffer} shapes others same laid = subst (λ ss. AreLaidShapes value ss buffer) same laid
+  pub same_laid : {buffer : FlatShapesBuffer I} (shapes others : List (List (List Point))) → shapes ≡ others → AreLaidShapes shapes buffer → AreLaidShapes others buffer
+  same_laid {buffer} shapes others same laid = subst (λ ss. AreLaidShapes ss buffer) same laid
 
   -- what a buffer of shapes has
-  module _ {buffer : FlatShapesBuffer I} (shapes : List (List (List Point))) (laid : AreLaidShapes value shapes buffer) where
+  module _ {buffer : FlatShapesBuffer I} (shapes : List (List (List Point))) (laid : AreLaidShapes shapes buffer) where
     abbrev points : List Point
-    points = points_of value buffer.points.items
+    points = buffer.points.items
 
     contours_told : (parts points buffer.contour_ranges.items ≡ all_contours shapes) × AreRangesOf (length points) buffer.contour_ranges.items
     contours_told = laid_tells (all_contours shapes) points buffer.contour_ranges.items laid.contours
@@ -51,7 +50,7 @@ module _ {I : Type 0} (value : I → ℤ) where
     shapes_told : (parts (all_contours shapes) buffer.shape_ranges.items ≡ shapes) × AreRangesOf (length (all_contours shapes)) buffer.shape_ranges.items
     shapes_told = laid_tells shapes (all_contours shapes) buffer.shape_ranges.items in_groups
 
-    pub shapes_are : flat_shapes_of value buffer ≡ shapes
+    pub shapes_are : flat_shapes_of buffer ≡ shapes
     shapes_are =
         groups_are_parts points buffer.contour_ranges.items buffer.shape_ranges.items
         ∙ (ap (λ cs. parts cs buffer.shape_ranges.items) contours_told.0 ∙ shapes_told.0)
@@ -59,6 +58,6 @@ module _ {I : Type 0} (value : I → ℤ) where
     pub shapes_are_flat : AreFlatShapes buffer
     shapes_are_flat =
         let many = sym (length-map buffer.contour_ranges.items (part points)) ∙ ap length contours_told.0 in record {
-          contours = subst (λ n. AreRangesOf n buffer.contour_ranges.items) (length-map buffer.points.items (point_of value)) contours_told.1;
+          contours = contours_told.1;
           shapes = subst (λ n. AreRangesOf n buffer.shape_ranges.items) (sym many) shapes_told.1;
         }

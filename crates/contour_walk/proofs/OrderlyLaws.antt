@@ -1,6 +1,6 @@
 -- Answers are in order.
-use Rattle.std.proofs.Common.{◌≡◌, ℕ, zero, suc, ◌<◌, Bool, true, false, cond, List, [], ◌∷◌, ◌++◌, map, flat_map, length, get_or, All, AllPairs, Contains, Some}
-use Rattle.std.proofs.Common.{IsPermutation, refl, sym, ap, ◌∙◌, subst, append_assoc, swap, arith}
+use Rattle.std.proofs.Common.{ℕ, zero, suc, ◌<◌, Bool, true, false, cond, List, [], ◌∷◌, ◌++◌, map, flat_map, length, get_or, All, AllPairs}
+use Rattle.std.proofs.Common.{IsPermutation, refl, subst, append_assoc, swap, arith}
 use Rattle.std.proofs.Math.ListN.{set}
 use Rattle.std.proofs.lemmas.List.Edits.{swap_is}
 use Rattle.std.proofs.lemmas.List.Elements.{All-nil, All-cons, All-head, All-tail, All-contains_itself}
@@ -14,14 +14,13 @@ use Rattle.segment_arrangement.specs.SideLaws.{IsArrangement}
 use Rattle.segment_arrangement.proofs.Facts.Rings.{node_ring}
 use Rattle.segment_arrangement.proofs.Facts.RingOrder.{points_have_rings}
 use Rattle.contour_walk.specs.Walks.{Border, Contour, walks}
-use Rattle.contour_walk.specs.WalkLaws.{borders, step_along, contour_steps, PassAll, least_place, ComeInOrder}
-use Rattle.contour_walk.specs.Binding.{least_point, hole_owner}
+use Rattle.contour_walk.specs.WalkLaws.{borders, step_along, contour_steps, ComeInOrder}
+use Rattle.contour_walk.specs.Binding.{hole_owner}
 use Rattle.contour_walk.specs.BindingLaws.{all_contours}
 use Rattle.contour_walk.specs.Least.{outlines_of}
-use Rattle.contour_walk.specs.Shapes.{finished, is_owned_by, holes_from, shapes_from}
+use Rattle.contour_walk.specs.Shapes.{is_owned_by, holes_from, shapes_from}
 use Rattle.contour_walk.specs.Parted.{contours_for}
-use Rattle.contour_walk.specs.Answering.{Answering, answer_with}
-use Rattle.contour_walk.specs.Orderly.{LeastStands, IsInPlace, shape, StartInOrder, AreOrderly, AnswersAreOrderly}
+use Rattle.contour_walk.specs.Orderly.{LeastStands, IsInPlace, shape, StartInOrder, AnswersAreOrderly}
 use Rattle.contour_walk.proofs.AnswerWindLaws.{all_answered}
 use Rattle.contour_walk.proofs.Binder.Laws.{runs_bind}
 use Rattle.contour_walk.proofs.Binding.Answers.{nothing_is_lost}

@@ -10,7 +10,7 @@ use Rattle.plane_base.proofs.Facts.Lists.Views.{drop-mapped}
 use Rattle.contour_walk.specs.Walks.{Border, Contour}
 use Rattle.contour_walk.specs.Shapes.{finished, is_owned_by, holes_from, shapes_from}
 use Rattle.contour_walk.specs.Binding.{hole_owner}
-use Rattle.contour_walk.specs.Least.{reaches, outline_reaches, shape_reaching, holes_reaching, holes_left, behind_first, reaching, outlines_of, holes_in, holes_of, AreLeft}
+use Rattle.contour_walk.specs.Least.{reaches, outline_reaches, shape_reaching, holes_reaching, holes_left, behind_first, reaching, outlines_of, holes_of, AreLeft}
 use Rattle.contour_walk.specs.LeastViews.{shape_if_reaching, holes_if_left}
 use Rattle.contour_walk.specs.ShapeViews.{ContoursAreWithin, ShapesAreWithin}
 

@@ -6,7 +6,6 @@ use Rattle.std.proofs.lemmas.Int.{ints}
 use Rattle.std.proofs.lemmas.List.{get_or-map, length-map, get_or_default}
 use Rattle.std.proofs.lemmas.List.Sorted.{IsPermutation-sym}
 use Rattle.plane_base.specs.Plane.{Point, Edge, is_before}
-use Rattle.plane_base.specs.Views.{point_of}
 use Rattle.plane_base.proofs.Facts.Points.Orders.{point_less, before_is_less}
 use Rattle.segment_arrangement.specs.declared.graph.VisitState.{VisitState}
 use Rattle.segment_arrangement.specs.declared.graph.VisitState.TheVariants.{Skipped}
@@ -113,15 +112,15 @@ module _ (v : Point) (es : List Edge) (ss : List VisitState) (directed : Each (�
       let forward = each_at (λ s. is_before s.a s.b ≡ true) es m.id d directed at.inside in
       before_from v m.point (subst (λ p. is_before p v ≡ true) (at.other d) (subst (λ p. is_before (get_or es m.id d).a p ≡ true) (at.near d) forward))
 
-module _ {I : Type 0} (value : I → ℤ) (edges : List Edge) (states : List VisitState) (v : Point) (links : List (Spoke I)) (first : ℕ) (round : AreRound value edges states v links first) where
+module _ {I : Type 0} (value : I → ℤ) (edges : List Edge) (states : List VisitState) (v : Point) (links : List (Spoke I)) (first : ℕ) (round : AreRound edges states v links first) where
   abbrev number : Spoke I → Numbered
-  number s = numbered value s.far s.place
+  number s = numbered s.far s.place
 
   abbrev all : List Numbered
   all = round.starts ++ round.ends
 
   abbrev far : ℕ → Spoke I → Point
-  far i d = point_of value (get_or links i d).far
+  far i d = (get_or links i d).far
 
   pub as_long : length all ≡ length links
   as_long = sym (ap length round.parts) ∙ length-map links number

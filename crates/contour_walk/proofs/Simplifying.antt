@@ -1,5 +1,5 @@
 -- Neighbours that become one edge, in a row and round the seam.
-use Rattle.std.proofs.Common.{◌≡◌, ◌≢◌, Decides, refl, sym, ap, ap₂, ◌∙◌, subst, ℕ, zero, suc, ◌+◌, ◌-◌, ◌<◌, ◌≤◌, ℤ, nat_lt, ◌||◌, ◌==◌, not, cond, map, filter, Bool, true, false, List, [], ◌∷◌, ◌++◌, append_assoc, length, take, drop, get_or, set, inl, inr, arith}
+use Rattle.std.proofs.Common.{◌≡◌, ◌≢◌, Decides, refl, sym, ap, ap₂, ◌∙◌, subst, ℕ, zero, suc, ◌+◌, ◌<◌, ◌≤◌, ℤ, nat_lt, ◌||◌, ◌==◌, not, cond, map, filter, Bool, true, false, List, [], ◌∷◌, ◌++◌, append_assoc, length, take, drop, get_or, set, inl, inr, arith}
 use Rattle.std.specs.Prelude.{All}
 use Rattle.std.proofs.lemmas.Bool.{false≢true, eqb-true}
 use Rattle.std.proofs.lemmas.List.{length-append, length-set, length-take-le, take-append-drop, take_more_set, drop-set-lt, drop-set, take_all, get_or-take, get_or-set_same}
@@ -43,22 +43,22 @@ module _ {I D : Type 0} (value : I → ℤ) (same : D → D → Bool) where
 
   -- ---- joins
 
-  pub joins_then : {es fs gs : List E} → Joins value same es fs → JoinsTwo value same fs gs → Joins value same es gs
+  pub joins_then : {es fs gs : List E} → Joins value same es fs → JoinsTwo same fs gs → Joins value same es gs
   joins_then no_join two = one_join two no_join
   joins_then (one_join one rest) two = one_join one (joins_then rest two)
 
   -- two neighbours of a row
-  pub join_row : (es front : List E) (e f : E) (back : List E) → can_join value same e f ≡ true → Joins value same es (front ++ (e ∷ f ∷ back))
+  pub join_row : (es front : List E) (e f : E) (back : List E) → can_join same e f ≡ true → Joins value same es (front ++ (e ∷ f ∷ back))
       → Joins value same es (front ++ (joined_edge e f ∷ back))
   join_row es front e f back can reached = joins_then reached (inl record { front = front; first = e; second = f; back = back; was = refl; can = can; is = refl })
 
   -- the last and the first
-  pub join_seam : (es : List E) (f : E) (others : List E) (e : E) → can_join value same e f ≡ true → Joins value same es (f ∷ (others ++ e ∷ []))
+  pub join_seam : (es : List E) (f : E) (others : List E) (e : E) → can_join same e f ≡ true → Joins value same es (f ∷ (others ++ e ∷ []))
       → Joins value same es (joined_edge e f ∷ others)
   join_seam es f others e can reached = joins_then reached (inr record { first = f; others = others; last = e; was = refl; can = can; is = refl })
 
   -- each join leaves one edge less
-  one_less : {es fs : List E} → JoinsTwo value same es fs → length fs + 1 ≡ length es
+  one_less : {es fs : List E} → JoinsTwo same es fs → length fs + 1 ≡ length es
   one_less (inl r) =
       let long = ap length r.was ∙ length-append r.front (r.first ∷ r.second ∷ r.back) in
       let left = ap length r.is ∙ length-append r.front (joined_edge r.first r.second ∷ r.back) in
@@ -80,29 +80,29 @@ module _ {I D : Type 0} (value : I → ℤ) (same : D → D → Bool) where
 
   -- ---- rows in which none can be joined
 
-  pub none_tail : (e : E) (es : List E) → NoneInRow value same (e ∷ es) → NoneInRow value same es
+  pub none_tail : (e : E) (es : List E) → NoneInRow same (e ∷ es) → NoneInRow same es
   none_tail e [] h = tt
   none_tail e (f ∷ rest) h = h.1
 
-  pub none_drop : (n : ℕ) (es : List E) → NoneInRow value same es → NoneInRow value same (drop n es)
+  pub none_drop : (n : ℕ) (es : List E) → NoneInRow same es → NoneInRow same (drop n es)
   none_drop zero es h = h
   none_drop (suc n) [] h = tt
   none_drop (suc n) (e ∷ es) h = none_drop n es (none_tail e es h)
 
-  none_front : (es fs : List E) → NoneInRow value same (es ++ fs) → NoneInRow value same es
+  none_front : (es fs : List E) → NoneInRow same (es ++ fs) → NoneInRow same es
   none_front [] fs h = tt
   none_front (e ∷ []) fs h = tt
   none_front (e ∷ f ∷ es) fs h = (h.0, none_front (f ∷ es) fs h.1)
 
-  pub none_take : (n : ℕ) (es : List E) → NoneInRow value same es → NoneInRow value same (take n es)
-  none_take n es h = none_front (take n es) (drop n es) (subst (NoneInRow value same) (sym (take-append-drop n es)) h)
+  pub none_take : (n : ℕ) (es : List E) → NoneInRow same es → NoneInRow same (take n es)
+  none_take n es h = none_front (take n es) (drop n es) (subst (NoneInRow same) (sym (take-append-drop n es)) h)
 
-  none_push : (es : List E) (e f : E) → NoneInRow value same (es ++ e ∷ []) → can_join value same e f ≡ false → NoneInRow value same (es ++ (e ∷ f ∷ []))
+  none_push : (es : List E) (e f : E) → NoneInRow same (es ++ e ∷ []) → can_join same e f ≡ false → NoneInRow same (es ++ (e ∷ f ∷ []))
   none_push [] e f h apart = (apart, tt)
   none_push (a ∷ []) e f h apart = (h.0, (apart, tt))
   none_push (a ∷ b ∷ es) e f h apart = (h.0, none_push (b ∷ es) e f h.1 apart)
 
-  none_within : (front : List E) (e f : E) (back : List E) → NoneInRow value same (front ++ (e ∷ f ∷ back)) → can_join value same e f ≡ false
+  none_within : (front : List E) (e f : E) (back : List E) → NoneInRow same (front ++ (e ∷ f ∷ back)) → can_join same e f ≡ false
   none_within [] e f back h = h.0
   none_within (a ∷ []) e f back h = h.1.0
   none_within (a ∷ b ∷ front) e f back h = none_within (b ∷ front) e f back h.1
@@ -111,7 +111,7 @@ module _ {I D : Type 0} (value : I → ℤ) (same : D → D → Bool) where
 
   -- one edge more that the last can be joined to
   pub join_back : (es items : List E) (many left : ℕ) (e next : E) (rest : List E) → left + 1 ≡ many → many ≤ length items → e ≡ get_or items left e
-      → can_join value same e next ≡ true → Joins value same es (take many items ++ next ∷ rest)
+      → can_join same e next ≡ true → Joins value same es (take many items ++ next ∷ rest)
       → Joins value same es (take left items ++ joined_edge e next ∷ rest)
   join_back es items many left e next rest step inside at can reached =
       let whole : take many items ++ next ∷ rest ≡ take left items ++ (e ∷ next ∷ rest) =
@@ -120,16 +120,16 @@ module _ {I D : Type 0} (value : I → ℤ) (same : D → D → Bool) where
 
   -- one edge more that the last can't be joined to
   pub none_more : (items : List E) (many left : ℕ) (e next : E) → left + 1 ≡ many → many ≤ length items → e ≡ get_or items left e
-      → can_join value same e next ≡ false → NoneInRow value same (take many items) → NoneInRow value same (take many items ++ next ∷ [])
+      → can_join same e next ≡ false → NoneInRow same (take many items) → NoneInRow same (take many items ++ next ∷ [])
   none_more items many left e next step inside at apart h =
       let last = taken_to items left many e step inside at in
       let whole : take many items ++ next ∷ [] ≡ take left items ++ (e ∷ next ∷ []) =
       ap (λ (xs : List E). xs ++ next ∷ []) last ∙ append_assoc (take left items) (e ∷ []) (next ∷ []) in
-      subst (NoneInRow value same) (sym whole) (none_push (take left items) e next (subst (NoneInRow value same) last h) apart)
+      subst (NoneInRow same) (sym whole) (none_push (take left items) e next (subst (NoneInRow same) last h) apart)
 
-  pub none_shorter : (items : List E) (many left : ℕ) → left ≤ many → NoneInRow value same (take many items) → NoneInRow value same (take left items)
+  pub none_shorter : (items : List E) (many left : ℕ) → left ≤ many → NoneInRow same (take many items) → NoneInRow same (take left items)
   none_shorter items many left fewer h =
-      subst (NoneInRow value same) (take_fewer items left many fewer) (none_take left (take many items) h)
+      subst (NoneInRow same) (take_fewer items left many fewer) (none_take left (take many items) h)
     where
       take_fewer : (xs : List E) (i j : ℕ) → i ≤ j → take i (take j xs) ≡ take i xs
       take_fewer xs zero j h = refl
@@ -188,22 +188,22 @@ module _ {I D : Type 0} (value : I → ℤ) (same : D → D → Bool) where
         dropped_from (take end (set items start edge)) start (start + 1) edge refl (omega (arith, size, many, to_end)) here
         ∙ ap (λ (xs : List E). edge ∷ xs) (drop_late (start + 1) end items start edge (omega arith))
 
-    pub joins_seam : (es : List E) → can_join value same last first ≡ true → Joins value same es (drop start items)
+    pub joins_seam : (es : List E) → can_join same last first ≡ true → Joins value same es (drop start items)
         → Joins value same es (drop start (take end (set items start (joined_edge last first))))
     joins_seam es can reached =
         subst (Joins value same es) (sym (seam_joined (joined_edge last first))) (join_seam es first others last can (subst (Joins value same es) from_start reached))
 
-    pub none_seam : (edge : E) → NoneInRow value same (drop (start + 1) items) → NoneInRow value same (drop (start + 1) (take end (set items start edge)))
+    pub none_seam : (edge : E) → NoneInRow same (drop (start + 1) items) → NoneInRow same (drop (start + 1) (take end (set items start edge)))
     none_seam edge h =
-        subst (NoneInRow value same) (sym (drop_late (start + 1) end items start edge (omega arith)))
-        (none_front others (last ∷ []) (subst (NoneInRow value same) behind_first h))
+        subst (NoneInRow same) (sym (drop_late (start + 1) end items start edge (omega arith)))
+        (none_front others (last ∷ []) (subst (NoneInRow same) behind_first h))
 
     -- none can be joined, not round the seam either
-    pub none_left : NoneInRow value same (drop start items) → can_join value same last first ≡ false → NoneJoin value same (drop start items)
-    none_left row round fs (inl r) = false≢true (sym (none_within r.front r.first r.second r.back (subst (NoneInRow value same) r.was row)) ∙ r.can)
+    pub none_left : NoneInRow same (drop start items) → can_join same last first ≡ false → NoneJoin same (drop start items)
+    none_left row round fs (inl r) = false≢true (sym (none_within r.front r.first r.second r.back (subst (NoneInRow same) r.was row)) ∙ r.can)
     none_left row round fs (inr r) =
         let ends = same_ends first r.first others r.others last r.last (sym from_start ∙ r.was) in
-        false≢true (sym round ∙ (ap₂ (can_join value same) ends.1 ends.0 ∙ r.can))
+        false≢true (sym round ∙ (ap₂ (can_join same) ends.1 ends.0 ∙ r.can))
       where
         head_or : E → List E → E
         head_or d [] = d
@@ -228,26 +228,26 @@ module _ {I D : Type 0} (value : I → ℤ) (same : D → D → Bool) where
         dropped_from items start next first step (omega (arith, many, step)) at_start
         ∙ ap (λ (xs : List E). first ∷ xs) (dropped_from items next (next + 1) second refl (omega (arith, many, step)) at_next)
 
-    pub joins_first : (es : List E) → can_join value same first second ≡ true → Joins value same es (drop start items)
+    pub joins_first : (es : List E) → can_join same first second ≡ true → Joins value same es (drop start items)
         → Joins value same es (drop next (set items next (joined_edge first second)))
     joins_first es can reached =
         subst (Joins value same es) (sym (drop-set items next (joined_edge first second) (omega (arith, many, step))))
         (join_row es [] first second (drop (next + 1) items) can (subst (Joins value same es) two_first reached))
 
-    pub none_first : (edge : E) → NoneInRow value same (drop (start + 1) items) → NoneInRow value same (drop (next + 1) (set items next edge))
+    pub none_first : (edge : E) → NoneInRow same (drop (start + 1) items) → NoneInRow same (drop (next + 1) (set items next edge))
     none_first edge h =
-        subst (NoneInRow value same) (sym (drop-set-lt (next + 1) items next edge (omega arith)))
+        subst (NoneInRow same) (sym (drop-set-lt (next + 1) items next edge (omega arith)))
         (none_tail second (drop (next + 1) items)
-        (subst (NoneInRow value same) (dropped_from items next (next + 1) second refl (omega (arith, many, step)) at_next)
-        (subst (λ n. NoneInRow value same (drop n items)) step h)))
+        (subst (NoneInRow same) (dropped_from items next (next + 1) second refl (omega (arith, many, step)) at_next)
+        (subst (λ n. NoneInRow same (drop n items)) step h)))
 
     -- the first two can't be joined, and none behind them
-    pub none_from : can_join value same first second ≡ false → NoneInRow value same (drop (start + 1) items) → NoneInRow value same (drop start items)
+    pub none_from : can_join same first second ≡ false → NoneInRow same (drop (start + 1) items) → NoneInRow same (drop start items)
     none_from apart h =
-        subst (NoneInRow value same) (sym two_first) (
+        subst (NoneInRow same) (sym two_first) (
           apart,
-          subst (NoneInRow value same) (dropped_from items next (next + 1) second refl (omega (arith, many, step)) at_next)
-              (subst (λ n. NoneInRow value same (drop n items)) step h),
+          subst (NoneInRow same) (dropped_from items next (next + 1) second refl (omega (arith, many, step)) at_next)
+              (subst (λ n. NoneInRow same (drop n items)) step h),
         )
 
   -- ---- all
@@ -260,12 +260,12 @@ module _ {I D : Type 0} (value : I → ℤ) (same : D → D → Bool) where
   simplified_to_nothing (e ∷ es) fs reached few true some tells = gone (omega arith) reached few
   simplified_to_nothing (e ∷ es) fs reached few false some tells = absurd (false≢true (tells (omega arith)))
 
-  pub simplified_to_itself : (es fs : List E) → Joins value same es fs → 3 ≤ length fs → NoneJoin value same fs → length fs ≡ length es → IsSimplified value same es fs false
+  pub simplified_to_itself : (es fs : List E) → Joins value same es fs → 3 ≤ length fs → NoneJoin same fs → length fs ≡ length es → IsSimplified value same es fs false
   simplified_to_itself es fs reached many apart long =
       let itself = joins_nothing reached long in
       subst (λ (gs : List E). IsSimplified value same gs fs false) itself (unchanged many apart)
 
-  joined_to : {es fs : List E} → Joins value same es fs → length fs < length es → 3 ≤ length fs → NoneJoin value same fs → IsSimplified value same es (first_as_last fs) true
+  joined_to : {es fs : List E} → Joins value same es fs → length fs < length es → 3 ≤ length fs → NoneJoin same fs → IsSimplified value same es (first_as_last fs) true
   joined_to no_join less many apart = absurd (omega (arith, less))
   joined_to (one_join one rest) less many apart = some_joined one rest many apart
 
@@ -273,7 +273,7 @@ module _ {I D : Type 0} (value : I → ℤ) (same : D → D → Bool) where
   first_goes_last [] h = absurd (omega (arith, h))
   first_goes_last (f ∷ fs) h = refl
 
-  pub simplified_to_less : (es fs : List E) → Joins value same es fs → 3 ≤ length fs → NoneJoin value same fs → length fs ≢ length es → IsSimplified value same es (drop 1 fs ++ take 1 fs) true
+  pub simplified_to_less : (es fs : List E) → Joins value same es fs → 3 ≤ length fs → NoneJoin same fs → length fs ≢ length es → IsSimplified value same es (drop 1 fs ++ take 1 fs) true
   simplified_to_less es fs reached many apart other =
       let fewer = no_more reached in
       subst (λ (gs : List E). IsSimplified value same es gs true) (sym (first_goes_last fs (omega (arith, many)))) (joined_to reached (omega (arith, fewer, other)) many apart)

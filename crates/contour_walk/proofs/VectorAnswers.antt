@@ -174,35 +174,35 @@ module _ (fill : FillRule) (rule : OverlayRule) (es : List (Entry Count)) where
 -- ---- in a graph
 
 -- there are links along the steps of an answer
-module _ {I D : Type 0} (value : I → ℤ) (links : List (OverlayLink I D)) (rule : OverlayRule) (output : Bool) (bounds : IsBoundary (borders_of_links rule (map (overlay_link_of value) links))) where
+module _ {I D : Type 0} (value : I → ℤ) (links : List (OverlayLink I D)) (rule : OverlayRule) (output : Bool) (bounds : IsBoundary (borders_of_links rule (map overlay_link_of links))) where
   abbrev bound_by : List Border
-  bound_by = borders_of_links rule (map (overlay_link_of value) links)
+  bound_by = borders_of_links rule (map overlay_link_of links)
 
   abbrev along : List Point → Type 0
   along = RunsAlong (map (λ (l : Border). l.edge) bound_by)
 
-  linked : (points : List Point) → along points → AreLinked value links points
+  linked : (points : List Point) → along points → AreLinked links points
   linked points h =
-      All-weaker (λ s. Contains (map (λ (l : Border). l.edge) bound_by) (between s.a s.b)) (IsLinked value links)
-      (λ s there. subst (λ es. Contains es (between s.a s.b)) (edges_seen value links links) (edges_of_links rule (map (overlay_link_of value) links) (between s.a s.b) there))
+      All-weaker (λ s. Contains (map (λ (l : Border). l.edge) bound_by) (between s.a s.b)) (IsLinked links)
+      (λ s there. subst (λ es. Contains es (between s.a s.b)) (edges_seen value links links) (edges_of_links rule (map overlay_link_of links) (between s.a s.b) there))
       (contour_steps points) h
 
   pub linked_answer : (least : ℕ) (shapes : List (List (List Point)))
-      → shapes ≡ map (map (finished true)) (reaching least (shapes_from bound_by (walks output bound_by) zero (walks output bound_by))) → All (All (AreLinked value links)) shapes
+      → shapes ≡ map (map (finished true)) (reaching least (shapes_from bound_by (walks output bound_by) zero (walks output bound_by))) → All (All (AreLinked links)) shapes
   linked_answer least shapes is =
-      subst (All (All (AreLinked value links))) (sym is)
-      (All-weaker (All along) (All (AreLinked value links)) (λ contours. All-weaker along (AreLinked value links) linked contours)
+      subst (All (All (AreLinked links))) (sym is)
+      (All-weaker (All along) (All (AreLinked links)) (λ contours. All-weaker along (AreLinked links) linked contours)
       (map (map (finished true)) (reaching least (shapes_from bound_by (walks output bound_by) zero (walks output bound_by)))) (answer_along output bound_by bounds least))
 
 -- ---- what is extracted
 
 module _ {I D : Type 0} (value : I → ℤ) (least greatest : ℤ) (turns : D → D → Type 0) (links : List (OverlayLink I D)) where
-  pub data_of : (shapes : List (List (List (DataVectorEdge I D)))) → All (All (All (IsOfLink value least greatest turns links))) shapes
-      → All (All (All (HasItsDatum value turns links))) shapes
+  pub data_of : (shapes : List (List (List (DataVectorEdge I D)))) → All (All (All (IsOfLink least greatest turns links))) shapes
+      → All (All (All (HasItsDatum turns links))) shapes
   data_of shapes h =
-      All-weaker (All (All (IsOfLink value least greatest turns links))) (All (All (HasItsDatum value turns links)))
-      (λ paths. All-weaker (All (IsOfLink value least greatest turns links)) (All (HasItsDatum value turns links))
-      (λ edges. All-weaker (IsOfLink value least greatest turns links) (HasItsDatum value turns links) (λ e of. of.1) edges) paths) shapes h
+      All-weaker (All (All (IsOfLink least greatest turns links))) (All (All (HasItsDatum turns links)))
+      (λ paths. All-weaker (All (IsOfLink least greatest turns links)) (All (HasItsDatum turns links))
+      (λ edges. All-weaker (IsOfLink least greatest turns links) (HasItsDatum turns links) (λ e of. of.1) edges) paths) shapes h
 
 -- the links of a graph bound a region
 pub graph_bounds : (rule : OverlayRule) (ls : List Link) → ((fill : FillRule) × (es : List (Entry Count)) × IsArrangement es × AreLinksFor fill rule es ls) → IsBoundary (borders_of_links rule ls)
@@ -211,13 +211,13 @@ graph_bounds rule ls (fill, es, arranged, are) = (fill, rule, es, arranged, link
 -- the vectors of the bound answer are the vector answer
 pub vectors_extracted :
     {I D : Type 0} (value : I → ℤ) (links : List (OverlayLink I D)) (o : Answering) (fill : FillRule) (rule : OverlayRule) (es : List (Entry Count))
-    (bound : List (List (List Point))) (whole : List (List (List (DataVectorEdge I D)))) → LinksRise value links →
-    AreLinksFor fill rule es (map (overlay_link_of value) links) → IsBoundary (borders_of_links rule (map (overlay_link_of value) links)) →
+    (bound : List (List (List Point))) (whole : List (List (List (DataVectorEdge I D)))) → LinksRise links →
+    AreLinksFor fill rule es (map overlay_link_of links) → IsBoundary (borders_of_links rule (map overlay_link_of links)) →
     bound ≡ answer_with (with_all_points o) (borders fill rule es) →
-    vectors_of value whole ≡ map (map (vector_contour (map (overlay_link_of value) links))) bound
-    → vectors_of value whole ≡ vector_answer o fill rule es
+    vectors_of whole ≡ map (map (vector_contour (map overlay_link_of links))) bound
+    → vectors_of whole ≡ vector_answer o fill rule es
 vectors_extracted value links o fill rule es bound whole rise are bounds is seen =
-    let ls = map (overlay_link_of value) links in
+    let ls = map overlay_link_of links in
     let runs = RunsAlong (map (λ (l : Border). l.edge) (borders fill rule es)) in
     let own : IsBoundary (borders fill rule es) = subst IsBoundary (links_tell fills_tell_borders fill rule es ls are) bounds in
     let along : All (All runs) bound = subst (All (All runs)) (sym is) (answer_along o.clockwise (borders fill rule es) own o.least) in
@@ -228,11 +228,11 @@ vectors_extracted value links o fill rule es bound whole rise are bounds is seen
 
 pub are_vector_shapes :
     {I D : Type 0} (value : I → ℤ) (least greatest : ℤ) (same : D → D → Bool) (turns : D → D → Type 0) (keep_all : Bool) (links : List (OverlayLink I D)) (o : Answering) (fill : FillRule) (rule : OverlayRule)
-    (es : List (Entry Count)) (bound : List (List (List Point))) (whole shapes : List (List (List (DataVectorEdge I D)))) → LinksRise value links →
-    AreLinksFor fill rule es (map (overlay_link_of value) links) → IsBoundary (borders_of_links rule (map (overlay_link_of value) links)) →
+    (es : List (Entry Count)) (bound : List (List (List Point))) (whole shapes : List (List (List (DataVectorEdge I D)))) → LinksRise links →
+    AreLinksFor fill rule es (map overlay_link_of links) → IsBoundary (borders_of_links rule (map overlay_link_of links)) →
     bound ≡ answer_with (with_all_points o) (borders fill rule es) →
-    vectors_of value whole ≡ map (map (vector_contour (map (overlay_link_of value) links))) bound →
-    All (All (All (IsOfLink value least greatest turns links))) whole → AreLeft value same keep_all whole shapes
+    vectors_of whole ≡ map (map (vector_contour (map overlay_link_of links))) bound →
+    All (All (All (IsOfLink least greatest turns links))) whole → AreLeft value same keep_all whole shapes
     → AreVectorShapes value same turns keep_all links (vector_answer o fill rule es) shapes
 are_vector_shapes value least greatest same turns keep_all links o fill rule es bound whole shapes rise are bounds is seen of_links left = record {
   whole = whole;

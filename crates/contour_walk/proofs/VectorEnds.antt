@@ -14,7 +14,7 @@ module _ {I D : Type 0} (value : I → ℤ) (same : D → D → Bool) (P : DataV
   abbrev E : Type 0
   E = DataVectorEdge I D
 
-  two_keep : {es fs : List E} → JoinsTwo value same es fs → All P es → All P fs
+  two_keep : {es fs : List E} → JoinsTwo same es fs → All P es → All P fs
   two_keep (inl r) h =
       let old : All P (r.front ++ (r.first ∷ r.second ∷ r.back)) = subst (All P) r.was h in
       let from_first = All-back P r.front (r.first ∷ r.second ∷ r.back) old in
@@ -73,9 +73,9 @@ module _ {I D : Type 0} (value : I → ℤ) (same : D → D → Bool) (P : DataV
 
 -- both ends of each edge of a link lie in the range
 module _ {I D : Type 0} (value : I → ℤ) (least greatest : ℤ) (turns : D → D → Type 0) (links : List (OverlayLink I D)) where
-  pub ends_of : (shapes : List (List (List (DataVectorEdge I D)))) → All (All (All (IsOfLink value least greatest turns links))) shapes
-      → All (All (All (IsVectorWithin value least greatest))) shapes
+  pub ends_of : (shapes : List (List (List (DataVectorEdge I D)))) → All (All (All (IsOfLink least greatest turns links))) shapes
+      → All (All (All (IsVectorWithin least greatest))) shapes
   ends_of shapes h =
-      All-weaker (All (All (IsOfLink value least greatest turns links))) (All (All (IsVectorWithin value least greatest)))
-      (λ paths. All-weaker (All (IsOfLink value least greatest turns links)) (All (IsVectorWithin value least greatest))
-      (λ edges. All-weaker (IsOfLink value least greatest turns links) (IsVectorWithin value least greatest) (λ e of. of.0) edges) paths) shapes h
+      All-weaker (All (All (IsOfLink least greatest turns links))) (All (All (IsVectorWithin least greatest)))
+      (λ paths. All-weaker (All (IsOfLink least greatest turns links)) (All (IsVectorWithin least greatest))
+      (λ edges. All-weaker (IsOfLink least greatest turns links) (IsVectorWithin least greatest) (λ e of. of.0) edges) paths) shapes h

@@ -10,7 +10,6 @@ use Rattle.std.proofs.lemmas.List.{length-map, get_or-map, get_or_default, map-a
 use Rattle.std.proofs.lemmas.List.Elements.{All-contains, All-push, Contains-get_or}
 use Rattle.plane_base.specs.Plane.{Point, Edge, is_before, edge_order}
 use Rattle.plane_base.specs.Segments.{IsEdgeWithin}
-use Rattle.plane_base.specs.Views.{point_of}
 use Rattle.plane_base.proofs.Facts.Thinning.Indexes.{taken_to}
 use Rattle.plane_base.proofs.Facts.Points.Orders.{edge_equal, edge_itself, edge_total}
 use Rattle.plane_base.proofs.Facts.Maps.Normal.{AllPairs-head, AllPairs-tail}
@@ -48,21 +47,21 @@ fill_is (m ∷ ms) rise l here =
     by false e (inr later) rest = rest later
 
 module _ {I D : Type 0} (value : I → ℤ) (links : List (OverlayLink I D)) where
-  pub edges_seen : (ls : List (OverlayLink I D)) → map (λ (l : Link). l.edge) (map (overlay_link_of value) ls) ≡ link_edges value ls
+  pub edges_seen : (ls : List (OverlayLink I D)) → map (λ (l : Link). l.edge) (map overlay_link_of ls) ≡ link_edges ls
   edges_seen [] = refl
-  edges_seen (l ∷ ls) = ap (λ (es : List Edge). link_edge_of value l ∷ es) (edges_seen ls)
+  edges_seen (l ∷ ls) = ap (λ (es : List Edge). link_edge_of l ∷ es) (edges_seen ls)
 
   -- ---- a link at a place
 
-  module _ (rise : LinksRise value links) (i : ℕ) (k : OverlayLink I D) (inside : i < length links) (at : k ≡ get_or links i k) where
+  module _ (rise : LinksRise links) (i : ℕ) (k : OverlayLink I D) (inside : i < length links) (at : k ≡ get_or links i k) where
     pub is_link : Contains links k
     is_link = subst (Contains links) (sym at) (Contains-get_or links i k inside)
 
-    pub fill_found : (s : Edge) → link_edge_of value k ≡ s → fill_along (map (overlay_link_of value) links) s ≡ k.fill
+    pub fill_found : (s : Edge) → link_edge_of k ≡ s → fill_along (map overlay_link_of links) s ≡ k.fill
     fill_found s e =
-        ap (fill_along (map (overlay_link_of value) links)) (sym e)
-        ∙ fill_is (map (overlay_link_of value) links) (subst (AllPairs (λ s t. edge_order s t ≡ Less)) (sym (edges_seen links)) rise) (overlay_link_of value k)
-        (Contains-map (overlay_link_of value) links k is_link)
+        ap (fill_along (map overlay_link_of links)) (sym e)
+        ∙ fill_is (map overlay_link_of links) (subst (AllPairs (λ s t. edge_order s t ≡ Less)) (sym (edges_seen links)) rise) (overlay_link_of k)
+        (Contains-map overlay_link_of links k is_link)
 
     -- ---- its vector
 
@@ -72,47 +71,47 @@ module _ {I D : Type 0} (value : I → ℤ) (links : List (OverlayLink I D)) whe
     between_back : (u v : Point) → is_before v u ≡ true → between u v ≡ record { a = v; b = u }
     between_back u v h = ap (λ t. cond {A = Edge} t (record { a = v; b = u }) (record { a = u; b = v })) h
 
-    pub forward : (u v : Point) → is_before v u ≡ false → link_edge_of value k ≡ record { a = u; b = v }
-        → vector_along (map (overlay_link_of value) links) (record { a = u; b = v }) ≡ record { way = record { a = u; b = v }; fill = k.fill }
+    pub forward : (u v : Point) → is_before v u ≡ false → link_edge_of k ≡ record { a = u; b = v }
+        → vector_along (map overlay_link_of links) (record { a = u; b = v }) ≡ record { way = record { a = u; b = v }; fill = k.fill }
     forward u v ahead e =
         ap₂ (λ (b : Bool) (n : ℕ). record { way = record { a = u; b = v }; fill = cond b (reversed_fill n) n }) ahead (fill_found (between u v) (e ∙ sym (between_ahead u v ahead)))
 
-    pub backward : (u v : Point) → is_before v u ≡ true → link_edge_of value k ≡ record { a = v; b = u }
-        → vector_along (map (overlay_link_of value) links) (record { a = u; b = v }) ≡ record { way = record { a = u; b = v }; fill = reversed_fill k.fill }
+    pub backward : (u v : Point) → is_before v u ≡ true → link_edge_of k ≡ record { a = v; b = u }
+        → vector_along (map overlay_link_of links) (record { a = u; b = v }) ≡ record { way = record { a = u; b = v }; fill = reversed_fill k.fill }
     backward u v back e =
         ap₂ (λ (b : Bool) (n : ℕ). record { way = record { a = u; b = v }; fill = cond b (reversed_fill n) n }) back (fill_found (between u v) (e ∙ sym (between_back u v back)))
 
-    pub forward_datum : (u v : Point) → is_before v u ≡ false → link_edge_of value k ≡ record { a = u; b = v } → link_edge_of value k ≡ between u v
+    pub forward_datum : (u v : Point) → is_before v u ≡ false → link_edge_of k ≡ record { a = u; b = v } → link_edge_of k ≡ between u v
     forward_datum u v ahead e = e ∙ sym (between_ahead u v ahead)
 
-    pub backward_datum : (u v : Point) → is_before v u ≡ true → link_edge_of value k ≡ record { a = v; b = u } → link_edge_of value k ≡ between u v
+    pub backward_datum : (u v : Point) → is_before v u ≡ true → link_edge_of k ≡ record { a = v; b = u } → link_edge_of k ≡ between u v
     backward_datum u v back e = e ∙ sym (between_back u v back)
 
-  pub linked_forward : (u v : Point) → is_before v u ≡ false → Contains (link_edges value links) (between u v) → Contains (link_edges value links) (record { a = u; b = v })
-  linked_forward u v ahead here = subst (Contains (link_edges value links)) (ap (λ t. cond {A = Edge} t (record { a = v; b = u }) (record { a = u; b = v })) ahead) here
+  pub linked_forward : (u v : Point) → is_before v u ≡ false → Contains (link_edges links) (between u v) → Contains (link_edges links) (record { a = u; b = v })
+  linked_forward u v ahead here = subst (Contains (link_edges links)) (ap (λ t. cond {A = Edge} t (record { a = v; b = u }) (record { a = u; b = v })) ahead) here
 
-  pub linked_back : (u v : Point) → is_before v u ≡ true → Contains (link_edges value links) (between u v) → Contains (link_edges value links) (record { a = v; b = u })
-  linked_back u v back here = subst (Contains (link_edges value links)) (ap (λ t. cond {A = Edge} t (record { a = v; b = u }) (record { a = u; b = v })) back) here
+  pub linked_back : (u v : Point) → is_before v u ≡ true → Contains (link_edges links) (between u v) → Contains (link_edges links) (record { a = v; b = u })
+  linked_back u v back here = subst (Contains (link_edges links)) (ap (λ t. cond {A = Edge} t (record { a = v; b = u }) (record { a = u; b = v })) back) here
 
-  pub link_within : (least greatest : ℤ) (i : ℕ) (k : OverlayLink I D) (s : Edge) → i < length links → k ≡ get_or links i k → link_edge_of value k ≡ s
-      → All (λ l. IsEdgeWithin least greatest (link_edge_of value l)) links → IsEdgeWithin least greatest s
-  link_within least greatest i k s inside at e all = subst (IsEdgeWithin least greatest) (ap (link_edge_of value) (sym at) ∙ e) (all i k inside)
+  pub link_within : (least greatest : ℤ) (i : ℕ) (k : OverlayLink I D) (s : Edge) → i < length links → k ≡ get_or links i k → link_edge_of k ≡ s
+      → All (λ l. IsEdgeWithin least greatest (link_edge_of l)) links → IsEdgeWithin least greatest s
+  link_within least greatest i k s inside at e all = subst (IsEdgeWithin least greatest) (ap link_edge_of (sym at) ∙ e) (all i k inside)
 
   -- the link at a place with these ends
-  pub along : (i : ℕ) (k l : OverlayLink I D) (u v : Point) → i < length links → k ≡ get_or links i k → same_point (point_of value k.a.point) u ≡ true
-      → same_point (point_of value k.b.point) v ≡ true → link_edge_of value (get_or links i l) ≡ record { a = u; b = v }
+  pub along : (i : ℕ) (k l : OverlayLink I D) (u v : Point) → i < length links → k ≡ get_or links i k → same_point k.a.point u ≡ true
+      → same_point k.b.point v ≡ true → link_edge_of (get_or links i l) ≡ record { a = u; b = v }
   along i k l u v inside at first second =
-      ap (link_edge_of value) (get_or_default links i l k inside ∙ sym at)
-      ∙ ap₂ (λ (p q : Point). record { a = p; b = q }) (same_point_is (point_of value k.a.point) u first) (same_point_is (point_of value k.b.point) v second)
+      ap link_edge_of (get_or_default links i l k inside ∙ sym at)
+      ∙ ap₂ (λ (p q : Point). record { a = p; b = q }) (same_point_is k.a.point u first) (same_point_is k.b.point v second)
 
   -- ---- a search
 
-  module _ (rise : LinksRise value links) (s : Edge) where
+  module _ (rise : LinksRise links) (s : Edge) where
     abbrev to : OverlayLink I D → Ordering
-    to l = edge_order (link_edge_of value l) s
+    to l = edge_order (link_edge_of l) s
 
-    edge_there : (i : ℕ) (d : OverlayLink I D) (e : Edge) → i < length links → get_or (link_edges value links) i e ≡ link_edge_of value (get_or links i d)
-    edge_there i d e inside = get_or-map (link_edge_of value) links i d e inside
+    edge_there : (i : ℕ) (d : OverlayLink I D) (e : Edge) → i < length links → get_or (link_edges links) i e ≡ link_edge_of (get_or links i d)
+    edge_there i d e inside = get_or-map link_edge_of links i d e inside
 
     in_order : (e f : Edge) → edge_order e f ≡ Less → ordering_index (edge_order e s) ≤ ordering_index (edge_order f s)
     in_order e f less = by (edge_order f s) refl
@@ -133,34 +132,34 @@ module _ {I D : Type 0} (value : I → ℤ) (links : List (OverlayLink I D)) whe
         by : (b : Bool) → nat_lt i j ≡ b → ordering_index (to (get_or links i d)) ≤ ordering_index (to (get_or links j d))
         by true h =
             let l : i < j = grind (arith, h) in
-            let long = length-map links (link_edge_of value) in
+            let long = length-map links link_edge_of in
             let less = rise i j s l (omega (arith, long, inside)) in
-            in_order (link_edge_of value (get_or links i d)) (link_edge_of value (get_or links j d))
+            in_order (link_edge_of (get_or links i d)) (link_edge_of (get_or links j d))
             (ap₂ edge_order (sym (edge_there i d s (omega (arith, l, inside)))) (sym (edge_there j d s inside)) ∙ less)
         by false h =
             let e : i ≡ j = grind (arith, h, before) in
             subst (λ n. ordering_index (to (get_or links i d)) ≤ ordering_index (to (get_or links n d))) e (omega arith)
 
     -- a link that is there is found
-    pub not_absent : Contains (link_edges value links) s → (i : ℕ) → IsPartitionPoint (λ l. edge_order (link_edge_of value l) s ≡ Less) (λ l. edge_order (link_edge_of value l) s ≡ Greater) links i → ⊥
+    pub not_absent : Contains (link_edges links) s → (i : ℕ) → IsPartitionPoint (λ l. edge_order (link_edge_of l) s ≡ Less) (λ l. edge_order (link_edge_of l) s ≡ Greater) links i → ⊥
     not_absent (k, inside, is) i parts = by (nat_lt k i) refl
       where
         here : k < length links
-        here = let long = length-map links (link_edge_of value) in omega (arith, long, inside)
+        here = let long = length-map links link_edge_of in omega (arith, long, inside)
 
         some_of : (ls : List (OverlayLink I D)) → k < length ls → OverlayLink I D
         some_of [] h = absurd (omega (arith, h))
         some_of (l ∷ ls) h = l
 
-        level : edge_order (link_edge_of value (get_or links k (some_of links here))) s ≡ Equal
+        level : edge_order (link_edge_of (get_or links k (some_of links here))) s ≡ Equal
         level = ap (λ e. edge_order e s) (sym (edge_there k (some_of links here) s here) ∙ is) ∙ edge_itself s
 
         by : (b : Bool) → nat_lt k i ≡ b → ⊥
         by true h = let before = parts.0 k (some_of links here) (omega arith) (grind (arith, h)) in let both = sym before ∙ level in cc
         by false h = let behind = parts.1 k (some_of links here) (grind (arith, h)) here in let both = sym behind ∙ level in cc
 
-    pub found : (i : ℕ) → ((d : OverlayLink I D) → edge_order (link_edge_of value (get_or links i d)) s ≡ Equal) → (l : OverlayLink I D) → link_edge_of value (get_or links i l) ≡ s
-    found i level l = edge_equal (link_edge_of value (get_or links i l)) s (level l)
+    pub found : (i : ℕ) → ((d : OverlayLink I D) → edge_order (link_edge_of (get_or links i d)) s ≡ Equal) → (l : OverlayLink I D) → link_edge_of (get_or links i l) ≡ s
+    found i level l = edge_equal (link_edge_of (get_or links i l)) s (level l)
 
 -- ---- lists that grow
 

@@ -1,5 +1,5 @@
 -- Groups of links with no point in common, and their contours: each group is answered as if it were alone.
-use Rattle.std.specs.Prelude.{◌≡◌, ℕ, Bool, true, ◌&&◌, List, [], ◌∷◌, filter, All, Any, Contains}
+use Rattle.std.specs.Prelude.{◌≡◌, Bool, true, ◌&&◌, List, [], ◌∷◌, filter, All, Any, Contains}
 use Rattle.plane_base.specs.Plane.{Point}
 use Rattle.plane_base.specs.Counts.{Count, Entry}
 use Rattle.plane_base.specs.Regions.{FillRule, OverlayRule}

@@ -1,13 +1,13 @@
 -- What private contracts say of edges in a row.
-use Rattle.std.specs.Prelude.{◌≡◌, ℕ, ◌+◌, ℤ, Bool, false, List, [], ◌∷◌, length}
+use Rattle.std.specs.Prelude.{◌≡◌, ℕ, ◌+◌, Bool, false, List, [], ◌∷◌, length}
 use Rattle.contour_walk.specs.declared.vector.edge.DataVectorEdge.{DataVectorEdge}
 use Rattle.contour_walk.specs.Simplified.{can_join}
 
 -- no edge of the list can be joined to the next
-abbrev pub NoneInRow : {I D : Type 0} → (I → ℤ) → (D → D → Bool) → List (DataVectorEdge I D) → Type 0
-NoneInRow value same [] = Unit
-NoneInRow value same (e ∷ []) = Unit
-NoneInRow value same (e ∷ f ∷ rest) = (can_join value same e f ≡ false) × NoneInRow value same (f ∷ rest)
+abbrev pub NoneInRow : {I D : Type 0} → (D → D → Bool) → List (DataVectorEdge I D) → Type 0
+NoneInRow same [] = Unit
+NoneInRow same (e ∷ []) = Unit
+NoneInRow same (e ∷ f ∷ rest) = (can_join same e f ≡ false) × NoneInRow same (f ∷ rest)
 
 -- how many edges there are in all paths
 abbrev pub many_edges : {E : Type 0} → List (List E) → ℕ

@@ -1,5 +1,5 @@
 -- What private contracts say of shapes that are looked at one after another.
-use Rattle.std.specs.Prelude.{ℕ, Bool, cond, List, [], ◌∷◌}
+use Rattle.std.specs.Prelude.{ℕ, cond, List, [], ◌∷◌}
 use Rattle.plane_base.specs.Plane.{Point}
 use Rattle.contour_walk.specs.Least.{outline_reaches, shape_reaching, holes_reaching}
 

@@ -1,7 +1,6 @@
 -- The links round a node in their order, with ways over those that are passed.
-use Rattle.std.specs.Prelude.{◌≡◌, ◌⊎◌, ℕ, ◌+◌, ◌-◌, ◌<◌, ◌≤◌, ◌==◌, ℤ, pos, ◌<ℤ◌, Bool, true, false, cond, List, ◌++◌, map, length, slice_index_or, All, AllPairs, IsPermutation}
+use Rattle.std.specs.Prelude.{◌≡◌, ◌⊎◌, ℕ, ◌+◌, ◌-◌, ◌<◌, ◌≤◌, ◌==◌, pos, ◌<ℤ◌, Bool, true, false, cond, List, ◌++◌, map, length, slice_index_or, All, AllPairs, IsPermutation}
 use Rattle.plane_base.specs.Plane.{Point, Edge, turn}
-use Rattle.plane_base.specs.Views.{point_of}
 use Rattle.segment_arrangement.specs.declared.graph.VisitState.{VisitState}
 use Rattle.segment_arrangement.specs.declared.graph.VisitState.TheVariants.{Skipped}
 use Rattle.contour_walk.specs.declared.walk.spoke.Spoke.{Spoke}
@@ -52,8 +51,8 @@ pub record IsNextPlace {I : Type 0} (clockwise : Bool) (states : List VisitState
 
 -- ---- rings
 
-abbrev pub numbered_spokes : {I : Type 0} → (I → ℤ) → List (Spoke I) → List Numbered
-numbered_spokes value spokes = map (λ s. numbered value s.far s.place) spokes
+abbrev pub numbered_spokes : {I : Type 0} → List (Spoke I) → List Numbered
+numbered_spokes spokes = map (λ s. numbered s.far s.place) spokes
 
 -- each lies to the left of those before it, seen from v
 abbrev pub AreToLeft : Point → List Numbered → Type 0
@@ -61,10 +60,10 @@ AreToLeft v ns = AllPairs (λ n m. pos 0 <ℤ turn v n.point m.point) ns
 
 -- These are the links of the node at v that are left, in the order in which they are met on turning counterclockwise from straight down: so many
 -- that start there, then those that end there.
-pub record AreRound {I : Type 0} (value : I → ℤ) (edges : List Edge) (states : List VisitState) (v : Point) (spokes : List (Spoke I)) (first : ℕ) : Type 0 where
+pub record AreRound {I : Type 0} (edges : List Edge) (states : List VisitState) (v : Point) (spokes : List (Spoke I)) (first : ℕ) : Type 0 where
   pub starts : List Numbered
   pub ends : List Numbered
-  pub parts : numbered_spokes value spokes ≡ starts ++ ends
+  pub parts : numbered_spokes spokes ≡ starts ++ ends
   pub as_many : length starts ≡ first
   pub all_starts : IsPermutation (spokes_from 0 true v edges states) starts
   pub all_ends : IsPermutation (spokes_from 0 false v edges states) ends
@@ -76,20 +75,20 @@ abbrev pub place_after : Bool → ℕ → ℕ → ℕ
 place_after clockwise n i = cond clockwise (cond (i == 0) (n - 1) (i - 1)) (cond (i + 1 == n) 0 (i + 1))
 
 -- The ring of a node: the links that were left there when it was made, in order. The ways lead over passed ones.
-pub record IsRing {I : Type 0} (value : I → ℤ) (edges : List Edge) (states : List VisitState) (r : Ring I) : Type 0 where
+pub record IsRing {I : Type 0} (edges : List Edge) (states : List VisitState) (r : Ring I) : Type 0 where
   pub older : List VisitState
   pub beside : length older ≡ length edges
   pub since : StayPassed older states
-  pub round : AreRound value edges older (point_of value r.center) r.spokes.items r.starts
+  pub round : AreRound edges older r.center r.spokes.items r.starts
   pub inside : All (λ s. s.place < length edges) r.spokes.items
   pub ahead : LeadAhead (length r.spokes.items) (IsPassed states r.spokes.items) r.ahead.items
   pub back : LeadBack (length r.spokes.items) (IsPassed states r.spokes.items) r.back.items
 
-abbrev pub AreRings : {I : Type 0} → (I → ℤ) → List Edge → List VisitState → List (Ring I) → Type 0
-AreRings value edges states rings = All (IsRing value edges states) rings
+abbrev pub AreRings : {I : Type 0} → List Edge → List VisitState → List (Ring I) → Type 0
+AreRings edges states rings = All (IsRing edges states) rings
 
 -- A walk came to the ring's node from a point by the link at this place, and has passed it.
-pub record IsCameBy {I : Type 0} (value : I → ℤ) (states : List VisitState) (from : Point) (r : Ring I) (place : ℕ) : Type 0 where
+pub record IsCameBy {I : Type 0} (states : List VisitState) (from : Point) (r : Ring I) (place : ℕ) : Type 0 where
   pub inside : place < length r.spokes.items
-  pub far : (d : Spoke I) → point_of value (slice_index_or r.spokes.items place d).far ≡ from
+  pub far : (d : Spoke I) → (slice_index_or r.spokes.items place d).far ≡ from
   pub passed : IsPassed states r.spokes.items place

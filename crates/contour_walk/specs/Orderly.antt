@@ -1,5 +1,5 @@
 -- Answers in order: each link once, least points in their places, shapes by least points, and nothing gone but what is passed straight.
-use Rattle.std.specs.Prelude.{◌≡◌, Bool, true, false, cond, List, [], ◌∷◌, map, All, AllPairs, Some, slice_index_or}
+use Rattle.std.specs.Prelude.{◌≡◌, Bool, true, false, cond, List, ◌∷◌, map, All, AllPairs, Some, slice_index_or}
 use Rattle.plane_base.specs.Plane.{Point, is_before}
 use Rattle.plane_base.specs.Counts.{Count, Entry}
 use Rattle.plane_base.specs.Regions.{FillRule, OverlayRule}

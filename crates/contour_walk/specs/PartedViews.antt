@@ -1,5 +1,5 @@
 -- What private contracts say of loops that are made contours.
-use Rattle.std.specs.Prelude.{◌≡◌, ℕ, ◌≤◌, pos, int_lt, Bool, not, cond, List, [], ◌∷◌, ◌++◌, length, All, Contains, Option, Some, None, slice_get}
+use Rattle.std.specs.Prelude.{◌≡◌, ℕ, ◌≤◌, pos, int_lt, Bool, not, cond, List, [], ◌∷◌, ◌++◌, length, All, Option, Some, slice_get}
 use Rattle.plane_base.specs.Plane.{Point, Edge, turn, is_before}
 use Rattle.contour_walk.specs.Walks.{Border, Contour, between}
 use Rattle.contour_walk.specs.WalkLaws.{contour_steps, least_place}

@@ -3,10 +3,7 @@ use Rattle.std.specs.Prelude.{ℕ, zero, suc, ℤ, pos, Bool, true, false, not, 
 use Rattle.std.specs.Ordering.{int_eq}
 use Rattle.plane_base.specs.Plane.{Point, Edge, IsWithin, turn}
 use Rattle.plane_base.specs.Segments.{IsEdgeWithin}
-use Rattle.plane_base.specs.Views.{points_of}
-use Rattle.plane_base.specs.SegmentViews.{edge_of}
 use Rattle.plane_base.specs.GivenViews.{contours_of}
-use Rattle.plane_base.specs.declared.segment.XSegment.{XSegment}
 use Rattle.plane_base.specs.Flat.{AreRangesOf, AreLaid, parts}
 use Rattle.plane_base.specs.declared.flat.FlatContoursBuffer.{FlatContoursBuffer}
 use Rattle.plane_base.specs.declared.path.IntShape.{IntShape}
@@ -20,15 +17,15 @@ use Rattle.contour_walk.specs.declared.bind.ray.OwnedEdge.{OwnedEdge}
 
 -- ---- contours
 
-abbrev pub contour_of : {I : Type 0} → (I → ℤ) → HeldContour I → Contour
-contour_of value c = record { points = points_of value c.points.items; is_hole = c.is_hole }
+abbrev pub contour_of : {I : Type 0} → HeldContour I → Contour
+contour_of c = record { points = c.points.items; is_hole = c.is_hole }
 
-abbrev pub walks_of : {I : Type 0} → (I → ℤ) → List (HeldContour I) → List Contour
-walks_of value cs = map (contour_of value) cs
+abbrev pub walks_of : {I : Type 0} → List (HeldContour I) → List Contour
+walks_of cs = map contour_of cs
 
-abbrev pub contour_if_any : {I : Type 0} → (I → ℤ) → Option (HeldContour I) → Option Contour
-contour_if_any value None = None
-contour_if_any value (Some c) = Some (contour_of value c)
+abbrev pub contour_if_any : {I : Type 0} → Option (HeldContour I) → Option Contour
+contour_if_any None = None
+contour_if_any (Some c) = Some (contour_of c)
 
 -- all coordinates of the contours lie in the range
 abbrev pub ContoursAreWithin : ℤ → ℤ → List Contour → Type 0
@@ -38,12 +35,12 @@ ContoursAreWithin least greatest cs = All (λ c. All (IsWithin least greatest) c
 abbrev pub ShapesAreWithin : ℤ → ℤ → List (List (List Point)) → Type 0
 ShapesAreWithin least greatest shapes = All (All (All (IsWithin least greatest))) shapes
 
-abbrev pub edges_of : {I : Type 0} → (I → ℤ) → List (XSegment I) → List Edge
-edges_of value es = map (edge_of value) es
+abbrev pub edges_of : List Edge → List Edge
+edges_of es = es
 
-abbrev pub edge_if_any : {I : Type 0} → (I → ℤ) → Option (XSegment I) → Option Edge
-edge_if_any value None = None
-edge_if_any value (Some s) = Some (edge_of value s)
+abbrev pub edge_if_any : Option Edge → Option Edge
+edge_if_any None = None
+edge_if_any (Some s) = Some s
 
 -- what comes next: the first of the rest, or else the contour's first point
 abbrev pub next_of : Point → List Point → Point
@@ -61,15 +58,15 @@ first_walk output (l ∷ ls) =
 
 -- ---- binding
 
-abbrev pub owned_of : {I : Type 0} → (I → ℤ) → OwnedEdge I → Owned
-owned_of value o = record { edge = edge_of value o.edge; above = o.above; contour = o.contour }
+abbrev pub owned_of : {I : Type 0} → OwnedEdge I → Owned
+owned_of o = record { edge = o.edge; above = o.above; contour = o.contour }
 
-abbrev pub owned_edges_of : {I : Type 0} → (I → ℤ) → List (OwnedEdge I) → List Owned
-owned_edges_of value os = map (owned_of value) os
+abbrev pub owned_edges_of : {I : Type 0} → List (OwnedEdge I) → List Owned
+owned_edges_of os = map owned_of os
 
-abbrev pub owned_if_any : {I : Type 0} → (I → ℤ) → Option (OwnedEdge I) → Option Owned
-owned_if_any value None = None
-owned_if_any value (Some o) = Some (owned_of value o)
+abbrev pub owned_if_any : {I : Type 0} → Option (OwnedEdge I) → Option Owned
+owned_if_any None = None
+owned_if_any (Some o) = Some (owned_of o)
 
 -- all coordinates of the edges lie in the range
 abbrev pub OwnedAreWithin : ℤ → ℤ → List Owned → Type 0
@@ -114,8 +111,8 @@ owners_from links contours n (c ∷ cs) = hole_owner links contours (length cont
 
 -- ---- shapes
 
-abbrev pub shapes_of : {I : Type 0} → (I → ℤ) → List (IntShape I) → List (List (List Point))
-shapes_of value shapes = map (λ s. contours_of value s.contours.items) shapes
+abbrev pub shapes_of : {I : Type 0} → List (IntShape I) → List (List (List Point))
+shapes_of shapes = map (λ s. contours_of s.contours.items) shapes
 
 abbrev pub is_clockwise : ContourDirection → Bool
 is_clockwise CounterClockwise = false
@@ -143,17 +140,17 @@ shape_of links contours n =
     ]
 
 -- the contours that a flat buffer holds
-abbrev pub flat_of : {I : Type 0} → (I → ℤ) → FlatContoursBuffer I → List (List Point)
-flat_of value buffer = parts (points_of value buffer.points.items) buffer.ranges.items
+abbrev pub flat_of : {I : Type 0} → FlatContoursBuffer I → List (List Point)
+flat_of buffer = parts buffer.points.items buffer.ranges.items
 
 -- Each range of a flat buffer lies in its list of points.
 abbrev pub IsFlat : {I : Type 0} → FlatContoursBuffer I → Type 0
 IsFlat buffer = AreRangesOf (length buffer.points.items) buffer.ranges.items
 
 -- The buffer has these contours one after another, and nothing else in its list of points, and a range for each.
-abbrev pub IsLaidFlat : {I : Type 0} → (I → ℤ) → List (List Point) → FlatContoursBuffer I → Type 0
-IsLaidFlat value contours buffer = AreLaid contours (points_of value buffer.points.items) buffer.ranges.items
+abbrev pub IsLaidFlat : {I : Type 0} → List (List Point) → FlatContoursBuffer I → Type 0
+IsLaidFlat contours buffer = AreLaid contours buffer.points.items buffer.ranges.items
 
 -- These contours were laid behind those of the old buffer.
-abbrev pub LaysBehind : {I : Type 0} → (I → ℤ) → List (List Point) → FlatContoursBuffer I → FlatContoursBuffer I → Type 0
-LaysBehind value contours old new = (before : List (List Point)) → IsLaidFlat value before old → IsLaidFlat value (before ++ contours) new
+abbrev pub LaysBehind : {I : Type 0} → List (List Point) → FlatContoursBuffer I → FlatContoursBuffer I → Type 0
+LaysBehind contours old new = (before : List (List Point)) → IsLaidFlat before old → IsLaidFlat (before ++ contours) new

@@ -3,20 +3,19 @@ use Rattle.std.specs.Prelude.{◌⊎◌, ◌≡◌, ◌↔◌, ◌≢◌, ◌<�
 use Rattle.std.specs.Prelude.{List, [], ◌∷◌, ◌++◌, map, filter, length}
 use Rattle.std.specs.Ordering.{int_eq}
 use Rattle.plane_base.specs.Plane.{IsWithin}
-use Rattle.plane_base.specs.Views.{point_of}
 use Rattle.contour_walk.specs.declared.vector.edge.DataVectorEdge.{DataVectorEdge}
 use Rattle.contour_walk.specs.declared.vector.edge.DataVectorPath.{DataVectorPath}
 
 -- ---- two edges
 
 -- The cross product of the ways of two edges: 0 where both run on parallel lines, forth or back, and where one has no length.
-abbrev pub ways_cross : {I D : Type 0} → (I → ℤ) → DataVectorEdge I D → DataVectorEdge I D → ℤ
-ways_cross value e f =
-    ((value e.b.x -ℤ value e.a.x) *ℤ (value f.b.y -ℤ value f.a.y)) -ℤ ((value e.b.y -ℤ value e.a.y) *ℤ (value f.b.x -ℤ value f.a.x))
+abbrev pub ways_cross : {I D : Type 0} → DataVectorEdge I D → DataVectorEdge I D → ℤ
+ways_cross e f =
+    ((e.b.x -ℤ e.a.x) *ℤ (f.b.y -ℤ f.a.y)) -ℤ ((e.b.y -ℤ e.a.y) *ℤ (f.b.x -ℤ f.a.x))
 
 -- Two edges, the second where the first ends, can be joined: both run on one line, the same is filled beside them, and their data are equal.
-abbrev pub can_join : {I D : Type 0} → (I → ℤ) → (D → D → Bool) → DataVectorEdge I D → DataVectorEdge I D → Bool
-can_join value same e f = (int_eq (ways_cross value e f) (pos 0) && e.fill == f.fill) && same e.datum f.datum
+abbrev pub can_join : {I D : Type 0} → (D → D → Bool) → DataVectorEdge I D → DataVectorEdge I D → Bool
+can_join same e f = (int_eq (ways_cross e f) (pos 0) && e.fill == f.fill) && same e.datum f.datum
 
 -- the edge from the start of the first to the end of the second, with the fill and the datum of the second
 abbrev pub joined_edge : {I D : Type 0} → DataVectorEdge I D → DataVectorEdge I D → DataVectorEdge I D
@@ -25,35 +24,35 @@ joined_edge e f = record { a = e.a; b = f.b; fill = f.fill; datum = f.datum }
 -- ---- paths
 
 -- two neighbours become one, which keeps the second's end and stands in its place
-pub record JoinsInRow {I D : Type 0} (value : I → ℤ) (same : D → D → Bool) (old new : List (DataVectorEdge I D)) : Type 0 where
+pub record JoinsInRow {I D : Type 0} (same : D → D → Bool) (old new : List (DataVectorEdge I D)) : Type 0 where
   pub front : List (DataVectorEdge I D)
   pub first : DataVectorEdge I D
   pub second : DataVectorEdge I D
   pub back : List (DataVectorEdge I D)
   pub was : old ≡ front ++ (first ∷ second ∷ back)
-  pub can : can_join value same first second ≡ true
+  pub can : can_join same first second ≡ true
   pub is : new ≡ front ++ (joined_edge first second ∷ back)
 
 -- so do the last edge and the first, which follows it
-pub record JoinsRound {I D : Type 0} (value : I → ℤ) (same : D → D → Bool) (old new : List (DataVectorEdge I D)) : Type 0 where
+pub record JoinsRound {I D : Type 0} (same : D → D → Bool) (old new : List (DataVectorEdge I D)) : Type 0 where
   pub first : DataVectorEdge I D
   pub others : List (DataVectorEdge I D)
   pub last : DataVectorEdge I D
   pub was : old ≡ first ∷ (others ++ last ∷ [])
-  pub can : can_join value same last first ≡ true
+  pub can : can_join same last first ≡ true
   pub is : new ≡ joined_edge last first ∷ others
 
-abbrev pub JoinsTwo : {I D : Type 0} → (I → ℤ) → (D → D → Bool) → List (DataVectorEdge I D) → List (DataVectorEdge I D) → Type 0
-JoinsTwo value same old new = JoinsInRow value same old new ⊎ JoinsRound value same old new
+abbrev pub JoinsTwo : {I D : Type 0} → (D → D → Bool) → List (DataVectorEdge I D) → List (DataVectorEdge I D) → Type 0
+JoinsTwo same old new = JoinsInRow same old new ⊎ JoinsRound same old new
 
 -- such joins, one after another, lead from the first list to the second
 pub data Joins {I D : Type 0} (value : I → ℤ) (same : D → D → Bool) : List (DataVectorEdge I D) → List (DataVectorEdge I D) → Type 0 where
   no_join : {es : List (DataVectorEdge I D)} → Joins value same es es
-  one_join : {es fs gs : List (DataVectorEdge I D)} → JoinsTwo value same es fs → Joins value same fs gs → Joins value same es gs
+  one_join : {es fs gs : List (DataVectorEdge I D)} → JoinsTwo same es fs → Joins value same fs gs → Joins value same es gs
 
 -- no two neighbours can be joined
-abbrev pub NoneJoin : {I D : Type 0} → (I → ℤ) → (D → D → Bool) → List (DataVectorEdge I D) → Type 0
-NoneJoin value same es = (fs : List _) → JoinsTwo value same es fs → ⊥
+abbrev pub NoneJoin : {I D : Type 0} → (D → D → Bool) → List (DataVectorEdge I D) → Type 0
+NoneJoin same es = (fs : List _) → JoinsTwo same es fs → ⊥
 
 -- the list that begins with the second edge: the first is the last
 abbrev pub first_as_last : {E : Type 0} → List E → List E
@@ -68,10 +67,10 @@ pub data IsSimplified {I D : Type 0} (value : I → ℤ) (same : D → D → Boo
       {es fs : List (DataVectorEdge I D)} → 0 < length es → Joins value same es fs → length fs < 3
       → IsSimplified value same es [] true
   unchanged :
-      {es : List (DataVectorEdge I D)} → 3 ≤ length es → NoneJoin value same es
+      {es : List (DataVectorEdge I D)} → 3 ≤ length es → NoneJoin same es
       → IsSimplified value same es es false
   some_joined :
-      {es ds fs : List (DataVectorEdge I D)} → JoinsTwo value same es ds → Joins value same ds fs → 3 ≤ length fs → NoneJoin value same fs
+      {es ds fs : List (DataVectorEdge I D)} → JoinsTwo same es ds → Joins value same ds fs → 3 ≤ length fs → NoneJoin same fs
       → IsSimplified value same es (first_as_last fs) true
 
 -- ---- shapes
@@ -113,5 +112,5 @@ abbrev pub edges_of_paths : {I D : Type 0} → List (DataVectorPath I D) → Lis
 edges_of_paths paths = map (λ p. p.edges.items) paths
 
 -- both ends lie in the range
-abbrev pub IsVectorWithin : {I D : Type 0} → (I → ℤ) → ℤ → ℤ → DataVectorEdge I D → Type 0
-IsVectorWithin value least greatest e = IsWithin least greatest (point_of value e.a) × IsWithin least greatest (point_of value e.b)
+abbrev pub IsVectorWithin : {I D : Type 0} → ℤ → ℤ → DataVectorEdge I D → Type 0
+IsVectorWithin least greatest e = IsWithin least greatest e.a × IsWithin least greatest e.b

@@ -11,17 +11,17 @@ use Rattle.contour_walk.specs.Vectors.{HasItsDatum}
 use Rattle.contour_walk.specs.declared.vector.edge.DataVectorEdge.{DataVectorEdge}
 
 -- the links rise
-abbrev pub LinksRise : {I D : Type 0} → (I → ℤ) → List (OverlayLink I D) → Type 0
-LinksRise value links = AllPairs (λ s t. edge_order s t ≡ Less) (link_edges value links)
+abbrev pub LinksRise : {I D : Type 0} → List (OverlayLink I D) → Type 0
+LinksRise links = AllPairs (λ s t. edge_order s t ≡ Less) (link_edges links)
 
 -- there is a link along the step
-abbrev pub IsLinked : {I D : Type 0} → (I → ℤ) → List (OverlayLink I D) → Edge → Type 0
-IsLinked value links s = Contains (link_edges value links) (between s.a s.b)
+abbrev pub IsLinked : {I D : Type 0} → List (OverlayLink I D) → Edge → Type 0
+IsLinked links s = Contains (link_edges links) (between s.a s.b)
 
 -- there are links along all steps of the contour
-abbrev pub AreLinked : {I D : Type 0} → (I → ℤ) → List (OverlayLink I D) → List Point → Type 0
-AreLinked value links points = All (IsLinked value links) (contour_steps points)
+abbrev pub AreLinked : {I D : Type 0} → List (OverlayLink I D) → List Point → Type 0
+AreLinked links points = All (IsLinked links) (contour_steps points)
 
 -- the edge lies in the range, and has its link's datum
-abbrev pub IsOfLink : {I D : Type 0} → (I → ℤ) → ℤ → ℤ → (D → D → Type 0) → List (OverlayLink I D) → DataVectorEdge I D → Type 0
-IsOfLink value least greatest turns links e = IsVectorWithin value least greatest e × HasItsDatum value turns links e
+abbrev pub IsOfLink : {I D : Type 0} → ℤ → ℤ → (D → D → Type 0) → List (OverlayLink I D) → DataVectorEdge I D → Type 0
+IsOfLink least greatest turns links e = IsVectorWithin least greatest e × HasItsDatum turns links e

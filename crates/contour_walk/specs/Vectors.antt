@@ -3,7 +3,6 @@ use Rattle.std.specs.Prelude.{◌≡◌, ℕ, ◌+◌, ℤ, Bool, true, false, c
 use Rattle.plane_base.specs.Plane.{Point, Edge, is_before}
 use Rattle.plane_base.specs.Counts.{Count, Entry}
 use Rattle.plane_base.specs.Regions.{FillRule, OverlayRule}
-use Rattle.plane_base.specs.Views.{point_of}
 use Rattle.segment_split.specs.Data.{HasDatum}
 use Rattle.segment_arrangement.specs.EdgeSides.{bit}
 use Rattle.segment_arrangement.specs.Fills.{has}
@@ -59,20 +58,20 @@ vector_answer o fill rule es = map (map (vector_contour (boundary_links fill rul
 -- ---- what contracts see of shapes with data
 
 -- an edge without its datum
-abbrev pub vector_of : {I D : Type 0} → (I → ℤ) → DataVectorEdge I D → VectorEdge
-vector_of value e = record { way = record { a = point_of value e.a; b = point_of value e.b }; fill = e.fill }
+abbrev pub vector_of : {I D : Type 0} → DataVectorEdge I D → VectorEdge
+vector_of e = record { way = record { a = e.a; b = e.b }; fill = e.fill }
 
-abbrev pub vectors_of : {I D : Type 0} → (I → ℤ) → List (List (List (DataVectorEdge I D))) → List (List (List VectorEdge))
-vectors_of value shapes = map (map (map (vector_of value))) shapes
+abbrev pub vectors_of : {I D : Type 0} → List (List (List (DataVectorEdge I D))) → List (List (List VectorEdge))
+vectors_of shapes = map (map (map vector_of)) shapes
 
 abbrev pub edges_of_shapes : {I D : Type 0} → List (DataVectorShape I D) → List (List (List (DataVectorEdge I D)))
 edges_of_shapes shapes = map (λ s. edges_of_paths s.paths.items) shapes
 
 -- there is a link along the edge, whose datum it has
-abbrev pub HasItsDatum : {I D : Type 0} → (I → ℤ) → (D → D → Type 0) → List (OverlayLink I D) → DataVectorEdge I D → Type 0
-HasItsDatum value turns links e =
-    (l : OverlayLink _ _) × Contains links l × (link_edge_of value l ≡ between (point_of value e.a) (point_of value e.b))
-    × HasDatum turns (point_of value e.a) (point_of value e.b) l.datum e.datum
+abbrev pub HasItsDatum : {I D : Type 0} → (D → D → Type 0) → List (OverlayLink I D) → DataVectorEdge I D → Type 0
+HasItsDatum turns links e =
+    (l : OverlayLink _ _) × Contains links l × (link_edge_of l ≡ between e.a e.b)
+    × HasDatum turns e.a e.b l.datum e.datum
 
 -- all of the shapes, or what simplification leaves of them: a shape that goes is left out
 abbrev pub AreLeft : {I D : Type 0} → (I → ℤ) → (D → D → Bool) → Bool → List (List (List (DataVectorEdge I D)))
@@ -85,6 +84,6 @@ AreLeft value same false whole shapes = (simplified : List _) × AreSimplifiedSh
 pub record AreVectorShapes {I D : Type 0} (value : I → ℤ) (same : D → D → Bool) (turns : D → D → Type 0) (keep_all : Bool)
     (links : List (OverlayLink I D)) (vectors : List (List (List VectorEdge))) (shapes : List (List (List (DataVectorEdge I D)))) : Type 0 where
   pub whole : List (List (List (DataVectorEdge I D)))
-  pub geometry : vectors_of value whole ≡ vectors
-  pub of_links : All (All (All (HasItsDatum value turns links))) whole
+  pub geometry : vectors_of whole ≡ vectors
+  pub of_links : All (All (All (HasItsDatum turns links))) whole
   pub left : AreLeft value same keep_all whole shapes

@@ -2,9 +2,6 @@
 use Rattle.std.specs.Prelude.{ℕ, ℤ, Bool, cond, List, map, Option, Some, None, All}
 use Rattle.plane_base.specs.Plane.{Point}
 use Rattle.plane_base.specs.Segments.{IsEdgeWithin}
-use Rattle.plane_base.specs.Views.{point_of}
-use Rattle.plane_base.specs.SegmentViews.{edge_of}
-use Rattle.plane_base.specs.declared.point.IntPoint.{IntPoint}
 use Rattle.contour_walk.specs.Turning.{met_first}
 use Rattle.contour_walk.specs.Walks.{Border, same_point, touches, far_end, upper}
 use Rattle.contour_walk.specs.declared.turning.Turned.{Turned}
@@ -17,21 +14,21 @@ turned_number Half = 2
 turned_number MoreThanHalf = 3
 turned_number Whole = 4
 
-abbrev pub point_if_any : {I : Type 0} → (I → ℤ) → Option (IntPoint I) → Option Point
-point_if_any value None = None
-point_if_any value (Some p) = Some (point_of value p)
+abbrev pub point_if_any : Option Point → Option Point
+point_if_any None = None
+point_if_any (Some p) = Some p
 
 -- ---- links
 
-abbrev pub border_of : {I : Type 0} → (I → ℤ) → HeldBorder I → Border
-border_of value l = record { edge = edge_of value l.edge; above = l.above }
+abbrev pub border_of : {I : Type 0} → HeldBorder I → Border
+border_of l = record { edge = l.edge; above = l.above }
 
-abbrev pub borders_of : {I : Type 0} → (I → ℤ) → List (HeldBorder I) → List Border
-borders_of value ls = map (border_of value) ls
+abbrev pub borders_of : {I : Type 0} → List (HeldBorder I) → List Border
+borders_of ls = map border_of ls
 
-abbrev pub border_if_any : {I : Type 0} → (I → ℤ) → Option (HeldBorder I) → Option Border
-border_if_any value None = None
-border_if_any value (Some l) = Some (border_of value l)
+abbrev pub border_if_any : {I : Type 0} → Option (HeldBorder I) → Option Border
+border_if_any None = None
+border_if_any (Some l) = Some (border_of l)
 
 -- all coordinates of the links lie in the range
 abbrev pub AreWithin : ℤ → ℤ → List Border → Type 0

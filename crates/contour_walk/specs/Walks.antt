@@ -1,7 +1,6 @@
 -- Walks along the boundary of a region, until each of its links is passed.
-use Rattle.std.specs.Prelude.{ℕ, zero, suc, Bool, true, not, ◌&&◌, ◌||◌, cond, pos, int_lt, List, [], ◌∷◌, map, filter, length, Option, Some, None}
-use Rattle.std.specs.Ordering.{is_eq}
-use Rattle.plane_base.specs.Plane.{Point, Edge, turn, is_before, point_order}
+use Rattle.std.specs.Prelude.{ℕ, zero, suc, Bool, true, not, ◌||◌, cond, pos, int_lt, List, [], ◌∷◌, map, filter, length, Option, Some, None}
+use Rattle.plane_base.specs.Plane.{Point, Edge, turn, is_before}
 pub use Rattle.plane_base.specs.Segments.{same_point, same_edge}
 use Rattle.contour_walk.specs.Turning.{first_by_turn}
 

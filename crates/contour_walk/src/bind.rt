@@ -50,11 +50,11 @@ pub(crate) fn bind_shapes<I: OverlayInt, D>(
     links: &[OverlayLink<I, D>],
     contours: &mut [Contour<I>],
 ) -> Result<IntShapes<I>, Fault>
-    requires in_range { ContoursAreWithin I.least I.greatest (walks_of I.value contours.old) }
-    requires links_in_range { All (λ l. IsEdgeWithin I.least I.greatest (link_edge_of I.value l)) links.now }
-    requires along { RunAlong output (graph_borders I.value (overlay_rule_of rule) links.now) (walks_of I.value contours.old) }
-    ensures is { IfOk result (λ shapes. shapes_of I.value shapes.shapes.items ≡ map (map (finished keep_all))
-        (shapes_from (graph_borders I.value (overlay_rule_of rule) links.now) (walks_of I.value contours.old) 0 (walks_of I.value contours.old))) }
+    requires in_range { ContoursAreWithin I.least I.greatest (walks_of contours.old) }
+    requires links_in_range { All (λ l. IsEdgeWithin I.least I.greatest (link_edge_of l)) links.now }
+    requires along { RunAlong output (graph_borders (overlay_rule_of rule) links.now) (walks_of contours.old) }
+    ensures is { IfOk result (λ shapes. shapes_of shapes.shapes.items ≡ map (map (finished keep_all))
+        (shapes_from (graph_borders (overlay_rule_of rule) links.now) (walks_of contours.old) 0 (walks_of contours.old))) }
     ensures memory { IsOkUnless result Fault.Memory }
 {
     let owners = owners_of_holes(alloc, output, rule, links, contours)?;
@@ -69,11 +69,11 @@ fn owners_of_holes<I: OverlayInt, D>(
     links: &[OverlayLink<I, D>],
     contours: &[Contour<I>],
 ) -> Result<Vec<Option<usize>>, Fault>
-    requires in_range { ContoursAreWithin I.least I.greatest (walks_of I.value contours.now) }
-    requires links_in_range { All (λ l. IsEdgeWithin I.least I.greatest (link_edge_of I.value l)) links.now }
-    requires along { RunAlong output (graph_borders I.value (overlay_rule_of rule) links.now) (walks_of I.value contours.now) }
+    requires in_range { ContoursAreWithin I.least I.greatest (walks_of contours.now) }
+    requires links_in_range { All (λ l. IsEdgeWithin I.least I.greatest (link_edge_of l)) links.now }
+    requires along { RunAlong output (graph_borders (overlay_rule_of rule) links.now) (walks_of contours.now) }
     ensures len { IfOk result (λ owners. length owners.items ≡ length contours.now) }
-    ensures is { IfOk result (λ owners. AreOwners (graph_borders I.value (overlay_rule_of rule) links.now) (walks_of I.value contours.now)
+    ensures is { IfOk result (λ owners. AreOwners (graph_borders (overlay_rule_of rule) links.now) (walks_of contours.now)
         owners.items) }
     ensures memory { IsOkUnless result Fault.Memory }
 {
@@ -99,10 +99,10 @@ fn owners_by_links<I: OverlayInt, D>(
     links: &[OverlayLink<I, D>],
     contours: &[Contour<I>],
 ) -> Result<Vec<Option<usize>>, Fault>
-    requires in_range { ContoursAreWithin I.least I.greatest (walks_of I.value contours.now) }
-    requires links_in_range { All (λ l. IsEdgeWithin I.least I.greatest (link_edge_of I.value l)) links.now }
+    requires in_range { ContoursAreWithin I.least I.greatest (walks_of contours.now) }
+    requires links_in_range { All (λ l. IsEdgeWithin I.least I.greatest (link_edge_of l)) links.now }
     ensures len { IfOk result (λ owners. length owners.items ≡ length contours.now) }
-    ensures is { IfOk result (λ owners. AreOwners (graph_borders I.value (overlay_rule_of rule) links.now) (walks_of I.value contours.now)
+    ensures is { IfOk result (λ owners. AreOwners (graph_borders (overlay_rule_of rule) links.now) (walks_of contours.now)
         owners.items) }
     ensures memory { IsOkUnless result Fault.Memory }
 {
@@ -124,7 +124,7 @@ fn has_hole<I: OverlayInt>(contours: &[Contour<I>]) -> bool
 
 // The number of the only outline, if there is one, and one alone.
 fn only_outline<I: OverlayInt>(contours: &[Contour<I>]) -> Option<usize>
-    ensures { IfSome result (λ outline. IsOnlyOutline (walks_of I.value contours.now) outline) }
+    ensures { IfSome result (λ outline. IsOnlyOutline (walks_of contours.now) outline) }
 {
     let mut found = None;
     for number in 0..contours.len() {

@@ -3,17 +3,16 @@
 
 ghost use Rattle.std.specs.Prelude.{◌≡◌, ◌<◌, ◌+◌, All, IfOk, OnOk, IsOkUnless, List, ◌∷◌, ◌++◌, length, drop};
 ghost use Rattle.plane_base.specs.Plane.{Point, IsWithin};
-ghost use Rattle.plane_base.specs.Views.{point_of, points_of};
 ghost use Rattle.contour_walk.specs.Walks.{contour_edges, is_same};
 ghost use Rattle.contour_walk.specs.WalkViews.{point_if_any};
-ghost use Rattle.contour_walk.specs.ShapeViews.{edges_of, next_of, is_clockwise, corner};
+ghost use Rattle.contour_walk.specs.ShapeViews.{next_of, is_clockwise, corner};
 ghost use Rattle.contour_walk.specs.Shapes.{without_straight};
 ghost use Rattle.contour_walk.specs.Binding.{least_point, lesser_point};
 
 use crate::borders::between;
 use crate::contour_direction::ContourDirection;
 use plane_base::fault::Fault;
-use plane_base::int::OverlayInt;
+use plane_base::int::{IntNumber, OverlayInt};
 use plane_base::orientation::orientation;
 use plane_base::point::IntPoint;
 use plane_base::segment::{XSegment, comes_before};
@@ -22,7 +21,7 @@ use std::cmp::Ordering;
 
 /// The points of a contour, and whether it is a hole.
 #[derive(Debug, PartialEq, Eq, Drop)]
-pub struct Contour<I> {
+pub struct Contour<I: IntNumber> {
     pub points: Vec<IntPoint<I>>,
     pub is_hole: bool,
 }
@@ -32,8 +31,7 @@ pub fn contour_edges<I: OverlayInt>(
     alloc: Global,
     points: &[IntPoint<I>],
 ) -> Result<Vec<XSegment<I>>, Fault>
-    ensures is { IfOk result (λ edges. edges_of I.value edges.items ≡
-        contour_edges (points_of I.value points.now)) }
+    ensures is { IfOk result (λ edges. edges.items ≡ contour_edges points.now) }
     ensures memory { IsOkUnless result Fault.Memory }
 {
     let mut edges = Vec::new(alloc);
@@ -46,9 +44,9 @@ pub fn contour_edges<I: OverlayInt>(
 // The point after this one, that after the last is the first.
 pub(crate) fn point_after<I: OverlayInt>(points: &[IntPoint<I>], place: usize) -> IntPoint<I>
     requires { place < length points.now }
-    ensures is { (first : Point) (rest : List Point) → points_of I.value points.now ≡ first ∷ rest →
-        point_of I.value result ≡ next_of first (points_of I.value (drop (place + 1) points.now)) }
-    ensures in_range { All (IsWithin I.least I.greatest) (points_of I.value points.now) → IsWithin I.least I.greatest (point_of I.value result) }
+    ensures is { (first : Point) (rest : List Point) → points.now ≡ first ∷ rest →
+        result ≡ next_of first (drop (place + 1) points.now) }
+    ensures in_range { All (IsWithin I.least I.greatest) points.now → IsWithin I.least I.greatest result }
 {
     if place + 1 < points.len() {
         return points[place + 1];
@@ -64,8 +62,8 @@ pub fn without_straight<I: OverlayInt>(
     alloc: Global,
     points: &[IntPoint<I>],
 ) -> Result<Vec<IntPoint<I>>, Fault>
-    requires { All (IsWithin I.least I.greatest) (points_of I.value points.now) }
-    ensures is { IfOk result (λ kept. points_of I.value kept.items ≡ without_straight (points_of I.value points.now)) }
+    requires { All (IsWithin I.least I.greatest) points.now }
+    ensures is { IfOk result (λ kept. kept.items ≡ without_straight points.now) }
     ensures memory { IsOkUnless result Fault.Memory }
 {
     let mut kept = Vec::with_capacity(alloc, points.len().min(FIRST_ROOM))?;
@@ -88,11 +86,11 @@ fn keep_corner<I: OverlayInt>(
     point: IntPoint<I>,
     after: IntPoint<I>,
 ) -> Result<(), Fault>
-    requires before_in_range { IsWithin I.least I.greatest (point_of I.value before) }
-    requires point_in_range { IsWithin I.least I.greatest (point_of I.value point) }
-    requires after_in_range { IsWithin I.least I.greatest (point_of I.value after) }
-    ensures is { OnOk result (points_of I.value kept.new.items ≡ points_of I.value kept.old.items ++
-        corner (point_of I.value before) (point_of I.value point) (point_of I.value after)) }
+    requires before_in_range { IsWithin I.least I.greatest before }
+    requires point_in_range { IsWithin I.least I.greatest point }
+    requires after_in_range { IsWithin I.least I.greatest after }
+    ensures is { OnOk result (kept.new.items ≡ kept.old.items ++
+        corner before point after) }
     ensures memory { IsOkUnless result Fault.Memory }
 {
     if orientation(before, point, after) == Ordering::Equal {
@@ -119,7 +117,7 @@ pub(crate) fn is_same(a: bool, b: bool) -> bool
 }
 
 pub(crate) fn least_point<I: OverlayInt>(points: &[IntPoint<I>]) -> Option<IntPoint<I>>
-    ensures { point_if_any I.value result ≡ least_point (points_of I.value points.now) }
+    ensures { point_if_any result ≡ least_point points.now }
 {
     let n = points.len();
     let mut least = None;
@@ -130,7 +128,7 @@ pub(crate) fn least_point<I: OverlayInt>(points: &[IntPoint<I>]) -> Option<IntPo
 }
 
 fn lesser_point<I: OverlayInt>(point: IntPoint<I>, other: Option<IntPoint<I>>) -> IntPoint<I>
-    ensures { point_of I.value result ≡ lesser_point (point_of I.value point) (point_if_any I.value other) }
+    ensures { result ≡ lesser_point point (point_if_any other) }
 {
     match other {
         None => point,

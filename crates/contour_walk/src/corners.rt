@@ -2,7 +2,6 @@
 
 ghost use Rattle.std.specs.Prelude.{◌≡◌, ◌+◌, ◌≤◌, ◌<◌, ◌++◌, All, length, take, drop};
 ghost use Rattle.plane_base.specs.Plane.{IsWithin};
-ghost use Rattle.plane_base.specs.Views.{point_of, points_of};
 ghost use Rattle.contour_walk.specs.Shapes.{without_straight};
 ghost use Rattle.contour_walk.specs.ShapeViews.{corner, next_of};
 
@@ -13,8 +12,8 @@ use std::cmp::Ordering;
 
 /// Leaves out the points that a contour passes straight.
 pub(crate) fn keep_corners<I: OverlayInt>(points: &mut Vec<IntPoint<I>>)
-    requires { All (IsWithin I.least I.greatest) (points_of I.value points.old.items) }
-    ensures { points_of I.value points.new.items ≡ without_straight (points_of I.value points.old.items) }
+    requires { All (IsWithin I.least I.greatest) points.old.items }
+    ensures { points.new.items ≡ without_straight points.old.items }
 {
     if points.is_empty() {
         return;
@@ -38,9 +37,9 @@ fn point_behind<I: OverlayInt>(
     first: IntPoint<I>,
 ) -> IntPoint<I>
     requires { place < length points.now }
-    ensures is { point_of I.value result ≡ next_of (point_of I.value first) (points_of I.value (drop (place + 1) points.now)) }
-    ensures in_range { IsWithin I.least I.greatest (point_of I.value first) →
-        All (IsWithin I.least I.greatest) (points_of I.value (drop (place + 1) points.now)) → IsWithin I.least I.greatest (point_of I.value result) }
+    ensures is { result ≡ next_of first (drop (place + 1) points.now) }
+    ensures in_range { IsWithin I.least I.greatest first →
+        All (IsWithin I.least I.greatest) (drop (place + 1) points.now) → IsWithin I.least I.greatest result }
 {
     if place + 1 < points.len() {
         return points[place + 1];
@@ -57,11 +56,11 @@ fn keep_corner<I: OverlayInt>(
     after: IntPoint<I>,
 ) -> usize
     requires inside { kept < length points.old.items }
-    requires before_in_range { IsWithin I.least I.greatest (point_of I.value before) }
-    requires point_in_range { IsWithin I.least I.greatest (point_of I.value point) }
-    requires after_in_range { IsWithin I.least I.greatest (point_of I.value after) }
-    ensures is { points_of I.value (take result points.new.items) ≡ points_of I.value (take kept points.old.items) ++
-        corner (point_of I.value before) (point_of I.value point) (point_of I.value after) }
+    requires before_in_range { IsWithin I.least I.greatest before }
+    requires point_in_range { IsWithin I.least I.greatest point }
+    requires after_in_range { IsWithin I.least I.greatest after }
+    ensures is { (take result points.new.items) ≡ (take kept points.old.items) ++
+        corner before point after }
     ensures behind { drop (kept + 1) points.new.items ≡ drop (kept + 1) points.old.items }
     ensures len { length points.new.items ≡ length points.old.items }
     ensures next { result ≤ kept + 1 }

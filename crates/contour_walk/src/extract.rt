@@ -40,7 +40,7 @@ use crate::walk::course::Course;
 use crate::walk::walk_boundary;
 use plane_base::fault::Fault;
 use plane_base::flat::FlatContoursBuffer;
-use plane_base::int::OverlayInt;
+use plane_base::int::{IntNumber, OverlayInt};
 use plane_base::path::IntShapes;
 use plane_base::point::IntPoint;
 use segment_arrangement::graph::{OverlayGraph, VisitState};
@@ -50,12 +50,12 @@ use std::alloc::Global;
 
 /// Storage of extractions, kept from one to the next. No answer depends on it.
 #[derive(Debug, Drop)]
-pub struct BooleanExtractionBuffer<I> {
+pub struct BooleanExtractionBuffer<I: IntNumber> {
     points: Vec<IntPoint<I>>,
     states: Vec<VisitState>,
 }
 
-impl<I> BooleanExtractionBuffer<I> {
+impl<I: IntNumber> BooleanExtractionBuffer<I> {
     /// A buffer with no storage yet.
     pub fn new(alloc: Global) -> BooleanExtractionBuffer<I>
         ensures { result.points.items ≡ [] }
@@ -79,29 +79,29 @@ pub fn extract_shapes<I: OverlayInt, D>(
     buffer: &mut BooleanExtractionBuffer<I>,
 ) -> Result<IntShapes<I>, Fault>
     requires graph { (fill : FillRule) × (es : List (Entry Count)) × IsArrangement es ×
-        AreLinksFor fill (overlay_rule_of rule) es (map (overlay_link_of I.value) (links_of graph.now)) }
+        AreLinksFor fill (overlay_rule_of rule) es (map overlay_link_of (links_of graph.now)) }
     // It is the canonical answer for the map.
     ensures is { IfOk result (λ shapes. (fill : FillRule) (es : List (Entry Count)) →
-        AreLinksFor fill (overlay_rule_of rule) es (map (overlay_link_of I.value) (links_of graph.now)) →
-        shapes_of I.value shapes.shapes.items ≡ answer_with (answering_of options) (borders fill (overlay_rule_of rule) es)) }
+        AreLinksFor fill (overlay_rule_of rule) es (map overlay_link_of (links_of graph.now)) →
+        shapes_of shapes.shapes.items ≡ answer_with (answering_of options) (borders fill (overlay_rule_of rule) es)) }
     // Whatever turns the walks take, the shapes wind once round the region, in the output direction, and round nothing else.
     ensures winds { IfOk result (λ shapes. (fill : FillRule) (es : List (Entry Count)) → IsArrangement es →
-        AreLinksFor fill (overlay_rule_of rule) es (map (overlay_link_of I.value) (links_of graph.now)) → options.min_output_area ≡ 0 →
-        WindRound fill (overlay_rule_of rule) es (is_clockwise options.output_direction) (all_contours (shapes_of I.value shapes.shapes.items))) }
+        AreLinksFor fill (overlay_rule_of rule) es (map overlay_link_of (links_of graph.now)) → options.min_output_area ≡ 0 →
+        WindRound fill (overlay_rule_of rule) es (is_clockwise options.output_direction) (all_contours (shapes_of shapes.shapes.items))) }
     // With one, those shapes are answered whose outlines reach it, with the holes that do.
     ensures least { IfOk result (λ shapes. (fill : FillRule) (es : List (Entry Count)) →
-        AreLinksFor fill (overlay_rule_of rule) es (map (overlay_link_of I.value) (links_of graph.now)) →
-        AnswersThoseLeft (answering_of options) (borders fill (overlay_rule_of rule) es) (shapes_of I.value shapes.shapes.items)) }
+        AreLinksFor fill (overlay_rule_of rule) es (map overlay_link_of (links_of graph.now)) →
+        AnswersThoseLeft (answering_of options) (borders fill (overlay_rule_of rule) es) (shapes_of shapes.shapes.items)) }
     // Without one each link of the boundary is passed once, least points stand where they should, and exactly what is passed straight is gone.
     ensures orderly { IfOk result (λ shapes. (fill : FillRule) (es : List (Entry Count)) → IsArrangement es →
-        AreLinksFor fill (overlay_rule_of rule) es (map (overlay_link_of I.value) (links_of graph.now)) → options.min_output_area ≡ 0 →
+        AreLinksFor fill (overlay_rule_of rule) es (map overlay_link_of (links_of graph.now)) → options.min_output_area ≡ 0 →
         AreOrderly (is_clockwise options.output_direction) options.preserve_output_collinear (borders fill (overlay_rule_of rule) es)
-        (shapes_of I.value shapes.shapes.items)) }
+        (shapes_of shapes.shapes.items)) }
     // Without one groups of edges, in boxes no two of which share a point, are answered each as if alone.
     ensures alone { IfOk result (λ shapes. (fill : FillRule) (es : List (Entry Count)) → IsArrangement es →
-        AreLinksFor fill (overlay_rule_of rule) es (map (overlay_link_of I.value) (links_of graph.now)) → options.min_output_area ≡ 0 →
+        AreLinksFor fill (overlay_rule_of rule) es (map overlay_link_of (links_of graph.now)) → options.min_output_area ≡ 0 →
         (boxes : List Bounds) → AreGroups boxes es →
-        IsAnsweredAlone (answering_of options) fill (overlay_rule_of rule) es boxes (shapes_of I.value shapes.shapes.items)) }
+        IsAnsweredAlone (answering_of options) fill (overlay_rule_of rule) es boxes (shapes_of shapes.shapes.items)) }
     ensures memory { IsOkUnless result Fault.Memory }
 {
     fills_tell_borders();
@@ -123,10 +123,10 @@ fn contours_of<I: OverlayInt, D>(
     buffer: &mut BooleanExtractionBuffer<I>,
 ) -> Result<Vec<Contour<I>>, Fault>
     requires graph { (fill : FillRule) × (es : List (Entry Count)) × IsArrangement es ×
-        AreLinksFor fill (overlay_rule_of rule) es (map (overlay_link_of I.value) (links_of graph.now)) }
-    ensures is { IfOk result (λ contours. walks_of I.value contours.items ≡
-        contours_for is_parted output (borders_of_links (overlay_rule_of rule) (map (overlay_link_of I.value) (links_of graph.now)))) }
-    ensures in_range { IfOk result (λ contours. ContoursAreWithin I.least I.greatest (walks_of I.value contours.items)) }
+        AreLinksFor fill (overlay_rule_of rule) es (map overlay_link_of (links_of graph.now)) }
+    ensures is { IfOk result (λ contours. walks_of contours.items ≡
+        contours_for is_parted output (borders_of_links (overlay_rule_of rule) (map overlay_link_of (links_of graph.now)))) }
+    ensures in_range { IfOk result (λ contours. ContoursAreWithin I.least I.greatest (walks_of contours.items)) }
     ensures memory { IsOkUnless result Fault.Memory }
 {
     let room = &mut buffer.points;
@@ -147,12 +147,12 @@ fn answered<I: OverlayInt, D>(
     links: &[OverlayLink<I, D>],
     contours: &mut [Contour<I>],
 ) -> Result<IntShapes<I>, Fault>
-    requires in_range { ContoursAreWithin I.least I.greatest (walks_of I.value contours.old) }
-    requires links_in_range { All (λ l. IsEdgeWithin I.least I.greatest (link_edge_of I.value l)) links.now }
-    requires along { RunAlong (is_clockwise options.output_direction) (graph_borders I.value (overlay_rule_of rule) links.now)
-        (walks_of I.value contours.old) }
-    ensures is { IfOk result (λ shapes. shapes_of I.value shapes.shapes.items ≡ answered (answering_of options)
-        (graph_borders I.value (overlay_rule_of rule) links.now) (walks_of I.value contours.old)) }
+    requires in_range { ContoursAreWithin I.least I.greatest (walks_of contours.old) }
+    requires links_in_range { All (λ l. IsEdgeWithin I.least I.greatest (link_edge_of l)) links.now }
+    requires along { RunAlong (is_clockwise options.output_direction) (graph_borders (overlay_rule_of rule) links.now)
+        (walks_of contours.old) }
+    ensures is { IfOk result (λ shapes. shapes_of shapes.shapes.items ≡ answered (answering_of options)
+        (graph_borders (overlay_rule_of rule) links.now) (walks_of contours.old)) }
     ensures memory { IsOkUnless result Fault.Memory }
 {
     let output = is_clockwise(options.output_direction);
@@ -175,18 +175,18 @@ pub fn extract_shape_hierarchy<I: OverlayInt, D>(
     buffer: &mut BooleanExtractionBuffer<I>,
 ) -> Result<FlatShapeHierarchy<I>, Fault>
     requires graph { (fill : FillRule) × (es : List (Entry Count)) × IsArrangement es ×
-        AreLinksFor fill (overlay_rule_of rule) es (map (overlay_link_of I.value) (links_of graph.now)) }
+        AreLinksFor fill (overlay_rule_of rule) es (map overlay_link_of (links_of graph.now)) }
     // They are the shapes of the canonical answer for the map.
     ensures shapes { IfOk result (λ found. (fill : FillRule) (es : List (Entry Count)) →
-        AreLinksFor fill (overlay_rule_of rule) es (map (overlay_link_of I.value) (links_of graph.now)) →
-        flat_shapes_of I.value found.shapes ≡ answer_with (answering_of options) (borders fill (overlay_rule_of rule) es)) }
+        AreLinksFor fill (overlay_rule_of rule) es (map overlay_link_of (links_of graph.now)) →
+        flat_shapes_of found.shapes ≡ answer_with (answering_of options) (borders fill (overlay_rule_of rule) es)) }
     // One after another, in order: so each link means the contour of its number.
     ensures laid { IfOk result (λ found. (fill : FillRule) (es : List (Entry Count)) →
-        AreLinksFor fill (overlay_rule_of rule) es (map (overlay_link_of I.value) (links_of graph.now)) →
-        AreLaidShapes I.value (answer_with (answering_of options) (borders fill (overlay_rule_of rule) es)) found.shapes) }
+        AreLinksFor fill (overlay_rule_of rule) es (map overlay_link_of (links_of graph.now)) →
+        AreLaidShapes (answer_with (answering_of options) (borders fill (overlay_rule_of rule) es)) found.shapes) }
     // The links are those of the canonical answer with all its points.
     ensures links { IfOk result (λ found. (fill : FillRule) (es : List (Entry Count)) →
-        AreLinksFor fill (overlay_rule_of rule) es (map (overlay_link_of I.value) (links_of graph.now)) →
+        AreLinksFor fill (overlay_rule_of rule) es (map overlay_link_of (links_of graph.now)) →
         found.links.items ≡ answer_links (answering_of options) (borders fill (overlay_rule_of rule) es)) }
     ensures well_formed { IfOk result (λ found. AreFlatShapes found.shapes) }
     ensures memory { IsOkUnless result Fault.Memory }
@@ -211,14 +211,14 @@ fn bound_shapes<I: OverlayInt, D>(
     buffer: &mut BooleanExtractionBuffer<I>,
 ) -> Result<IntShapes<I>, Fault>
     requires graph { (fill : FillRule) × (es : List (Entry Count)) × IsArrangement es ×
-        AreLinksFor fill (overlay_rule_of rule) es (map (overlay_link_of I.value) (links_of graph.now)) }
+        AreLinksFor fill (overlay_rule_of rule) es (map overlay_link_of (links_of graph.now)) }
     ensures is { IfOk result (λ shapes. (fill : FillRule) (es : List (Entry Count)) →
-        AreLinksFor fill (overlay_rule_of rule) es (map (overlay_link_of I.value) (links_of graph.now)) →
-        shapes_of I.value shapes.shapes.items ≡ answer_with (answering_of options) (borders fill (overlay_rule_of rule) es)) }
+        AreLinksFor fill (overlay_rule_of rule) es (map overlay_link_of (links_of graph.now)) →
+        shapes_of shapes.shapes.items ≡ answer_with (answering_of options) (borders fill (overlay_rule_of rule) es)) }
     ensures in_range { options.preserve_output_collinear ≡ true → IfOk result (λ shapes.
-        ShapesAreWithin I.least I.greatest (shapes_of I.value shapes.shapes.items)) }
+        ShapesAreWithin I.least I.greatest (shapes_of shapes.shapes.items)) }
     ensures can_be_bound { options.preserve_output_collinear ≡ true → IfOk result (λ shapes.
-        CanBeBound (is_clockwise options.output_direction) (contours_in (shapes_of I.value shapes.shapes.items))) }
+        CanBeBound (is_clockwise options.output_direction) (contours_in (shapes_of shapes.shapes.items))) }
     ensures memory { IsOkUnless result Fault.Memory }
 {
     fills_tell_borders();
@@ -241,14 +241,14 @@ pub fn extract_contours_into<I: OverlayInt, D>(
     output: &mut FlatContoursBuffer<I>,
 ) -> Result<(), Fault>
     requires graph { (fill : FillRule) × (es : List (Entry Count)) × IsArrangement es ×
-        AreLinksFor fill (overlay_rule_of rule) es (map (overlay_link_of I.value) (links_of graph.now)) }
+        AreLinksFor fill (overlay_rule_of rule) es (map overlay_link_of (links_of graph.now)) }
     ensures is { (fill : FillRule) (es : List (Entry Count)) →
-        AreLinksFor fill (overlay_rule_of rule) es (map (overlay_link_of I.value) (links_of graph.now)) →
-        OnOk result (flat_of I.value output.new ≡ flat_answer (answering_of options) (borders fill (overlay_rule_of rule) es)) }
+        AreLinksFor fill (overlay_rule_of rule) es (map overlay_link_of (links_of graph.now)) →
+        OnOk result (flat_of output.new ≡ flat_answer (answering_of options) (borders fill (overlay_rule_of rule) es)) }
     // One after another, and nothing else.
     ensures laid { (fill : FillRule) (es : List (Entry Count)) →
-        AreLinksFor fill (overlay_rule_of rule) es (map (overlay_link_of I.value) (links_of graph.now)) →
-        OnOk result (IsLaidFlat I.value (flat_answer (answering_of options) (borders fill (overlay_rule_of rule) es)) output.new) }
+        AreLinksFor fill (overlay_rule_of rule) es (map overlay_link_of (links_of graph.now)) →
+        OnOk result (IsLaidFlat (flat_answer (answering_of options) (borders fill (overlay_rule_of rule) es)) output.new) }
     ensures well_formed { IsFlat output.new }
     ensures refused { OnErr result ((output.new.points.items ≡ []) × (output.new.ranges.items ≡ [])) }
     ensures memory { IsOkUnless result Fault.Memory }

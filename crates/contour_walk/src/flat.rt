@@ -3,7 +3,6 @@
 
 ghost use Rattle.std.specs.Prelude.{◌≡◌, ◌∷◌, [], All, OnOk, IsOkUnless, cond, map};
 ghost use Rattle.plane_base.specs.Plane.{IsWithin};
-ghost use Rattle.plane_base.specs.Views.{points_of};
 ghost use Rattle.contour_walk.specs.Answering.{answering_of, flat_contours};
 ghost use Rattle.contour_walk.specs.Least.{reaches};
 ghost use Rattle.contour_walk.specs.Shapes.{finished};
@@ -36,8 +35,8 @@ pub(crate) fn add_contours<I: OverlayInt>(
     contours: &[Contour<I>],
     output: &mut FlatContoursBuffer<I>,
 ) -> Result<(), Fault>
-    requires in_range { ContoursAreWithin I.least I.greatest (walks_of I.value contours.now) }
-    ensures laid { OnOk result (LaysBehind I.value (flat_contours (answering_of options) (walks_of I.value contours.now)) output.old output.new) }
+    requires in_range { ContoursAreWithin I.least I.greatest (walks_of contours.now) }
+    ensures laid { OnOk result (LaysBehind (flat_contours (answering_of options) (walks_of contours.now)) output.old output.new) }
     ensures memory { IsOkUnless result Fault.Memory }
 {
     for contour in contours {
@@ -53,9 +52,9 @@ fn add_reaching<I: OverlayInt>(
     points: &[IntPoint<I>],
     output: &mut FlatContoursBuffer<I>,
 ) -> Result<(), Fault>
-    requires in_range { All (IsWithin I.least I.greatest) (points_of I.value points.now) }
-    ensures laid { OnOk result (LaysBehind I.value (map (finished options.preserve_output_collinear)
-        (cond (reaches options.min_output_area (points_of I.value points.now)) (points_of I.value points.now ∷ []) [])) output.old output.new) }
+    requires in_range { All (IsWithin I.least I.greatest) points.now }
+    ensures laid { OnOk result (LaysBehind (map (finished options.preserve_output_collinear)
+        (cond (reaches options.min_output_area points.now) (points.now ∷ []) [])) output.old output.new) }
     ensures memory { IsOkUnless result Fault.Memory }
 {
     if !reaches(options.min_output_area, points) {
@@ -73,7 +72,7 @@ pub(crate) fn add_flat<I: OverlayInt>(
     points: &[IntPoint<I>],
     output: &mut FlatContoursBuffer<I>,
 ) -> Result<(), Fault>
-    ensures laid { OnOk result (LaysBehind I.value (points_of I.value points.now ∷ []) output.old output.new) }
+    ensures laid { OnOk result (LaysBehind (points.now ∷ []) output.old output.new) }
     ensures memory { IsOkUnless result Fault.Memory }
 {
     output.add_contour(points)
@@ -81,8 +80,8 @@ pub(crate) fn add_flat<I: OverlayInt>(
 
 /// Whether a contour's area reaches the least one.
 pub(crate) fn reaches<I: OverlayInt>(least: u64, points: &[IntPoint<I>]) -> bool
-    requires { All (IsWithin I.least I.greatest) (points_of I.value points.now) }
-    ensures { result ≡ reaches least (points_of I.value points.now) }
+    requires { All (IsWithin I.least I.greatest) points.now }
+    ensures { result ≡ reaches least points.now }
 {
     reaches_area(points, least)
 }

@@ -9,7 +9,7 @@ ghost use Rattle.plane_base.specs.Laws.{TellsApart};
 
 use plane_base::equality::equality_of_flat_buffers;
 use plane_base::flat_shapes::FlatShapesBuffer;
-use plane_base::int::OverlayInt;
+use plane_base::int::{IntNumber, OverlayInt};
 use std::alloc::{AllocError, Global};
 
 /// A shape that lies in a hole of another, directly.
@@ -25,12 +25,12 @@ pub struct ChildLink {
 
 /// Shapes laid flat, and which of them lie in holes of others.
 #[derive(Debug, PartialEq, Eq, Drop)]
-pub struct FlatShapeHierarchy<I> {
+pub struct FlatShapeHierarchy<I: IntNumber> {
     pub shapes: FlatShapesBuffer<I>,
     pub links: Vec<ChildLink>,
 }
 
-impl<I: Copy> FlatShapeHierarchy<I> {
+impl<I: IntNumber> FlatShapeHierarchy<I> {
     /// A hierarchy without shapes.
     pub fn new(alloc: Global) -> FlatShapeHierarchy<I>
         ensures points { result.shapes.points.items ≡ [] }
@@ -49,7 +49,7 @@ impl<I: Copy> FlatShapeHierarchy<I> {
     }
 }
 
-impl<I: Copy> Clone for FlatShapeHierarchy<I> {
+impl<I: IntNumber> Clone for FlatShapeHierarchy<I> {
     ghost is_clone = { λ old new. (new.links.items ≡ old.links.items) × ((new.shapes.points.items ≡ old.shapes.points.items)
         × ((new.shapes.contour_ranges.items ≡ old.shapes.contour_ranges.items) × (new.shapes.shape_ranges.items ≡ old.shapes.shape_ranges.items))) };
 

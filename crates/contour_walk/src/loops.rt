@@ -3,9 +3,8 @@
 //! The points that are kept stand in a list, and a map tells the place of each. It may also tell a place at which its point doesn't
 //! stand any more, so that nothing has to be taken out of it: a look at the place tells. It takes time n log n in the points.
 
-ghost use Rattle.std.specs.Prelude.{◌≡◌, ◌+◌, ◌<◌, ℕ, List, [], ◌∷◌, ◌++◌, None, All, IfOk, OnOk, IsOkUnless, length, take, drop, filter};
+ghost use Rattle.std.specs.Prelude.{◌≡◌, ◌+◌, ◌<◌, List, [], ◌∷◌, ◌++◌, None, All, IfOk, OnOk, IsOkUnless, length, take, drop, filter};
 ghost use Rattle.plane_base.specs.Plane.{Point, IsWithin};
-ghost use Rattle.plane_base.specs.Views.{point_of, points_of};
 ghost use Rattle.plane_base.specs.GivenViews.{contours_of};
 ghost use Rattle.contour_walk.specs.Loops.{place_of, is_long, long_loops};
 ghost use Rattle.contour_walk.specs.LoopViews.{AreKnown, long_from};
@@ -30,8 +29,8 @@ pub fn split_loops<I: OverlayInt>(
     path: &[IntPoint<I>],
     min_area: u64,
 ) -> Result<Vec<IntPath<I>>, Fault>
-    requires { All (IsWithin I.least I.greatest) (points_of I.value path.now) }
-    ensures is { IfOk result (λ loops. contours_of I.value loops.items ≡ long_loops min_area (points_of I.value path.now)) }
+    requires { All (IsWithin I.least I.greatest) path.now }
+    ensures is { IfOk result (λ loops. contours_of loops.items ≡ long_loops min_area path.now) }
     ensures memory { IsOkUnless result Fault.Memory }
 {
     let mut places = BTreeMap::new(alloc);
@@ -52,13 +51,13 @@ fn go_on<I: OverlayInt>(
     kept: &mut Vec<IntPoint<I>>,
     loops: &mut Vec<IntPath<I>>,
 ) -> Result<(), Fault>
-    requires point_in_range { IsWithin I.least I.greatest (point_of I.value point) }
-    requires in_range { All (IsWithin I.least I.greatest) (points_of I.value kept.old.items) }
-    requires known { AreKnown (point_of I.value) places.old kept.old.items }
-    ensures is { (rest : List Point) → OnOk result (contours_of I.value loops.new.items ++ long_from min_area (points_of I.value kept.new.items) rest
-        ≡ contours_of I.value loops.old.items ++ long_from min_area (points_of I.value kept.old.items) (point_of I.value point ∷ rest)) }
-    ensures in_range { OnOk result (All (IsWithin I.least I.greatest) (points_of I.value kept.new.items)) }
-    ensures known { OnOk result (AreKnown (point_of I.value) places.new kept.new.items) }
+    requires point_in_range { IsWithin I.least I.greatest point }
+    requires in_range { All (IsWithin I.least I.greatest) kept.old.items }
+    requires known { AreKnown places.old kept.old.items }
+    ensures is { (rest : List Point) → OnOk result (contours_of loops.new.items ++ long_from min_area kept.new.items rest
+        ≡ contours_of loops.old.items ++ long_from min_area kept.old.items (point ∷ rest)) }
+    ensures in_range { OnOk result (All (IsWithin I.least I.greatest) kept.new.items) }
+    ensures known { OnOk result (AreKnown places.new kept.new.items) }
     ensures memory { IsOkUnless result Fault.Memory }
 {
     let Some(place) = kept_place(places, kept, point) else {
@@ -76,8 +75,8 @@ fn kept_place<I: OverlayInt>(
     kept: &[IntPoint<I>],
     point: IntPoint<I>,
 ) -> Option<usize>
-    requires known { AreKnown (point_of I.value) places.now kept.now }
-    ensures { result ≡ place_of (point_of I.value point) (points_of I.value kept.now) }
+    requires known { AreKnown places.now kept.now }
+    ensures { result ≡ place_of point kept.now }
 {
     order_of_points::<I>();
     let place = *places.get(&point)?;
@@ -96,10 +95,10 @@ fn keep<I: OverlayInt>(
     kept: &mut Vec<IntPoint<I>>,
     point: IntPoint<I>,
 ) -> Result<(), Fault>
-    requires new { place_of (point_of I.value point) (points_of I.value kept.old.items) ≡ None }
-    requires known { AreKnown (point_of I.value) places.old kept.old.items }
+    requires new { place_of point kept.old.items ≡ None }
+    requires known { AreKnown places.old kept.old.items }
     ensures is { OnOk result (kept.new.items ≡ kept.old.items ++ point ∷ []) }
-    ensures known { OnOk result (AreKnown (point_of I.value) places.new kept.new.items) }
+    ensures known { OnOk result (AreKnown places.new kept.new.items) }
     ensures memory { IsOkUnless result Fault.Memory }
 {
     order_of_points::<I>();
@@ -130,9 +129,9 @@ fn add_if_long<I: OverlayInt>(
     points: Vec<IntPoint<I>>,
     min_area: u64,
 ) -> Result<(), Fault>
-    requires { All (IsWithin I.least I.greatest) (points_of I.value points.items) }
-    ensures is { OnOk result (contours_of I.value loops.new.items ≡ contours_of I.value loops.old.items ++
-        filter (is_long min_area) (points_of I.value points.items ∷ [])) }
+    requires { All (IsWithin I.least I.greatest) points.items }
+    ensures is { OnOk result (contours_of loops.new.items ≡ contours_of loops.old.items ++
+        filter (is_long min_area) (points.items ∷ [])) }
     ensures memory { IsOkUnless result Fault.Memory }
 {
     if is_long(&points, min_area) {
@@ -142,8 +141,8 @@ fn add_if_long<I: OverlayInt>(
 }
 
 fn is_long<I: OverlayInt>(points: &[IntPoint<I>], min_area: u64) -> bool
-    requires { All (IsWithin I.least I.greatest) (points_of I.value points.now) }
-    ensures { result ≡ is_long min_area (points_of I.value points.now) }
+    requires { All (IsWithin I.least I.greatest) points.now }
+    ensures { result ≡ is_long min_area points.now }
 {
     points.len() >= 3 && reaches_area(points, min_area)
 }

@@ -3,7 +3,6 @@
 
 ghost use Rattle.std.specs.Prelude.{◌≡◌, ◌||◌, ◌&&◌, ◌==◌, Bool, List, [], ◌∷◌, nat_lt, int_lt, pos};
 ghost use Rattle.plane_base.specs.Plane.{Point, IsWithin};
-ghost use Rattle.plane_base.specs.Views.{point_of};
 ghost use Rattle.contour_walk.specs.Turning.{half_turns, turned};
 ghost use Rattle.contour_walk.specs.Nearest.{Numbered};
 ghost use Rattle.contour_walk.specs.NearestViews.{numbered, HasSeen};
@@ -23,21 +22,21 @@ pub struct NearestVector<I: OverlayInt> {
     turned: Turned,
     /// The number of the point that is met first.
     pub best_id: usize,
-    ghost center_in_range: { IsWithin I.least I.greatest (point_of I.value center) },
-    ghost from_in_range: { IsWithin I.least I.greatest (point_of I.value from) },
-    ghost best_in_range: { IsWithin I.least I.greatest (point_of I.value best) },
-    ghost turned_is: { turned_number turned ≡ half_turns clockwise (point_of I.value center) (point_of I.value from) (point_of I.value best) },
+    ghost center_in_range: { IsWithin I.least I.greatest center },
+    ghost from_in_range: { IsWithin I.least I.greatest from },
+    ghost best_in_range: { IsWithin I.least I.greatest best },
+    ghost turned_is: { turned_number turned ≡ half_turns clockwise center from best },
 }
 
 impl<I: OverlayInt> NearestVector<I> {
     /// A search round `c` from `a` that has seen the point `b`.
     pub fn new(c: IntPoint<I>, a: IntPoint<I>, b: IntPoint<I>, id: usize, clockwise: bool) -> Self
-        requires c_in_range { IsWithin I.least I.greatest (point_of I.value c) }
-        requires a_in_range { IsWithin I.least I.greatest (point_of I.value a) }
-        requires b_in_range { IsWithin I.least I.greatest (point_of I.value b) }
-        ensures { HasSeen clockwise (point_of I.value c) (point_of I.value a) (numbered I.value b id ∷ [])
-            result.clockwise (point_of I.value result.center) (point_of I.value result.from)
-            (numbered I.value result.best result.best_id) }
+        requires c_in_range { IsWithin I.least I.greatest c }
+        requires a_in_range { IsWithin I.least I.greatest a }
+        requires b_in_range { IsWithin I.least I.greatest b }
+        ensures { HasSeen clockwise c a (numbered b id ∷ [])
+            result.clockwise result.center result.from
+            (numbered result.best result.best_id) }
     {
         NearestVector {
             center: c,
@@ -51,14 +50,14 @@ impl<I: OverlayInt> NearestVector<I> {
 
     /// Sees one point more.
     pub fn add(&mut self, p: IntPoint<I>, id: usize)
-        requires { IsWithin I.least I.greatest (point_of I.value p) }
+        requires { IsWithin I.least I.greatest p }
         ensures { (clockwise : Bool) (c a : Point) (seen : List Numbered) →
             HasSeen clockwise c a seen
-            self.old.clockwise (point_of I.value self.old.center) (point_of I.value self.old.from)
-            (numbered I.value self.old.best self.old.best_id) →
-            HasSeen clockwise c a (numbered I.value p id ∷ seen)
-            self.new.clockwise (point_of I.value self.new.center) (point_of I.value self.new.from)
-            (numbered I.value self.new.best self.new.best_id) }
+            self.old.clockwise self.old.center self.old.from
+            (numbered self.old.best self.old.best_id) →
+            HasSeen clockwise c a (numbered p id ∷ seen)
+            self.new.clockwise self.new.center self.new.from
+            (numbered self.new.best self.new.best_id) }
     {
         let turned = half_turns(self.clockwise, self.center, self.from, p);
         if is_before(
@@ -86,12 +85,12 @@ pub(crate) fn is_before<I: OverlayInt>(
     other_turned: Turned,
     other: IntPoint<I>,
 ) -> bool
-    requires center_in_range { IsWithin I.least I.greatest (point_of I.value center) }
-    requires one_in_range { IsWithin I.least I.greatest (point_of I.value one) }
-    requires other_in_range { IsWithin I.least I.greatest (point_of I.value other) }
+    requires center_in_range { IsWithin I.least I.greatest center }
+    requires one_in_range { IsWithin I.least I.greatest one }
+    requires other_in_range { IsWithin I.least I.greatest other }
     ensures { result ≡ (nat_lt (turned_number one_turned) (turned_number other_turned) ||
         ((turned_number one_turned == turned_number other_turned) &&
-        int_lt (pos 0) (turned clockwise (point_of I.value center) (point_of I.value one) (point_of I.value other)))) }
+        int_lt (pos 0) (turned clockwise center one other))) }
 {
     let first = rank(one_turned);
     let second = rank(other_turned);

@@ -7,7 +7,6 @@
 ghost use Rattle.std.specs.Prelude.{◌≡◌, pos, int_lt};
 ghost use Rattle.std.specs.Ordering.{int_cmp};
 ghost use Rattle.plane_base.specs.Plane.{IsWithin, turn};
-ghost use Rattle.plane_base.specs.Views.{point_of};
 ghost use Rattle.contour_walk.specs.Turning.{reach, turned, half_turns, is_met_before};
 ghost use Rattle.contour_walk.specs.WalkViews.{turned_number};
 
@@ -33,13 +32,13 @@ pub fn is_met_before<I: OverlayInt>(
     one: IntPoint<I>,
     other: IntPoint<I>,
 ) -> bool
-    requires center_in_range { IsWithin I.least I.greatest (point_of I.value center) }
-    requires from_in_range { IsWithin I.least I.greatest (point_of I.value from) }
-    requires one_in_range { IsWithin I.least I.greatest (point_of I.value one) }
-    requires other_in_range { IsWithin I.least I.greatest (point_of I.value other) }
+    requires center_in_range { IsWithin I.least I.greatest center }
+    requires from_in_range { IsWithin I.least I.greatest from }
+    requires one_in_range { IsWithin I.least I.greatest one }
+    requires other_in_range { IsWithin I.least I.greatest other }
     ensures { result ≡
-        is_met_before clockwise (point_of I.value center) (point_of I.value from)
-        (point_of I.value one) (point_of I.value other) }
+        is_met_before clockwise center from
+        one other }
 {
     let first = rank(half_turns(clockwise, center, from, one));
     let second = rank(half_turns(clockwise, center, from, other));
@@ -64,11 +63,11 @@ pub fn half_turns<I: OverlayInt>(
     from: IntPoint<I>,
     point: IntPoint<I>,
 ) -> Turned
-    requires center_in_range { IsWithin I.least I.greatest (point_of I.value center) }
-    requires from_in_range { IsWithin I.least I.greatest (point_of I.value from) }
-    requires point_in_range { IsWithin I.least I.greatest (point_of I.value point) }
+    requires center_in_range { IsWithin I.least I.greatest center }
+    requires from_in_range { IsWithin I.least I.greatest from }
+    requires point_in_range { IsWithin I.least I.greatest point }
     ensures { turned_number result ≡
-        half_turns clockwise (point_of I.value center) (point_of I.value from) (point_of I.value point) }
+        half_turns clockwise center from point }
 {
     let side = side(clockwise, center, from, point);
     if side == Ordering::Greater {
@@ -91,10 +90,10 @@ fn side<I: OverlayInt>(
     from: IntPoint<I>,
     point: IntPoint<I>,
 ) -> Ordering
-    requires center_in_range { IsWithin I.least I.greatest (point_of I.value center) }
-    requires from_in_range { IsWithin I.least I.greatest (point_of I.value from) }
-    requires point_in_range { IsWithin I.least I.greatest (point_of I.value point) }
-    ensures { result ≡ int_cmp (turned clockwise (point_of I.value center) (point_of I.value from) (point_of I.value point)) (pos 0) }
+    requires center_in_range { IsWithin I.least I.greatest center }
+    requires from_in_range { IsWithin I.least I.greatest from }
+    requires point_in_range { IsWithin I.least I.greatest point }
+    ensures { result ≡ int_cmp (turned clockwise center from point) (pos 0) }
 {
     if clockwise {
         orientation(center, point, from)
@@ -110,11 +109,11 @@ pub(crate) fn turns_ahead<I: OverlayInt>(
     from: IntPoint<I>,
     point: IntPoint<I>,
 ) -> bool
-    requires center_in_range { IsWithin I.least I.greatest (point_of I.value center) }
-    requires from_in_range { IsWithin I.least I.greatest (point_of I.value from) }
-    requires point_in_range { IsWithin I.least I.greatest (point_of I.value point) }
+    requires center_in_range { IsWithin I.least I.greatest center }
+    requires from_in_range { IsWithin I.least I.greatest from }
+    requires point_in_range { IsWithin I.least I.greatest point }
     ensures { result ≡
-        int_lt (pos 0) (turned clockwise (point_of I.value center) (point_of I.value from) (point_of I.value point)) }
+        int_lt (pos 0) (turned clockwise center from point) }
 {
     if clockwise {
         is_left(center, point, from)
@@ -125,30 +124,30 @@ pub(crate) fn turns_ahead<I: OverlayInt>(
 
 // Whether `c` lies left of the way from `a` to `b`.
 pub(crate) fn is_left<I: OverlayInt>(a: IntPoint<I>, b: IntPoint<I>, c: IntPoint<I>) -> bool
-    requires a_in_range { IsWithin I.least I.greatest (point_of I.value a) }
-    requires b_in_range { IsWithin I.least I.greatest (point_of I.value b) }
-    requires c_in_range { IsWithin I.least I.greatest (point_of I.value c) }
-    ensures { result ≡ int_lt (pos 0) (turn (point_of I.value a) (point_of I.value b) (point_of I.value c)) }
+    requires a_in_range { IsWithin I.least I.greatest a }
+    requires b_in_range { IsWithin I.least I.greatest b }
+    requires c_in_range { IsWithin I.least I.greatest c }
+    ensures { result ≡ int_lt (pos 0) (turn a b c) }
 {
     orientation(a, b, c) == Ordering::Greater
 }
 
 // Whether `c` lies right of the way from `a` to `b`.
 pub(crate) fn is_right<I: OverlayInt>(a: IntPoint<I>, b: IntPoint<I>, c: IntPoint<I>) -> bool
-    requires a_in_range { IsWithin I.least I.greatest (point_of I.value a) }
-    requires b_in_range { IsWithin I.least I.greatest (point_of I.value b) }
-    requires c_in_range { IsWithin I.least I.greatest (point_of I.value c) }
-    ensures { result ≡ int_lt (turn (point_of I.value a) (point_of I.value b) (point_of I.value c)) (pos 0) }
+    requires a_in_range { IsWithin I.least I.greatest a }
+    requires b_in_range { IsWithin I.least I.greatest b }
+    requires c_in_range { IsWithin I.least I.greatest c }
+    ensures { result ≡ int_lt (turn a b c) (pos 0) }
 {
     orientation(a, b, c) == Ordering::Less
 }
 
 // Whether more than a quarter turn round `center` leads from `from` to the point.
 fn is_opposite<I: OverlayInt>(center: IntPoint<I>, from: IntPoint<I>, point: IntPoint<I>) -> bool
-    requires center_in_range { IsWithin I.least I.greatest (point_of I.value center) }
-    requires from_in_range { IsWithin I.least I.greatest (point_of I.value from) }
-    requires point_in_range { IsWithin I.least I.greatest (point_of I.value point) }
-    ensures { result ≡ int_lt (reach (point_of I.value center) (point_of I.value from) (point_of I.value point)) (pos 0) }
+    requires center_in_range { IsWithin I.least I.greatest center }
+    requires from_in_range { IsWithin I.least I.greatest from }
+    requires point_in_range { IsWithin I.least I.greatest point }
+    ensures { result ≡ int_lt (reach center from point) (pos 0) }
 {
     let reach = I::inner_product(
         difference(from.x, center.x),

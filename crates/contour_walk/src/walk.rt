@@ -6,28 +6,27 @@
 //! ring where it has many. Degenerate cases: nodes at which contours touch. It takes linear time, but d steps for each visit of a node
 //! of d links, or log d, one with another, where that has a ring.
 
-ghost use Rattle.std.specs.Prelude.{◌≡◌, ◌⊎◌, ℕ, ◌<◌, ◌≤◌, cond, Bool, true, false, not, List, [], ◌∷◌, ◌++◌, All, IfOk, OnOk, IfSome, IsOkUnless};
+ghost use Rattle.std.specs.Prelude.{◌≡◌, ◌⊎◌, ℕ, ◌<◌, ◌≤◌, true, false, List, [], ◌∷◌, ◌++◌, All, IfOk, OnOk, IfSome, IsOkUnless};
 ghost use Rattle.std.specs.Prelude.{Some, None, length, map, flat_map, slice_index_or};
-ghost use Rattle.plane_base.specs.Plane.{IsWithin, Point, Edge};
+ghost use Rattle.plane_base.specs.Plane.{IsWithin, Edge};
 ghost use Rattle.plane_base.specs.Counts.{Count, Entry};
 ghost use Rattle.plane_base.specs.Regions.{FillRule, OverlayRule as Rule};
 ghost use Rattle.plane_base.specs.Segments.{IsEdgeWithin};
-ghost use Rattle.plane_base.specs.Views.{point_of, points_of};
 ghost use Rattle.segment_arrangement.specs.Fills.{holds_above};
-ghost use Rattle.segment_arrangement.specs.Graphs.{ends_of, node_at};
-ghost use Rattle.segment_arrangement.specs.LinkViews.{link_edge_of, overlay_link_of, places_of, AreNodes, AreNumbered, IsNumbered};
+ghost use Rattle.segment_arrangement.specs.Graphs.{ends_of};
+ghost use Rattle.segment_arrangement.specs.LinkViews.{link_edge_of, overlay_link_of, AreNodes, AreNumbered, IsNumbered};
 ghost use Rattle.segment_arrangement.specs.RuleViews.{overlay_rule_of};
 ghost use Rattle.segment_arrangement.specs.SideLaws.{IsArrangement};
 ghost use Rattle.segment_arrangement.specs.declared.graph.VisitState.TheVariants.{Skipped};
 ghost use Rattle.contour_walk.specs.Extraction.{border_of_link, borders_of_links, AreLinksFor};
 ghost use Rattle.contour_walk.specs.LinearViews.{link_edges, link_borders, IsWalkable, spoke_list, spoke_if_any, id_if_any, IfBegun};
-ghost use Rattle.contour_walk.specs.LinearWalks.{is_left, left_of, left_places, StayPassed, spokes, spokes_from, spoke_at, top_of, upper_of};
+ghost use Rattle.contour_walk.specs.LinearWalks.{is_left, left_of, left_places, StayPassed, spokes, spoke_at, top_of};
 ghost use Rattle.contour_walk.specs.LinearWalks.{left_after, walk_within, left_within, contour_within, left_by_within, walks_by};
 ghost use Rattle.contour_walk.specs.Nearest.{Numbered, nearest};
 ghost use Rattle.contour_walk.specs.NodeRings.{AreRings};
 ghost use Rattle.contour_walk.specs.NearestViews.{numbered, IsNearest};
 ghost use Rattle.contour_walk.specs.ShapeViews.{contour_of, walks_of, ContoursAreWithin};
-ghost use Rattle.contour_walk.specs.Walks.{Border, same_point, far_end, is_same, top_link, between, walked};
+ghost use Rattle.contour_walk.specs.Walks.{Border, far_end, is_same, top_link, between, walked};
 
 use crate::contour::{Contour, is_same};
 use crate::nearest_vector::is_before;
@@ -37,7 +36,7 @@ use crate::walk::course::Course;
 use crate::walk::rings::{Rings, next_in_ring, place_in, ring_at, top_in_ring};
 use crate::walk::spoke::{Spoke, is_left, places_at, spoke_at};
 use plane_base::fault::Fault;
-use plane_base::int::OverlayInt;
+use plane_base::int::{IntNumber, OverlayInt};
 use plane_base::point::IntPoint;
 use plane_base::segment::{IdPoint, is_same_point};
 use segment_arrangement::fill::{CLIP_TOP, SUBJ_TOP, SegmentFill, has};
@@ -56,7 +55,7 @@ mod ways;
 
 /// The link that is met first of those that a search has seen, and by how much one turns until then.
 #[derive(Clone, Copy, Debug)]
-struct Nearest<I> {
+struct Nearest<I: IntNumber> {
     far: IntPoint<I>,
     place: usize,
     turned: Turned,
@@ -71,7 +70,7 @@ struct Manner {
 
 /// The first link of a walk, from one of its ends to the other.
 #[derive(Clone, Copy)]
-struct FirstStep<I> {
+struct FirstStep<I: IntNumber> {
     link: usize,
     begin: IdPoint<I>,
     to: IdPoint<I>,
@@ -79,7 +78,7 @@ struct FirstStep<I> {
 
 /// Where a walk stands: at a node, to which it came from a point by a link.
 #[derive(Clone, Copy)]
-struct Stand<I> {
+struct Stand<I: IntNumber> {
     at: IdPoint<I>,
     from: IntPoint<I>,
     by: usize,
@@ -87,7 +86,7 @@ struct Stand<I> {
 
 /// A turn round a node, one way, that begins at the point from which a walk came.
 #[derive(Clone, Copy)]
-struct Turning<I> {
+struct Turning<I: IntNumber> {
     clockwise: bool,
     v: IntPoint<I>,
     from: IntPoint<I>,
@@ -103,14 +102,14 @@ pub(crate) fn walk_boundary<I: OverlayInt, D>(
     states: &mut Vec<VisitState>,
     room: &mut Vec<IntPoint<I>>,
 ) -> Result<Vec<Contour<I>>, Fault>
-    requires in_range { All (λ l. IsEdgeWithin I.least I.greatest (link_edge_of I.value l)) graph.now.links.now }
-    requires nodes { AreNodes (link_edges I.value graph.now.links.now) graph.now.nodes.now }
-    requires numbers { AreNumbered I.value graph.now.links.now }
+    requires in_range { All (λ l. IsEdgeWithin I.least I.greatest (link_edge_of l)) graph.now.links.now }
+    requires nodes { AreNodes (link_edges graph.now.links.now) graph.now.nodes.now }
+    requires numbers { AreNumbered graph.now.links.now }
     requires links { (fill : FillRule) × (es : List (Entry Count)) × IsArrangement es ×
-        AreLinksFor fill (overlay_rule_of rule) es (map (overlay_link_of I.value) graph.now.links.now) }
-    ensures is { IfOk result (λ contours. walks_of I.value contours.items ≡
-        walks_by course (borders_of_links (overlay_rule_of rule) (map (overlay_link_of I.value) graph.now.links.now))) }
-    ensures in_range { IfOk result (λ contours. ContoursAreWithin I.least I.greatest (walks_of I.value contours.items)) }
+        AreLinksFor fill (overlay_rule_of rule) es (map overlay_link_of graph.now.links.now) }
+    ensures is { IfOk result (λ contours. walks_of contours.items ≡
+        walks_by course (borders_of_links (overlay_rule_of rule) (map overlay_link_of graph.now.links.now))) }
+    ensures in_range { IfOk result (λ contours. ContoursAreWithin I.least I.greatest (walks_of contours.items)) }
     ensures memory { IsOkUnless result Fault.Memory }
 {
     graph.filter_by_overlay_into(rule, states)?;
@@ -151,22 +150,22 @@ fn contour_from<I: OverlayInt, D>(
     states: &mut Vec<VisitState>,
     room: &mut Vec<IntPoint<I>>,
 ) -> Result<Contour<I>, Fault>
-    requires graph { IsWalkable I.value I.least I.greatest graph.now.links.now graph.now.nodes.now }
+    requires graph { IsWalkable I.least I.greatest graph.now.links.now graph.now.nodes.now }
     requires beside { length states.old.items ≡ length graph.now.links.now }
     requires within { first < length graph.now.links.now }
     requires left { is_left (slice_index_or states.old.items first Skipped) ≡ true }
-    requires rings { AreRings I.value (link_edges I.value graph.now.links.now) states.old.items rings.old.rings.items }
+    requires rings { AreRings (link_edges graph.now.links.now) states.old.items rings.old.rings.items }
     ensures is { IfOk result (λ c. (d : Border) → (l : Border) ×
-        (top_link (slice_index_or (link_borders I.value (overlay_rule_of rule) graph.now.links.now) first d).edge.a
-        (left_of (link_borders I.value (overlay_rule_of rule) graph.now.links.now) states.old.items) ≡ Some l) ×
-        (contour_of I.value c ≡ contour_within (length graph.now.links.now) course
-        (left_of (link_borders I.value (overlay_rule_of rule) graph.now.links.now) states.old.items) l) ×
-        (left_of (link_borders I.value (overlay_rule_of rule) graph.now.links.now) states.new.items
-        ≡ left_by_within (length graph.now.links.now) course (left_of (link_borders I.value (overlay_rule_of rule) graph.now.links.now) states.old.items) l)) }
+        (top_link (slice_index_or (link_borders (overlay_rule_of rule) graph.now.links.now) first d).edge.a
+        (left_of (link_borders (overlay_rule_of rule) graph.now.links.now) states.old.items) ≡ Some l) ×
+        (contour_of c ≡ contour_within (length graph.now.links.now) course
+        (left_of (link_borders (overlay_rule_of rule) graph.now.links.now) states.old.items) l) ×
+        (left_of (link_borders (overlay_rule_of rule) graph.now.links.now) states.new.items
+        ≡ left_by_within (length graph.now.links.now) course (left_of (link_borders (overlay_rule_of rule) graph.now.links.now) states.old.items) l)) }
     ensures beside { length states.new.items ≡ length graph.now.links.now }
     ensures passed { StayPassed states.old.items states.new.items }
-    ensures in_range { IfOk result (λ c. All (IsWithin I.least I.greatest) (points_of I.value c.points.items)) }
-    ensures rings { OnOk result (AreRings I.value (link_edges I.value graph.now.links.now) states.new.items rings.new.rings.items) }
+    ensures in_range { IfOk result (λ c. All (IsWithin I.least I.greatest) c.points.items) }
+    ensures rings { OnOk result (AreRings (link_edges graph.now.links.now) states.new.items rings.new.rings.items) }
     ensures memory { IsOkUnless result Fault.Memory }
 {
     let alloc = *room.allocator();
@@ -222,28 +221,28 @@ fn walk<I: OverlayInt, D>(
     states: &mut Vec<VisitState>,
     points: &mut Vec<IntPoint<I>>,
 ) -> Result<(), Fault>
-    requires graph { IsWalkable I.value I.least I.greatest graph.now.links.now graph.now.nodes.now }
+    requires graph { IsWalkable I.least I.greatest graph.now.links.now graph.now.nodes.now }
     requires beside { length states.old.items ≡ length graph.now.links.now }
     requires within { first.link < length graph.now.links.now }
     requires left { is_left (slice_index_or states.old.items first.link Skipped) ≡ true }
     requires passed { is_left manner.passed ≡ false }
-    requires joined { (d : Edge) → between (point_of I.value first.begin.point) (point_of I.value first.to.point) ≡
-        slice_index_or (link_edges I.value graph.now.links.now) first.link d }
-    requires begin_numbered { IsNumbered I.value (ends_of (link_edges I.value graph.now.links.now)) first.begin }
-    requires to_numbered { IsNumbered I.value (ends_of (link_edges I.value graph.now.links.now)) first.to }
-    requires begin_in_range { IsWithin I.least I.greatest (point_of I.value first.begin.point) }
-    requires to_in_range { IsWithin I.least I.greatest (point_of I.value first.to.point) }
-    requires rings { AreRings I.value (link_edges I.value graph.now.links.now) states.old.items rings.old.rings.items }
-    ensures is { (rule : Rule) → OnOk result (points_of I.value points.new.items ≡
-        walk_within (length graph.now.links.now) manner.clockwise (left_of (link_borders I.value rule graph.now.links.now) states.old.items)
-        (point_of I.value first.begin.point) (point_of I.value first.to.point)) }
-    ensures left { (rule : Rule) → OnOk result (left_of (link_borders I.value rule graph.now.links.now) states.new.items ≡
-        left_within (length graph.now.links.now) manner.clockwise (left_of (link_borders I.value rule graph.now.links.now) states.old.items)
-        (point_of I.value first.begin.point) (point_of I.value first.to.point)) }
+    requires joined { (d : Edge) → between first.begin.point first.to.point ≡
+        slice_index_or (link_edges graph.now.links.now) first.link d }
+    requires begin_numbered { IsNumbered (ends_of (link_edges graph.now.links.now)) first.begin }
+    requires to_numbered { IsNumbered (ends_of (link_edges graph.now.links.now)) first.to }
+    requires begin_in_range { IsWithin I.least I.greatest first.begin.point }
+    requires to_in_range { IsWithin I.least I.greatest first.to.point }
+    requires rings { AreRings (link_edges graph.now.links.now) states.old.items rings.old.rings.items }
+    ensures is { (rule : Rule) → OnOk result (points.new.items ≡
+        walk_within (length graph.now.links.now) manner.clockwise (left_of (link_borders rule graph.now.links.now) states.old.items)
+        first.begin.point first.to.point) }
+    ensures left { (rule : Rule) → OnOk result (left_of (link_borders rule graph.now.links.now) states.new.items ≡
+        left_within (length graph.now.links.now) manner.clockwise (left_of (link_borders rule graph.now.links.now) states.old.items)
+        first.begin.point first.to.point) }
     ensures beside { length states.new.items ≡ length graph.now.links.now }
     ensures stay { StayPassed states.old.items states.new.items }
-    ensures in_range { OnOk result (All (IsWithin I.least I.greatest) (points_of I.value points.new.items)) }
-    ensures rings { OnOk result (AreRings I.value (link_edges I.value graph.now.links.now) states.new.items rings.new.rings.items) }
+    ensures in_range { OnOk result (All (IsWithin I.least I.greatest) points.new.items) }
+    ensures rings { OnOk result (AreRings (link_edges graph.now.links.now) states.new.items rings.new.rings.items) }
     ensures memory { IsOkUnless result Fault.Memory }
 {
     let FirstStep {
@@ -285,25 +284,25 @@ fn walk_on<I: OverlayInt, D>(
     states: &mut Vec<VisitState>,
     points: &mut Vec<IntPoint<I>>,
 ) -> Result<(), Fault>
-    requires graph { IsWalkable I.value I.least I.greatest graph.now.links.now graph.now.nodes.now }
+    requires graph { IsWalkable I.least I.greatest graph.now.links.now graph.now.nodes.now }
     requires beside { length states.old.items ≡ length graph.now.links.now }
     requires within { last < length graph.now.links.now }
     requires passed { is_left manner.passed ≡ false }
-    requires numbered { IsNumbered I.value (ends_of (link_edges I.value graph.now.links.now)) stand.at }
-    requires v_in_range { IsWithin I.least I.greatest (point_of I.value stand.at.point) }
-    requires from_in_range { IsWithin I.least I.greatest (point_of I.value stand.from) }
-    requires points_in_range { All (IsWithin I.least I.greatest) (points_of I.value points.old.items) }
-    requires rings { AreRings I.value (link_edges I.value graph.now.links.now) states.old.items rings.old.rings.items }
-    ensures is { (rule : Rule) (d : Edge) → OnOk result (points_of I.value points.new.items ≡ points_of I.value points.old.items ++
-        walked manner.clockwise (slice_index_or (link_edges I.value graph.now.links.now) last d) (length graph.now.links.now)
-        (left_of (link_borders I.value rule graph.now.links.now) states.old.items) (point_of I.value stand.at.point) (point_of I.value stand.from)) }
-    ensures left { (rule : Rule) (d : Edge) → OnOk result (left_of (link_borders I.value rule graph.now.links.now) states.new.items ≡
-        left_after manner.clockwise (slice_index_or (link_edges I.value graph.now.links.now) last d) (length graph.now.links.now)
-        (left_of (link_borders I.value rule graph.now.links.now) states.old.items) (point_of I.value stand.at.point) (point_of I.value stand.from)) }
+    requires numbered { IsNumbered (ends_of (link_edges graph.now.links.now)) stand.at }
+    requires v_in_range { IsWithin I.least I.greatest stand.at.point }
+    requires from_in_range { IsWithin I.least I.greatest stand.from }
+    requires points_in_range { All (IsWithin I.least I.greatest) points.old.items }
+    requires rings { AreRings (link_edges graph.now.links.now) states.old.items rings.old.rings.items }
+    ensures is { (rule : Rule) (d : Edge) → OnOk result (points.new.items ≡ points.old.items ++
+        walked manner.clockwise (slice_index_or (link_edges graph.now.links.now) last d) (length graph.now.links.now)
+        (left_of (link_borders rule graph.now.links.now) states.old.items) stand.at.point stand.from) }
+    ensures left { (rule : Rule) (d : Edge) → OnOk result (left_of (link_borders rule graph.now.links.now) states.new.items ≡
+        left_after manner.clockwise (slice_index_or (link_edges graph.now.links.now) last d) (length graph.now.links.now)
+        (left_of (link_borders rule graph.now.links.now) states.old.items) stand.at.point stand.from) }
     ensures beside { length states.new.items ≡ length graph.now.links.now }
     ensures stay { StayPassed states.old.items states.new.items }
-    ensures in_range { OnOk result (All (IsWithin I.least I.greatest) (points_of I.value points.new.items)) }
-    ensures rings { OnOk result (AreRings I.value (link_edges I.value graph.now.links.now) states.new.items rings.new.rings.items) }
+    ensures in_range { OnOk result (All (IsWithin I.least I.greatest) points.new.items) }
+    ensures rings { OnOk result (AreRings (link_edges graph.now.links.now) states.new.items rings.new.rings.items) }
     ensures memory { IsOkUnless result Fault.Memory }
 {
     let mut at = stand.at;
@@ -327,7 +326,7 @@ fn walk_on<I: OverlayInt, D>(
 
 // The other end of a link.
 fn far_end<I: OverlayInt, D>(v: IntPoint<I>, link: &OverlayLink<I, D>) -> IdPoint<I>
-    ensures is { point_of I.value result.point ≡ far_end (point_of I.value v) (link_edge_of I.value link.now) }
+    ensures is { result.point ≡ far_end v (link_edge_of link.now) }
     ensures one { (result ≡ link.now.a) ⊎ (result ≡ link.now.b) }
 {
     if is_same_point(link.a.point, v) {
@@ -349,16 +348,16 @@ fn next_link<I: OverlayInt, D>(
     from: IntPoint<I>,
     by: usize,
 ) -> Option<usize>
-    requires graph { IsWalkable I.value I.least I.greatest graph.now.links.now graph.now.nodes.now }
+    requires graph { IsWalkable I.least I.greatest graph.now.links.now graph.now.nodes.now }
     requires beside { length states.now ≡ length graph.now.links.now }
-    requires numbered { IsNumbered I.value (ends_of (link_edges I.value graph.now.links.now)) at }
-    requires at_in_range { IsWithin I.least I.greatest (point_of I.value at.point) }
-    requires from_in_range { IsWithin I.least I.greatest (point_of I.value from) }
-    requires rings { AreRings I.value (link_edges I.value graph.now.links.now) states.now rings.old.rings.items }
-    ensures is { result ≡ id_if_any (nearest clockwise (point_of I.value at.point) (point_of I.value from)
-        (spokes (point_of I.value at.point) (link_edges I.value graph.now.links.now) states.now)) }
+    requires numbered { IsNumbered (ends_of (link_edges graph.now.links.now)) at }
+    requires at_in_range { IsWithin I.least I.greatest at.point }
+    requires from_in_range { IsWithin I.least I.greatest from }
+    requires rings { AreRings (link_edges graph.now.links.now) states.now rings.old.rings.items }
+    ensures is { result ≡ id_if_any (nearest clockwise at.point from
+        (spokes at.point (link_edges graph.now.links.now) states.now)) }
     ensures inside { IfSome result (λ next. next < length graph.now.links.now) }
-    ensures rings { AreRings I.value (link_edges I.value graph.now.links.now) states.now rings.new.rings.items }
+    ensures rings { AreRings (link_edges graph.now.links.now) states.now rings.new.rings.items }
 {
     let Some(number) = ring_at(rings, at) else {
         return next_at_node(clockwise, graph, states, at, from);
@@ -378,13 +377,13 @@ fn next_at_node<I: OverlayInt, D>(
     at: IdPoint<I>,
     from: IntPoint<I>,
 ) -> Option<usize>
-    requires graph { IsWalkable I.value I.least I.greatest graph.now.links.now graph.now.nodes.now }
+    requires graph { IsWalkable I.least I.greatest graph.now.links.now graph.now.nodes.now }
     requires beside { length states.now ≡ length graph.now.links.now }
-    requires numbered { IsNumbered I.value (ends_of (link_edges I.value graph.now.links.now)) at }
-    requires at_in_range { IsWithin I.least I.greatest (point_of I.value at.point) }
-    requires from_in_range { IsWithin I.least I.greatest (point_of I.value from) }
-    ensures is { result ≡ id_if_any (nearest clockwise (point_of I.value at.point) (point_of I.value from)
-        (spokes (point_of I.value at.point) (link_edges I.value graph.now.links.now) states.now)) }
+    requires numbered { IsNumbered (ends_of (link_edges graph.now.links.now)) at }
+    requires at_in_range { IsWithin I.least I.greatest at.point }
+    requires from_in_range { IsWithin I.least I.greatest from }
+    ensures is { result ≡ id_if_any (nearest clockwise at.point from
+        (spokes at.point (link_edges graph.now.links.now) states.now)) }
     ensures inside { IfSome result (λ next. next < length graph.now.links.now) }
 {
     let Some(only) = only_left(states, places_at(graph, at)) else {
@@ -420,13 +419,13 @@ fn next_by_search<I: OverlayInt, D>(
     at: IdPoint<I>,
     from: IntPoint<I>,
 ) -> Option<usize>
-    requires graph { IsWalkable I.value I.least I.greatest graph.now.links.now graph.now.nodes.now }
+    requires graph { IsWalkable I.least I.greatest graph.now.links.now graph.now.nodes.now }
     requires beside { length states.now ≡ length graph.now.links.now }
-    requires numbered { IsNumbered I.value (ends_of (link_edges I.value graph.now.links.now)) at }
-    requires at_in_range { IsWithin I.least I.greatest (point_of I.value at.point) }
-    requires from_in_range { IsWithin I.least I.greatest (point_of I.value from) }
-    ensures is { result ≡ id_if_any (nearest clockwise (point_of I.value at.point) (point_of I.value from)
-        (spokes (point_of I.value at.point) (link_edges I.value graph.now.links.now) states.now)) }
+    requires numbered { IsNumbered (ends_of (link_edges graph.now.links.now)) at }
+    requires at_in_range { IsWithin I.least I.greatest at.point }
+    requires from_in_range { IsWithin I.least I.greatest from }
+    ensures is { result ≡ id_if_any (nearest clockwise at.point from
+        (spokes at.point (link_edges graph.now.links.now) states.now)) }
     ensures inside { IfSome result (λ next. next < length graph.now.links.now) }
 {
     let links = graph.links();
@@ -453,18 +452,18 @@ fn search<I: OverlayInt, D>(
     starts: bool,
     behind: Option<Nearest<I>>,
 ) -> Option<Nearest<I>>
-    requires in_range { All (λ l. IsEdgeWithin I.least I.greatest (link_edge_of I.value l)) links.now }
+    requires in_range { All (λ l. IsEdgeWithin I.least I.greatest (link_edge_of l)) links.now }
     requires beside { length states.now ≡ length links.now }
     requires inside { All (λ place. place < length links.now) places.now }
-    requires v_in_range { IsWithin I.least I.greatest (point_of I.value turning.v) }
-    requires from_in_range { IsWithin I.least I.greatest (point_of I.value turning.from) }
-    requires behind_in_range { IfSome behind (λ n. IsWithin I.least I.greatest (point_of I.value n.far)) }
+    requires v_in_range { IsWithin I.least I.greatest turning.v }
+    requires from_in_range { IsWithin I.least I.greatest turning.from }
+    requires behind_in_range { IfSome behind (λ n. IsWithin I.least I.greatest n.far) }
     ensures is { (seen : List Numbered) →
-        IfBegun behind seen (IsNearest I.value turning.clockwise (point_of I.value turning.v) (point_of I.value turning.from) seen) →
-        IfBegun result (flat_map (spoke_at starts (point_of I.value turning.v) (link_edges I.value links.now) states.now) places.now ++ seen)
-        (IsNearest I.value turning.clockwise (point_of I.value turning.v) (point_of I.value turning.from)
-        (flat_map (spoke_at starts (point_of I.value turning.v) (link_edges I.value links.now) states.now) places.now ++ seen)) }
-    ensures in_range { IfSome result (λ n. IsWithin I.least I.greatest (point_of I.value n.far)) }
+        IfBegun behind seen (IsNearest turning.clockwise turning.v turning.from seen) →
+        IfBegun result (flat_map (spoke_at starts turning.v (link_edges links.now) states.now) places.now ++ seen)
+        (IsNearest turning.clockwise turning.v turning.from
+        (flat_map (spoke_at starts turning.v (link_edges links.now) states.now) places.now ++ seen)) }
+    ensures in_range { IfSome result (λ n. IsWithin I.least I.greatest n.far) }
 {
     let mut first = behind;
     let n = places.len();
@@ -486,14 +485,14 @@ fn nearer<I: OverlayInt>(
     spoke: Spoke<I>,
     behind: Option<Nearest<I>>,
 ) -> Nearest<I>
-    requires v_in_range { IsWithin I.least I.greatest (point_of I.value v) }
-    requires from_in_range { IsWithin I.least I.greatest (point_of I.value from) }
-    requires spoke_in_range { IsWithin I.least I.greatest (point_of I.value spoke.far) }
-    requires behind_in_range { IfSome behind (λ n. IsWithin I.least I.greatest (point_of I.value n.far)) }
+    requires v_in_range { IsWithin I.least I.greatest v }
+    requires from_in_range { IsWithin I.least I.greatest from }
+    requires spoke_in_range { IsWithin I.least I.greatest spoke.far }
+    requires behind_in_range { IfSome behind (λ n. IsWithin I.least I.greatest n.far) }
     ensures is { (seen : List Numbered) →
-        IfBegun behind seen (IsNearest I.value clockwise (point_of I.value v) (point_of I.value from) seen) →
-        IsNearest I.value clockwise (point_of I.value v) (point_of I.value from) (numbered I.value spoke.far spoke.place ∷ seen) result }
-    ensures in_range { IsWithin I.least I.greatest (point_of I.value result.far) }
+        IfBegun behind seen (IsNearest clockwise v from seen) →
+        IsNearest clockwise v from (numbered spoke.far spoke.place ∷ seen) result }
+    ensures in_range { IsWithin I.least I.greatest result.far }
 {
     let Spoke { far, place } = spoke;
     let turned = half_turns(clockwise, v, from, far);
@@ -513,18 +512,18 @@ fn top_link<I: OverlayInt, D>(
     states: &[VisitState],
     first: usize,
 ) -> usize
-    requires graph { IsWalkable I.value I.least I.greatest graph.now.links.now graph.now.nodes.now }
+    requires graph { IsWalkable I.least I.greatest graph.now.links.now graph.now.nodes.now }
     requires beside { length states.now ≡ length graph.now.links.now }
     requires within { first < length graph.now.links.now }
     requires left { is_left (slice_index_or states.now first Skipped) ≡ true }
-    requires rings { AreRings I.value (link_edges I.value graph.now.links.now) states.now rings.old.rings.items }
+    requires rings { AreRings (link_edges graph.now.links.now) states.now rings.old.rings.items }
     ensures inside { result < length graph.now.links.now }
     ensures left { is_left (slice_index_or states.now result Skipped) ≡ true }
     ensures top { (rule : Rule) (d : Border) (k : OverlayLink I D) →
-        top_link (slice_index_or (link_borders I.value rule graph.now.links.now) first d).edge.a
-        (left_of (link_borders I.value rule graph.now.links.now) states.now)
-        ≡ Some (border_of_link rule (overlay_link_of I.value (slice_index_or graph.now.links.now result k))) }
-    ensures rings { AreRings I.value (link_edges I.value graph.now.links.now) states.now rings.new.rings.items }
+        top_link (slice_index_or (link_borders rule graph.now.links.now) first d).edge.a
+        (left_of (link_borders rule graph.now.links.now) states.now)
+        ≡ Some (border_of_link rule (overlay_link_of (slice_index_or graph.now.links.now result k))) }
+    ensures rings { AreRings (link_edges graph.now.links.now) states.now rings.new.rings.items }
 {
     let Some(number) = ring_at(rings, graph.links()[first].a) else {
         return top_by_search(graph, states, first);
@@ -541,16 +540,16 @@ fn top_by_search<I: OverlayInt, D>(
     states: &[VisitState],
     first: usize,
 ) -> usize
-    requires graph { IsWalkable I.value I.least I.greatest graph.now.links.now graph.now.nodes.now }
+    requires graph { IsWalkable I.least I.greatest graph.now.links.now graph.now.nodes.now }
     requires beside { length states.now ≡ length graph.now.links.now }
     requires within { first < length graph.now.links.now }
     requires left { is_left (slice_index_or states.now first Skipped) ≡ true }
     ensures inside { result < length graph.now.links.now }
     ensures left { is_left (slice_index_or states.now result Skipped) ≡ true }
     ensures top { (rule : Rule) (d : Border) (k : OverlayLink I D) →
-        top_link (slice_index_or (link_borders I.value rule graph.now.links.now) first d).edge.a
-        (left_of (link_borders I.value rule graph.now.links.now) states.now)
-        ≡ Some (border_of_link rule (overlay_link_of I.value (slice_index_or graph.now.links.now result k))) }
+        top_link (slice_index_or (link_borders rule graph.now.links.now) first d).edge.a
+        (left_of (link_borders rule graph.now.links.now) states.now)
+        ≡ Some (border_of_link rule (overlay_link_of (slice_index_or graph.now.links.now result k))) }
 {
     let links = graph.links();
     let a = links[first].a;
@@ -568,12 +567,12 @@ fn top_among<I: OverlayInt, D>(
     places: &[usize],
     v: IntPoint<I>,
 ) -> Option<Spoke<I>>
-    requires in_range { All (λ l. IsEdgeWithin I.least I.greatest (link_edge_of I.value l)) links.now }
+    requires in_range { All (λ l. IsEdgeWithin I.least I.greatest (link_edge_of l)) links.now }
     requires beside { length states.now ≡ length links.now }
     requires inside { All (λ place. place < length links.now) places.now }
-    requires v_in_range { IsWithin I.least I.greatest (point_of I.value v) }
-    ensures { spoke_if_any I.value result ≡
-        top_of (point_of I.value v) (flat_map (spoke_at true (point_of I.value v) (link_edges I.value links.now) states.now) places.now) }
+    requires v_in_range { IsWithin I.least I.greatest v }
+    ensures { spoke_if_any result ≡
+        top_of v (flat_map (spoke_at true v (link_edges links.now) states.now) places.now) }
 {
     let mut top = None;
     let n = places.len();
@@ -590,12 +589,12 @@ fn upper<I: OverlayInt>(
     spoke: Option<Spoke<I>>,
     top: Option<Spoke<I>>,
 ) -> Option<Spoke<I>>
-    requires v_in_range { IsWithin I.least I.greatest (point_of I.value v) }
-    requires spoke_in_range { IfSome spoke (λ s. IsWithin I.least I.greatest (point_of I.value s.far)) }
-    requires top_in_range { IfSome top (λ s. IsWithin I.least I.greatest (point_of I.value s.far)) }
-    ensures is { (behind : List Numbered) → spoke_if_any I.value top ≡ top_of (point_of I.value v) behind →
-        spoke_if_any I.value result ≡ top_of (point_of I.value v) (spoke_list I.value spoke ++ behind) }
-    ensures in_range { IfSome result (λ s. IsWithin I.least I.greatest (point_of I.value s.far)) }
+    requires v_in_range { IsWithin I.least I.greatest v }
+    requires spoke_in_range { IfSome spoke (λ s. IsWithin I.least I.greatest s.far) }
+    requires top_in_range { IfSome top (λ s. IsWithin I.least I.greatest s.far) }
+    ensures is { (behind : List Numbered) → spoke_if_any top ≡ top_of v behind →
+        spoke_if_any result ≡ top_of v (spoke_list spoke ++ behind) }
+    ensures in_range { IfSome result (λ s. IsWithin I.least I.greatest s.far) }
 {
     let Some(one) = spoke else {
         return top;

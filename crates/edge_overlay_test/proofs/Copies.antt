@@ -1,5 +1,5 @@
 -- What the copies of a slice's elements are.
-use Rattle.std.proofs.Common.{◌≡◌, List, ◌++◌, ◌∙◌, ap, length, map, map-id, subst}
+use Rattle.std.proofs.Common.{◌++◌, ◌∙◌, ap, length, map-id, subst}
 use Rattle.std.specs.Iterator.{HoldsAlong}
 use Rattle.std.specs.Iterator.Adapters.{copied_source}
 use Rattle.std.specs.List.{All}

@@ -7,7 +7,7 @@ use crate::words::{
 use contour_walk::options::IntOverlayOptions;
 use contour_walk::vector::edge::{DataVectorEdge, DataVectorPath, VectorPath, VectorShape};
 use plane_base::fault::Fault;
-use plane_base::int::OverlayInt;
+use plane_base::int::{IntNumber, OverlayInt};
 use plane_base::point::IntPoint;
 use plane_base::range::all_in_range;
 use polygon_overlay::overlay::Overlay;
@@ -22,7 +22,7 @@ type Edge<I> = DataVectorEdge<I, ()>;
 
 // A contour that is given to the subject or to the clip.
 #[derive(Drop)]
-struct Contour<I> {
+struct Contour<I: IntNumber> {
     shape_type: ShapeType,
     points: Vec<IntPoint<I>>,
 }

@@ -4,7 +4,7 @@ use crate::colour::{Colour, colour_from};
 use crate::words::point_from;
 use contour_walk::vector::edge::{DataVectorEdge, DataVectorPath, DataVectorShape, SideFill};
 use plane_base::fault::Fault;
-use plane_base::int::OverlayInt;
+use plane_base::int::{IntNumber, OverlayInt};
 use plane_base::range::is_in_range;
 use polygon_overlay::edge_overlay::{EdgeOverlay, InputEdge};
 use row_words::Words;
@@ -22,7 +22,7 @@ pub type Edge<I> = DataVectorEdge<I, Colour>;
 
 /// An edge that is given to the subject or to the clip.
 #[derive(Clone, Copy)]
-pub struct Given<I> {
+pub struct Given<I: IntNumber> {
     pub shape_type: ShapeType,
     pub edge: InputEdge<I, Colour>,
 }

@@ -6,7 +6,7 @@ use crate::held::{Ends, RowInt};
 use crate::words::{Query, STRATEGIES, point_from, query_from};
 use contour_walk::vector::edge::DataVectorShape;
 use plane_base::fault::Fault;
-use plane_base::int::OverlayInt;
+use plane_base::int::{IntNumber, OverlayInt};
 use row_words::Words;
 use segment_split::solver::{Solver, Strategy};
 use std::alloc::Global;
@@ -77,7 +77,7 @@ fn are_edges<I: OverlayInt>(
 
 // What is told of edges: the ends of those that are held after a query, the boundary's edges, and the shapes.
 #[derive(Drop)]
-struct Wanted<I> {
+struct Wanted<I: IntNumber> {
     pairs: Vec<Ends<I>>,
     listed: Vec<Edge<I>>,
     shapes: Shapes<I>,

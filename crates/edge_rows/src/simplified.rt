@@ -13,7 +13,7 @@ use row_words::Words;
 
 /// Whether both ends of each edge are in range.
 pub fn are_edges_within<I: OverlayInt, D: Copy>(edges: &[DataVectorEdge<I, D>]) -> bool
-    ensures { IsTrue result → All (IsVectorWithin I.value I.least I.greatest) edges.now }
+    ensures { IsTrue result → All (IsVectorWithin I.least I.greatest) edges.now }
 {
     for edge in edges {
         if !is_in_range(edge.a) || !is_in_range(edge.b) {
@@ -25,7 +25,7 @@ pub fn are_edges_within<I: OverlayInt, D: Copy>(edges: &[DataVectorEdge<I, D>]) 
 
 /// Whether both ends of each edge of each path are in range.
 pub fn are_paths_within<I: OverlayInt, D: Copy>(paths: &[DataVectorPath<I, D>]) -> bool
-    ensures { IsTrue result → All (All (IsVectorWithin I.value I.least I.greatest)) (edges_of_paths paths.now) }
+    ensures { IsTrue result → All (All (IsVectorWithin I.least I.greatest)) (edges_of_paths paths.now) }
 {
     for path in paths {
         if !are_edges_within(&path.edges) {

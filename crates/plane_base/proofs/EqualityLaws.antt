@@ -3,8 +3,7 @@ use Rattle.std.proofs.Common.{◌≡◌, ℕ, ℤ, Bool, true, false, ◌&&◌, 
 use Rattle.std.specs.Cmp.{IsEquivalence}
 use Rattle.std.specs.Cmp.Lexicographic.{pointwise}
 use Rattle.std.specs.declared.ops.Range.{Range}
-use Rattle.plane_base.specs.declared.point.IntPoint.{IntPoint}
-use Rattle.plane_base.specs.declared.segment.XSegment.{XSegment}
+use Rattle.plane_base.specs.Plane.{Edge, Point}
 use Rattle.plane_base.specs.declared.segment.LineRange.{LineRange}
 use Rattle.plane_base.specs.declared.segment.IdPoint.{IdPoint}
 use Rattle.plane_base.specs.declared.path.IntPath.{IntPath}
@@ -32,31 +31,14 @@ module _ {D : Type 0} (value : D → ℤ) (cmp : D → D → Ordering) (eq : D �
     λ e. rw e (laws.refl y),
   )
 
+-- so of whole numbers, each the value of a coordinate
+pub whole_tells : {D : Type 0} (value : D → ℤ) (of_value : ℤ → D) → ((n : ℤ) → value (of_value n) ≡ n) → (eq : D → D → Bool) → Tells eq → Tells (λ m n. eq (of_value m) (of_value n))
+whole_tells value of_value reaches eq tells m n = (
+  λ e. sym (reaches m) ∙ (ap value ((tells (of_value m) (of_value n)).0 e) ∙ reaches n),
+  λ e. (tells (of_value m) (of_value n)).1 (ap of_value e),
+)
+
 module _ {D : Type 0} (eq : D → D → Bool) (tells : Tells eq) where
-  abbrev pub point_eq : IntPoint D → IntPoint D → Bool
-  point_eq a b = eq a.x b.x && eq a.y b.y
-
-  pub point_tells : Tells point_eq
-  point_tells a b = (
-    λ e. let both = both_true (eq a.x b.x) (eq a.y b.y) e in
-        let x = (tells a.x b.x).0 both.0 in
-        let y = (tells a.y b.y).0 both.1 in
-        λ i. record { x = x i; y = y i },
-    λ e. true_both (eq a.x b.x) (eq a.y b.y) ((tells a.x b.x).1 (ap (λ p. p.x) e)) ((tells a.y b.y).1 (ap (λ p. p.y) e)),
-  )
-
-  abbrev pub segment_eq : XSegment D → XSegment D → Bool
-  segment_eq s t = point_eq s.a t.a && point_eq s.b t.b
-
-  pub segment_tells : Tells segment_eq
-  segment_tells s t = (
-    λ e. let both = both_true (point_eq s.a t.a) (point_eq s.b t.b) e in
-        let a = (point_tells s.a t.a).0 both.0 in
-        let b = (point_tells s.b t.b).0 both.1 in
-        λ i. record { a = a i; b = b i },
-    λ e. true_both (point_eq s.a t.a) (point_eq s.b t.b) ((point_tells s.a t.a).1 (ap (λ p. p.a) e)) ((point_tells s.b t.b).1 (ap (λ p. p.b) e)),
-  )
-
   abbrev pub range_eq : LineRange D → LineRange D → Bool
   range_eq a b = eq a.min b.min && eq a.max b.max
 
@@ -69,10 +51,35 @@ module _ {D : Type 0} (eq : D → D → Bool) (tells : Tells eq) where
     λ e. true_both (eq a.min b.min) (eq a.max b.max) ((tells a.min b.min).1 (ap (λ p. p.min) e)) ((tells a.max b.max).1 (ap (λ p. p.max) e)),
   )
 
-  abbrev pub numbered_eq : IdPoint D → IdPoint D → Bool
+module _ (eq : ℤ → ℤ → Bool) (tells : Tells eq) where
+  abbrev pub point_eq : Point → Point → Bool
+  point_eq a b = eq a.x b.x && eq a.y b.y
+
+  pub point_tells : Tells point_eq
+  point_tells a b = (
+    λ e. let both = both_true (eq a.x b.x) (eq a.y b.y) e in
+        let x = (tells a.x b.x).0 both.0 in
+        let y = (tells a.y b.y).0 both.1 in
+        λ i. record { x = x i; y = y i },
+    λ e. true_both (eq a.x b.x) (eq a.y b.y) ((tells a.x b.x).1 (ap (λ p. p.x) e)) ((tells a.y b.y).1 (ap (λ p. p.y) e)),
+  )
+
+  abbrev pub segment_eq : Edge → Edge → Bool
+  segment_eq s t = point_eq s.a t.a && point_eq s.b t.b
+
+  pub segment_tells : Tells segment_eq
+  segment_tells s t = (
+    λ e. let both = both_true (point_eq s.a t.a) (point_eq s.b t.b) e in
+        let a = (point_tells s.a t.a).0 both.0 in
+        let b = (point_tells s.b t.b).0 both.1 in
+        λ i. record { a = a i; b = b i },
+    λ e. true_both (point_eq s.a t.a) (point_eq s.b t.b) ((point_tells s.a t.a).1 (ap (λ p. p.a) e)) ((point_tells s.b t.b).1 (ap (λ p. p.b) e)),
+  )
+
+  abbrev pub numbered_eq : {I : Type 0} → IdPoint I → IdPoint I → Bool
   numbered_eq a b = nat_eq a.id b.id && point_eq a.point b.point
 
-  pub numbered_tells : Tells numbered_eq
+  pub numbered_tells : {I : Type 0} → Tells (numbered_eq {I = I})
   numbered_tells a b = (
     λ e. let both = both_true (nat_eq a.id b.id) (point_eq a.point b.point) e in
         let id = (nat_tells a.id b.id).0 both.0 in
@@ -127,20 +134,20 @@ ranges_tell xs ys =
 
 -- ---- paths, and lists of them
 
-module _ {D : Type 0} (eq : D → D → Bool) (tells : Tells eq) where
-  pub points_tell : (xs ys : List (IntPoint D)) → (pointwise (point_eq eq tells) xs ys ≡ true) ↔ (xs ≡ ys)
+module _ (eq : ℤ → ℤ → Bool) (tells : Tells eq) where
+  pub points_tell : (xs ys : List Point) → (pointwise (point_eq eq tells) xs ys ≡ true) ↔ (xs ≡ ys)
   points_tell xs ys =
       let both = lists_tell (point_eq eq tells) (λ p. p) (point_tells eq tells) xs ys in
       (λ e. sym (map_itself xs) ∙ (both.0 e ∙ map_itself ys), λ e. both.1 (ap (map (λ p. p)) e))
 
-  abbrev pub path_eq : IntPath D → IntPath D → Bool
+  abbrev pub path_eq : {I : Type 0} → IntPath I → IntPath I → Bool
   path_eq a b = pointwise (point_eq eq tells) a.points.items b.points.items
 
-  pub paths_tell : (xs ys : List (IntPath D)) → (pointwise path_eq xs ys ≡ true) ↔ (map (λ c. c.points.items) xs ≡ map (λ c. c.points.items) ys)
+  pub paths_tell : {I : Type 0} (xs ys : List (IntPath I)) → (pointwise path_eq xs ys ≡ true) ↔ (map (λ c. c.points.items) xs ≡ map (λ c. c.points.items) ys)
   paths_tell xs ys = lists_tell path_eq (λ c. c.points.items) (λ a b. points_tell a.points.items b.points.items) xs ys
 
-  abbrev pub shape_eq : IntShape D → IntShape D → Bool
+  abbrev pub shape_eq : {I : Type 0} → IntShape I → IntShape I → Bool
   shape_eq a b = pointwise path_eq a.contours.items b.contours.items
 
-  pub shapes_tell : (xs ys : List (IntShape D)) → (pointwise shape_eq xs ys ≡ true) ↔ (map (λ s. map (λ c. c.points.items) s.contours.items) xs ≡ map (λ s. map (λ c. c.points.items) s.contours.items) ys)
+  pub shapes_tell : {I : Type 0} (xs ys : List (IntShape I)) → (pointwise shape_eq xs ys ≡ true) ↔ (map (λ s. map (λ c. c.points.items) s.contours.items) xs ≡ map (λ s. map (λ c. c.points.items) s.contours.items) ys)
   shapes_tell xs ys = lists_tell shape_eq (λ s. map (λ c. c.points.items) s.contours.items) (λ a b. paths_tell a.contours.items b.contours.items) xs ys

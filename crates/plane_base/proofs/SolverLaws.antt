@@ -1,16 +1,15 @@
 -- What the solver's answer says of marks.
-use Rattle.std.proofs.Common.{◌≡◌, ◌≢◌, ◌↔◌, ℤ, true, cond, Option, Some, None, refl, sym, ap, ◌∙◌}
+use Rattle.std.proofs.Common.{◌≡◌, ◌≢◌, ◌↔◌, true, cond, Option, Some, None, refl, sym, ap, ◌∙◌}
 use Rattle.std.specs.Prelude.{IsNone}
 use Rattle.std.specs.declared.cmp.Ordering.{Ordering}
 use Rattle.std.specs.declared.cmp.Ordering.TheVariants.{Less, Equal, Greater}
 use Rattle.std.specs.Ordering.{is_gt}
-use Rattle.plane_base.specs.Plane.{Edge, edge_order}
+use Rattle.plane_base.specs.Plane.{Point, Edge, edge_order}
 use Rattle.plane_base.specs.Segments.{parted}
-use Rattle.plane_base.specs.Crossing.{Meeting, apart, pure, target_end, other_end, overlay, cross_meeting, late_meeting, meeting_by, exchanged, laid_by, marks_by}
-use Rattle.plane_base.specs.Views.{point_of}
+use Rattle.plane_base.specs.Crossing.{Meeting, apart, overlay, cross_meeting, late_meeting, meeting_by, exchanged, laid_by, marks_by}
 use Rattle.plane_base.specs.declared.rounding.Rounding.{Rounding}
 use Rattle.plane_base.specs.declared.rounding.Rounding.TheVariants.{Near, Nearest}
-use Rattle.plane_base.specs.SegmentViews.{found_of, meeting_of}
+use Rattle.plane_base.specs.SegmentViews.{found_as, meeting_of}
 use Rattle.plane_base.specs.declared.cross.CrossResult.{CrossResult}
 use Rattle.plane_base.specs.declared.cross.CrossKind.{CrossKind}
 use Rattle.plane_base.specs.declared.cross.CrossKind.TheVariants.{Pure, TargetEnd, OtherEnd, Overlay}
@@ -30,29 +29,26 @@ pub marks_of : (rounding : Rounding) (s t : Edge) (m : Meeting) → edge_order s
 marks_of (Near radius) s t m h e = ap (laid_by s t) e ∙ lesser_first (λ s t. cross_meeting s t radius) s t h
 marks_of Nearest s t m h e = ap (laid_by s t) e ∙ lesser_first late_meeting s t h
 
-module _ {I : Type 0} (value : I → ℤ) where
-  found_some : (r : CrossResult I) → found_of value r ≢ apart
-  found_some r = by r.kind
-    where
-      by : (k : CrossKind) → elim k [ Pure ↦ pure (point_of value r.point) | TargetEnd ↦ target_end (point_of value r.point) | OtherEnd ↦ other_end (point_of value r.point) | Overlay ↦ overlay (point_of value r.point) ] ≢ apart
-      by Pure e = absurd (cc)
-      by TargetEnd e = absurd (cc)
-      by OtherEnd e = absurd (cc)
-      by Overlay e = absurd (cc)
+found_some : (kind : CrossKind) (p : Point) → found_as kind p ≢ apart
+found_some Pure p e = absurd (cc)
+found_some TargetEnd p e = absurd (cc)
+found_some OtherEnd p e = absurd (cc)
+found_some Overlay p e = absurd (cc)
 
-  none_tells : (r : Option (CrossResult I)) → IsNone r → meeting_of value r ≡ apart
+module _ {I : Type 0} where
+  none_tells : (r : Option (CrossResult I)) → IsNone r → meeting_of r ≡ apart
   none_tells None h = refl
   none_tells (Some r) h = absurd (cc)
 
-  apart_tells : (r : Option (CrossResult I)) → meeting_of value r ≡ apart → IsNone r
+  apart_tells : (r : Option (CrossResult I)) → meeting_of r ≡ apart → IsNone r
   apart_tells None h = refl
-  apart_tells (Some r) h = absurd (found_some r h)
+  apart_tells (Some r) h = absurd (found_some r.kind r.point h)
 
-  pub none_of : (rounding : Rounding) (s t : Edge) (r : Option (CrossResult I)) → meeting_of value r ≡ meeting_by rounding s t → IsNone r ↔ (parted s t ≡ true)
+  pub none_of : (rounding : Rounding) (s t : Edge) (r : Option (CrossResult I)) → meeting_of r ≡ meeting_by rounding s t → IsNone r ↔ (parted s t ≡ true)
   none_of (Near radius) s t r e =
       ((λ h. parted_of_apart s t radius (sym e ∙ none_tells r h)), (λ h. apart_tells r (e ∙ apart_of_parted s t radius h)))
   none_of Nearest s t r e =
       ((λ h. late_parted_of_apart s t (sym e ∙ none_tells r h)), (λ h. apart_tells r (e ∙ late_apart_of_parted s t h)))
 
-  pub overlay_of : (r : Option (CrossResult I)) (q : CrossResult I) → r ≡ Some q → q.kind ≡ Overlay → meeting_of value r ≡ overlay (point_of value q.point)
-  overlay_of r q e k = ap (meeting_of value) e ∙ ap (λ kind. found_of value (record { kind = kind; point = q.point })) k
+  pub overlay_of : (r : Option (CrossResult I)) (q : CrossResult I) → r ≡ Some q → q.kind ≡ Overlay → meeting_of r ≡ overlay q.point
+  overlay_of r q e k = ap meeting_of e ∙ ap (λ kind. found_as kind q.point) k

@@ -1,19 +1,18 @@
 -- What contracts see of the marks of a pair.
 use Rattle.std.specs.Prelude.{ℤ, List, [], ◌∷◌, All}
 use Rattle.plane_base.specs.Plane.{Point, IsWithin}
-use Rattle.plane_base.specs.Views.{point_of}
 use Rattle.plane_base.specs.Crossing.{Marks}
 use Rattle.plane_base.specs.declared.meet.marks.EndMarks.{EndMarks}
 use Rattle.plane_base.specs.declared.meet.marks.EndMarks.TheVariants.{None, One, Two}
 use Rattle.plane_base.specs.declared.meet.marks.PairMarks.{PairMarks}
 
-abbrev pub mark_list : {I : Type 0} → (I → ℤ) → EndMarks I → List Point
-mark_list value None = []
-mark_list value (One p) = point_of value p ∷ []
-mark_list value (Two p q) = point_of value p ∷ point_of value q ∷ []
+abbrev pub mark_list : {I : Type 0} → EndMarks I → List Point
+mark_list None = []
+mark_list (One p) = p ∷ []
+mark_list (Two p q) = p ∷ q ∷ []
 
-abbrev pub pair_marks_of : {I : Type 0} → (I → ℤ) → PairMarks I → Marks
-pair_marks_of value m = record { first = mark_list value m.target; second = mark_list value m.other }
+abbrev pub pair_marks_of : {I : Type 0} → PairMarks I → Marks
+pair_marks_of m = record { first = mark_list m.target; second = mark_list m.other }
 
 -- all of the marks lie in the range of coordinates
 pub record AreWithin (least greatest : ℤ) (m : Marks) : Type 0 where

@@ -7,7 +7,6 @@
 ghost use Rattle.std.specs.Prelude.{◌≡◌, ◌≤◌, ◌/◌, ◌^◌, pos, ◌≤ℤ◌, ◌<ℤ◌, ◌+ℤ◌, ◌*ℤ◌, ◌↔◌, IsTrue, false, All, length, nat_le, unsigned_abs};
 ghost use Rattle.plane_base.specs.Plane.{IsWithin, HasSize};
 ghost use Rattle.plane_base.specs.Areas.{area, step_area, step_room};
-ghost use Rattle.plane_base.specs.Views.{point_of, points_of};
 
 use crate::int::{OverlayInt, WideIntNumber};
 use crate::point::IntPoint;
@@ -18,9 +17,9 @@ const PART: i128 = 18_446_744_073_709_551_616;
 /// Twice the signed area of a contour, above 0 where it runs counterclockwise. Where coordinates have more than 20 bits, the contour
 /// has 2^53 points at most.
 pub fn doubled_area<I: OverlayInt>(points: &[IntPoint<I>]) -> i128
-    requires in_range { All (IsWithin I.least I.greatest) (points_of I.value points.now) }
+    requires in_range { All (IsWithin I.least I.greatest) points.now }
     requires few { I.IS_NARROW ≡ false → length points.now ≤ 2 ^ 53 }
-    ensures { result ≡ area (points_of I.value points.now) }
+    ensures { result ≡ area points.now }
 {
     if points.is_empty() {
         return 0;
@@ -34,8 +33,8 @@ pub fn doubled_area<I: OverlayInt>(points: &[IntPoint<I>]) -> i128
 
 /// Whether a contour's area, rounded down to whole units, is the least one or more.
 pub fn reaches_area<I: OverlayInt>(points: &[IntPoint<I>], least: u64) -> bool
-    requires { All (IsWithin I.least I.greatest) (points_of I.value points.now) }
-    ensures { result ≡ nat_le least (unsigned_abs (area (points_of I.value points.now)) / 2) }
+    requires { All (IsWithin I.least I.greatest) points.now }
+    ensures { result ≡ nat_le least (unsigned_abs (area points.now) / 2) }
 {
     if is_summed_at_once::<I>(points.len()) {
         return reaches(doubled_area(points), least);
@@ -46,8 +45,8 @@ pub fn reaches_area<I: OverlayInt>(points: &[IntPoint<I>], least: u64) -> bool
 
 /// Whether a contour runs clockwise: its doubled area lies below 0.
 pub fn is_clockwise_ordered<I: OverlayInt>(points: &[IntPoint<I>]) -> bool
-    requires { All (IsWithin I.least I.greatest) (points_of I.value points.now) }
-    ensures { IsTrue result ↔ (area (points_of I.value points.now) <ℤ pos 0) }
+    requires { All (IsWithin I.least I.greatest) points.now }
+    ensures { IsTrue result ↔ (area points.now <ℤ pos 0) }
 {
     if is_summed_at_once::<I>(points.len()) {
         return doubled_area(points) < 0;
@@ -88,8 +87,8 @@ fn reaches_in_two(high: i128, low: i128, least: u64) -> bool
 // The doubled area in two parts, the second below 2^64 and not below 0.
 #[inline(never)]
 fn area_in_two<I: OverlayInt>(points: &[IntPoint<I>]) -> (i128, i128)
-    requires { All (IsWithin I.least I.greatest) (points_of I.value points.now) }
-    ensures is { (pos (2 ^ 64) *ℤ result.0) +ℤ result.1 ≡ area (points_of I.value points.now) }
+    requires { All (IsWithin I.least I.greatest) points.now }
+    ensures is { (pos (2 ^ 64) *ℤ result.0) +ℤ result.1 ≡ area points.now }
     ensures low { (pos 0 ≤ℤ result.1) × (result.1 <ℤ pos (2 ^ 64)) }
 {
     if points.is_empty() {
@@ -119,9 +118,9 @@ fn in_two(number: i128) -> (i128, i128)
 
 // Twice the signed area between a step and the origin.
 fn area_of_step<I: OverlayInt>(from: IntPoint<I>, to: IntPoint<I>) -> i128
-    requires from_in_range { IsWithin I.least I.greatest (point_of I.value from) }
-    requires to_in_range { IsWithin I.least I.greatest (point_of I.value to) }
-    ensures is { result ≡ step_area (point_of I.value from) (point_of I.value to) }
+    requires from_in_range { IsWithin I.least I.greatest from }
+    requires to_in_range { IsWithin I.least I.greatest to }
+    ensures is { result ≡ step_area from to }
     ensures fits { HasSize (pos (step_room I.IS_NARROW)) result }
 {
     let product = I::cross_product(

@@ -8,10 +8,9 @@ ghost use Rattle.plane_base.specs.Segments.{IsEdgeWithin, strictly_inside, parte
 ghost use Rattle.plane_base.specs.Crossing.{cross_meeting, late_meeting, laid_by, cross_marks, late_marks, crosses_off_grid};
 ghost use Rattle.plane_base.specs.MarkOrder.{both_along};
 ghost use Rattle.plane_base.specs.PairMarkViews.{pair_marks_of, AreWithin};
-ghost use Rattle.plane_base.specs.Views.{point_of};
-ghost use Rattle.plane_base.specs.SegmentViews.{edge_of, meeting_of};
+ghost use Rattle.plane_base.specs.SegmentViews.{meeting_of};
 
-use crate::int::OverlayInt;
+use crate::int::{IntNumber, OverlayInt};
 use crate::meet::marks::PairMarks;
 use crate::meet::sides::sides_of;
 use crate::meet::touching::is_inside;
@@ -37,7 +36,7 @@ pub enum CrossKind {
 
 /// Where two segments are marked.
 #[derive(Clone, Copy, Debug, PartialEq, Eq)]
-pub struct CrossResult<I> {
+pub struct CrossResult<I: IntNumber> {
     pub kind: CrossKind,
     pub point: IntPoint<I>,
 }
@@ -54,14 +53,14 @@ impl CrossSolver {
         other: XSegment<I>,
         radius: u64,
     ) -> Option<CrossResult<I>>
-        requires not_greater { edge_order (edge_of I.value target) (edge_of I.value other) ≢ Greater }
-        requires target_in_range { IsEdgeWithin I.least I.greatest (edge_of I.value target) }
-        requires other_in_range { IsEdgeWithin I.least I.greatest (edge_of I.value other) }
-        ensures is { meeting_of I.value result ≡ cross_meeting (edge_of I.value target) (edge_of I.value other) radius }
-        ensures marks { laid_by (edge_of I.value target) (edge_of I.value other) (meeting_of I.value result)
-            ≡ cross_marks (edge_of I.value target) (edge_of I.value other) radius }
-        ensures none { IsNone result ↔ (parted (edge_of I.value target) (edge_of I.value other) ≡ true) }
-        ensures within { IfSome result (λ r. IsWithin I.least I.greatest (point_of I.value r.point)) }
+        requires not_greater { edge_order target other ≢ Greater }
+        requires target_in_range { IsEdgeWithin I.least I.greatest target }
+        requires other_in_range { IsEdgeWithin I.least I.greatest other }
+        ensures is { meeting_of result ≡ cross_meeting target other radius }
+        ensures marks { laid_by target other (meeting_of result)
+            ≡ cross_marks target other radius }
+        ensures none { IsNone result ↔ (parted target other ≡ true) }
+        ensures within { IfSome result (λ r. IsWithin I.least I.greatest r.point) }
     {
         let sides = sides_of(target, other);
         met(target, other, sides, Rounding::Near(radius)).result
@@ -73,14 +72,14 @@ impl CrossSolver {
         target: XSegment<I>,
         other: XSegment<I>,
     ) -> Option<CrossResult<I>>
-        requires not_greater { edge_order (edge_of I.value target) (edge_of I.value other) ≢ Greater }
-        requires target_in_range { IsEdgeWithin I.least I.greatest (edge_of I.value target) }
-        requires other_in_range { IsEdgeWithin I.least I.greatest (edge_of I.value other) }
-        ensures is { meeting_of I.value result ≡ late_meeting (edge_of I.value target) (edge_of I.value other) }
-        ensures marks { laid_by (edge_of I.value target) (edge_of I.value other) (meeting_of I.value result)
-            ≡ late_marks (edge_of I.value target) (edge_of I.value other) }
-        ensures none { IsNone result ↔ (parted (edge_of I.value target) (edge_of I.value other) ≡ true) }
-        ensures within { IfSome result (λ r. IsWithin I.least I.greatest (point_of I.value r.point)) }
+        requires not_greater { edge_order target other ≢ Greater }
+        requires target_in_range { IsEdgeWithin I.least I.greatest target }
+        requires other_in_range { IsEdgeWithin I.least I.greatest other }
+        ensures is { meeting_of result ≡ late_meeting target other }
+        ensures marks { laid_by target other (meeting_of result)
+            ≡ late_marks target other }
+        ensures none { IsNone result ↔ (parted target other ≡ true) }
+        ensures within { IfSome result (λ r. IsWithin I.least I.greatest r.point) }
     {
         let sides = sides_of(target, other);
         met(target, other, sides, Rounding::Nearest).result
@@ -93,26 +92,26 @@ impl CrossSolver {
         other: XSegment<I>,
         radius: u64,
     ) -> PairMarks<I>
-        requires not_greater { edge_order (edge_of I.value target) (edge_of I.value other) ≢ Greater }
-        requires target_in_range { IsEdgeWithin I.least I.greatest (edge_of I.value target) }
-        requires other_in_range { IsEdgeWithin I.least I.greatest (edge_of I.value other) }
-        ensures is { pair_marks_of I.value result
-            ≡ both_along (edge_of I.value target) (edge_of I.value other) (cross_marks (edge_of I.value target) (edge_of I.value other) radius) }
-        ensures off_grid { result.is_off_grid ≡ crosses_off_grid (edge_of I.value target) (edge_of I.value other) }
-        ensures within { AreWithin I.least I.greatest (pair_marks_of I.value result) }
+        requires not_greater { edge_order target other ≢ Greater }
+        requires target_in_range { IsEdgeWithin I.least I.greatest target }
+        requires other_in_range { IsEdgeWithin I.least I.greatest other }
+        ensures is { pair_marks_of result
+            ≡ both_along target other (cross_marks target other radius) }
+        ensures off_grid { result.is_off_grid ≡ crosses_off_grid target other }
+        ensures within { AreWithin I.least I.greatest (pair_marks_of result) }
     {
         meet(target, other, Rounding::Near(radius))
     }
 
     /// The same in a late pass.
     pub fn late_marks<I: OverlayInt>(target: XSegment<I>, other: XSegment<I>) -> PairMarks<I>
-        requires not_greater { edge_order (edge_of I.value target) (edge_of I.value other) ≢ Greater }
-        requires target_in_range { IsEdgeWithin I.least I.greatest (edge_of I.value target) }
-        requires other_in_range { IsEdgeWithin I.least I.greatest (edge_of I.value other) }
-        ensures is { pair_marks_of I.value result
-            ≡ both_along (edge_of I.value target) (edge_of I.value other) (late_marks (edge_of I.value target) (edge_of I.value other)) }
-        ensures off_grid { result.is_off_grid ≡ crosses_off_grid (edge_of I.value target) (edge_of I.value other) }
-        ensures within { AreWithin I.least I.greatest (pair_marks_of I.value result) }
+        requires not_greater { edge_order target other ≢ Greater }
+        requires target_in_range { IsEdgeWithin I.least I.greatest target }
+        requires other_in_range { IsEdgeWithin I.least I.greatest other }
+        ensures is { pair_marks_of result
+            ≡ both_along target other (late_marks target other) }
+        ensures off_grid { result.is_off_grid ≡ crosses_off_grid target other }
+        ensures within { AreWithin I.least I.greatest (pair_marks_of result) }
     {
         meet(target, other, Rounding::Nearest)
     }
@@ -120,9 +119,9 @@ impl CrossSolver {
 
 /// Whether a point lies on a segment and is none of its ends.
 pub fn strictly_inside<I: OverlayInt>(p: IntPoint<I>, s: XSegment<I>) -> bool
-    requires point_in_range { IsWithin I.least I.greatest (point_of I.value p) }
-    requires segment_in_range { IsEdgeWithin I.least I.greatest (edge_of I.value s) }
-    ensures { result ≡ strictly_inside (point_of I.value p) (edge_of I.value s) }
+    requires point_in_range { IsWithin I.least I.greatest p }
+    requires segment_in_range { IsEdgeWithin I.least I.greatest s }
+    ensures { result ≡ strictly_inside p s }
 {
     is_inside(p, s, turn_of(s.a, s.b, p))
 }

@@ -4,7 +4,6 @@
 ghost use Rattle.std.specs.Prelude.{◌≡◌, pos, ◌≤ℤ◌};
 ghost use Rattle.plane_base.specs.Plane.{IsWithin};
 ghost use Rattle.plane_base.specs.Segments.{squared_distance};
-ghost use Rattle.plane_base.specs.Views.{point_of};
 
 use crate::int::OverlayInt;
 use crate::orientation::difference;
@@ -12,9 +11,9 @@ use crate::point::IntPoint;
 
 /// The square of the distance between two points.
 pub fn squared_distance<I: OverlayInt>(a: IntPoint<I>, b: IntPoint<I>) -> I::Wide
-    requires a_in_range { IsWithin I.least I.greatest (point_of I.value a) }
-    requires b_in_range { IsWithin I.least I.greatest (point_of I.value b) }
-    ensures is { I.Wide.number result ≡ squared_distance (point_of I.value a) (point_of I.value b) }
+    requires a_in_range { IsWithin I.least I.greatest a }
+    requires b_in_range { IsWithin I.least I.greatest b }
+    ensures is { I.Wide.number result ≡ squared_distance a b }
     ensures not_negative { pos 0 ≤ℤ I.Wide.number result }
 {
     let x = difference(b.x, a.x);

@@ -1,8 +1,7 @@
 //! What `==` says: that two values are one and the same.
 
 ghost use Rattle.std.specs.Prelude.{◌≡◌, ◌↔◌, true, map};
-ghost use Rattle.plane_base.specs.declared.point.IntPoint.{IntPoint};
-ghost use Rattle.plane_base.specs.declared.segment.XSegment.{XSegment};
+ghost use Rattle.plane_base.specs.Plane.{Point, Edge};
 ghost use Rattle.plane_base.specs.declared.segment.LineRange.{LineRange};
 ghost use Rattle.plane_base.specs.declared.segment.IdPoint.{IdPoint};
 ghost use Rattle.plane_base.specs.declared.cross.CrossKind.{CrossKind};
@@ -30,9 +29,9 @@ use crate::segment::{IdPoint, LineRange, VSegment, XSegment};
 
 /// Points and segments are equal to themselves alone, and so are ranges and numbered points.
 pub fn equality_of_segments<I: OverlayInt>()
-    ensures of_points { (a b : IntPoint I) → (⟦<IntPoint<I> as PartialEq>⟧.eq a b ≡ true) ↔ (a ≡ b) }
-    ensures of_segments { (s t : XSegment I) → (⟦<XSegment<I> as PartialEq>⟧.eq s t ≡ true) ↔ (s ≡ t) }
-    ensures of_live_segments { (s t : XSegment I) → (⟦<VSegment<I> as PartialEq>⟧.eq s t ≡ true) ↔ (s ≡ t) }
+    ensures of_points { (a b : Point) → (⟦<IntPoint<I> as PartialEq>⟧.eq a b ≡ true) ↔ (a ≡ b) }
+    ensures of_segments { (s t : Edge) → (⟦<XSegment<I> as PartialEq>⟧.eq s t ≡ true) ↔ (s ≡ t) }
+    ensures of_live_segments { (s t : Edge) → (⟦<VSegment<I> as PartialEq>⟧.eq s t ≡ true) ↔ (s ≡ t) }
     ensures of_ranges { (a b : LineRange I) → (⟦<LineRange<I> as PartialEq>⟧.eq a b ≡ true) ↔ (a ≡ b) }
     ensures of_numbered_points { (a b : IdPoint I) → (⟦<IdPoint<I> as PartialEq>⟧.eq a b ≡ true) ↔ (a ≡ b) }
 {}

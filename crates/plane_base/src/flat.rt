@@ -4,13 +4,14 @@
 //! contour is added in time linear in its points, and read in constant time.
 
 ghost use Rattle.std.specs.Prelude.{◌≡◌, ◌∷◌, ◌++◌, [], ◌↔◌, IsTrue, OnOk, OnErr, IfOk, IsOkUnless, ◌≤◌, length, vec_capacity, List};
-ghost use Rattle.std.specs.Borrow.{sem};
+ghost use Rattle.std.specs.Borrow.{sem, Lends, Array};
 ghost use Rattle.std.proofs.Common.{sym, append-nil};
 ghost use Rattle.plane_base.specs.Flat.{AreRangesOf, IsOneRangeOf, IsRangeOf, parts};
-ghost use Rattle.plane_base.specs.FlatLends.{LendsContour, with_contour};
-ghost use Rattle.plane_base.specs.declared.point.IntPoint.{IntPoint};
+ghost use Rattle.plane_base.specs.FlatLends.{with_contour};
+ghost use Rattle.plane_base.specs.Plane.{Point};
 
 use crate::fault::Fault;
+use crate::int::IntNumber;
 use crate::point::IntPoint;
 use crate::resource::IntShapeResource;
 use std::alloc::{AllocError, Global};
@@ -18,12 +19,15 @@ use std::ops::Range;
 
 /// Contours in order, the points of all of them in one list.
 #[derive(Debug, PartialEq, Eq, Drop)]
-pub struct FlatContoursBuffer<I> {
+pub struct FlatContoursBuffer<I: IntNumber> {
     pub points: Vec<IntPoint<I>>,
     pub ranges: Vec<Range<usize>>,
 }
 
-impl<I: Copy> FlatContoursBuffer<I> {
+impl<I: IntNumber> FlatContoursBuffer<I> {
+    ghost use Rattle.plane_base.specs.contracts.flat.FlatContoursBuffer.{the_row};
+    ghost use Rattle.plane_base.specs.contracts.point.IntPoint.{the_row as point_row};
+
     /// A buffer without contours.
     pub fn new(alloc: Global) -> FlatContoursBuffer<I>
         ensures points { result.points.items ≡ [] }
@@ -94,9 +98,10 @@ impl<I: Copy> FlatContoursBuffer<I> {
     /// The points of the one contour, to be written over. It is the one contour again afterwards.
     pub fn as_first_contour_mut(&mut self) -> &mut [IntPoint<I>]
         requires single { IsOneRangeOf (length self.old.points.items) self.old.ranges.items }
-        ensures* writes_back { sem 𝓛 (LendsContour I.row self.entry result) }
+        ensures* writes_back { sem 𝓛 (Lends (the_row I.row I.IntNumber.own I.Ord.own I.PartialEq.own I.PartialOrd.own)
+            (Array (point_row I.row I.IntNumber.own I.Ord.own I.PartialEq.own I.PartialOrd.own) 0) self.entry result (with_contour self.old)) }
         ensures value { parts self.old.points.items self.old.ranges.items ≡ result.now ∷ [] }
-        ensures written { (points : List (IntPoint I)) → length points ≡ length result.now
+        ensures written { (points : List Point) → length points ≡ length result.now
             → parts (with_contour self.old points).points.items self.old.ranges.items ≡ points ∷ [] }
     {
         let (start, end) = (self.ranges[0].start, self.ranges[0].end);
@@ -104,7 +109,7 @@ impl<I: Copy> FlatContoursBuffer<I> {
     }
 }
 
-impl<I: Copy> Clone for FlatContoursBuffer<I> {
+impl<I: IntNumber> Clone for FlatContoursBuffer<I> {
     ghost is_clone = { λ old new. (new.points.items ≡ old.points.items) × (new.ranges.items ≡ old.ranges.items) };
 
     /// A buffer with the same points and ranges.
@@ -145,7 +150,7 @@ fn is_range(range: &Range<usize>, len: usize) -> bool
     range.start <= range.end && range.end <= len
 }
 
-impl<I> IntShapeResource<I> for FlatContoursBuffer<I> {
+impl<I: IntNumber> IntShapeResource<I> for FlatContoursBuffer<I> {
     ghost is_ready = { λ buffer. AreRangesOf (length buffer.points.items) buffer.ranges.items };
 
     ghost shapes = { λ buffer. (parts buffer.points.items buffer.ranges.items) ∷ [] };

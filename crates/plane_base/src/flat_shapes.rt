@@ -9,6 +9,7 @@ ghost use Rattle.plane_base.specs.PathViews.{paths_of_shape};
 
 use crate::fault::Fault;
 use crate::flat::{are_ranges, copies_of};
+use crate::int::IntNumber;
 use crate::path::{IntPath, IntShape, IntShapes};
 use crate::point::IntPoint;
 use std::alloc::{AllocError, Global};
@@ -16,13 +17,13 @@ use std::ops::Range;
 
 /// Shapes in order: the points of all contours in one list, the contours of all shapes in another.
 #[derive(Debug, PartialEq, Eq, Drop)]
-pub struct FlatShapesBuffer<I> {
+pub struct FlatShapesBuffer<I: IntNumber> {
     pub points: Vec<IntPoint<I>>,
     pub contour_ranges: Vec<Range<usize>>,
     pub shape_ranges: Vec<Range<usize>>,
 }
 
-impl<I: Copy> FlatShapesBuffer<I> {
+impl<I: IntNumber> FlatShapesBuffer<I> {
     /// A buffer without shapes, with room for so many points, contours and shapes.
     pub fn with_capacity(
         alloc: Global,
@@ -72,7 +73,7 @@ impl<I: Copy> FlatShapesBuffer<I> {
 }
 
 // The shapes of ranges of contours.
-fn shapes_of<I: Copy>(
+fn shapes_of<I: IntNumber>(
     alloc: Global,
     points: &[IntPoint<I>],
     contours: &[Range<usize>],
@@ -91,7 +92,7 @@ fn shapes_of<I: Copy>(
 }
 
 // The shape of the contours that ranges of points are.
-fn shape_of<I: Copy>(
+fn shape_of<I: IntNumber>(
     alloc: Global,
     points: &[IntPoint<I>],
     ranges: &[Range<usize>],
@@ -108,7 +109,7 @@ fn shape_of<I: Copy>(
 }
 
 // A path of its own with these points.
-fn path_of<I: Copy>(alloc: Global, points: &[IntPoint<I>]) -> Result<IntPath<I>, Fault>
+fn path_of<I: IntNumber>(alloc: Global, points: &[IntPoint<I>]) -> Result<IntPath<I>, Fault>
     ensures points { IfOk result (λ path. path.points.items ≡ points.now) }
     ensures memory { IsOkUnless result Fault.Memory }
 {
@@ -117,7 +118,7 @@ fn path_of<I: Copy>(alloc: Global, points: &[IntPoint<I>]) -> Result<IntPath<I>,
     })
 }
 
-impl<I: Copy> Clone for FlatShapesBuffer<I> {
+impl<I: IntNumber> Clone for FlatShapesBuffer<I> {
     ghost is_clone = { λ old new. (new.points.items ≡ old.points.items)
         × ((new.contour_ranges.items ≡ old.contour_ranges.items) × (new.shape_ranges.items ≡ old.shape_ranges.items)) };
 

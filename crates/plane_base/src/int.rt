@@ -6,7 +6,7 @@
 
 ghost use Rattle.std.specs.Prelude.{◌≡◌, ℤ, Bool, true, false, pos, negsuc, neg_ℤ, ◌+◌, ◌^◌, ◌+ℤ◌, ◌-ℤ◌, ◌*ℤ◌, ◌≤ℤ◌, ◌<ℤ◌, ◌↔◌, IsTrue, int_lt, int_le, unsigned_abs};
 ghost use Rattle.std.specs.Ordering.{int_cmp, int_eq};
-ghost use Rattle.std.proofs.Common.{rules};
+ghost use Rattle.std.proofs.Common.{rules, refl};
 ghost use Rattle.plane_base.specs.Crossing.{floor, nearest};
 ghost use Rattle.plane_base.specs.Plane.{IsCoordinate, HasSize, IsWeight};
 
@@ -53,13 +53,22 @@ pub trait WideIntNumber: Copy + Ord {
     ghost ordered: { (a b : Self) → Self.cmp a b ≡ int_cmp (number a) (number b) };
 }
 
+/// Whole numbers in their order, as contracts see them.
+pub trait IntNumber: Copy + Ord {
+    /// The whole number that it is.
+    ghost value: { Self → ℤ };
+
+    /// The one that is this whole number.
+    ghost of_value: { ℤ → Self };
+
+    // Each is known by its value.
+    ghost of_its_value: { (a : Self) → of_value (value a) ≡ a };
+}
+
 /// A type of coordinates: whole numbers of a range for which its kernels have room.
-pub trait OverlayInt: Copy + Ord + Expiration {
+pub trait OverlayInt: IntNumber + Expiration {
     /// The numbers that are made of coordinates.
     type Wide: WideIntNumber;
-
-    /// The whole number that the coordinate is.
-    ghost value: { Self → ℤ };
 
     /// The least coordinate.
     ghost least: { ℤ };
@@ -156,8 +165,10 @@ pub trait OverlayInt: Copy + Ord + Expiration {
         ensures { result ≡ int_eq ((Self.Wide.number u +ℤ Self.Wide.number v) *ℤ number)
             ((Self.Wide.number v *ℤ a) +ℤ (Self.Wide.number u *ℤ b)) };
 
-    // A number is known by its value.
+    // A number is known by its value, and each is the value of one.
     ghost value_tells: { (a b : Self) → Self.value a ≡ Self.value b → a ≡ b };
+
+    ghost value_reaches: { (n : ℤ) → Self.value (Self.of_value n) ≡ n };
 
     // The order is that of the values.
     ghost ordered: { (a b : Self) → Self.cmp a b ≡ int_cmp (Self.value a) (Self.value b) };
@@ -261,10 +272,16 @@ impl WideIntNumber for i128 {
     }
 }
 
+impl IntNumber for i16 {
+    ghost value = { λ x. x };
+
+    ghost of_value = { λ x. x };
+
+    ghost of_its_value = { λ a. refl };
+}
+
 impl OverlayInt for i16 {
     type Wide = i64;
-
-    ghost value = { λ x. x };
 
     ghost least = { negsuc 16383 };
 
@@ -289,6 +306,8 @@ impl OverlayInt for i16 {
     const IS_NARROW: bool = true;
 
     ghost value_tells = { Prim.search rules };
+
+    ghost value_reaches = { λ n. refl };
 
     ghost ordered = { Prim.search rules };
 
@@ -353,10 +372,16 @@ impl OverlayInt for i16 {
     }
 }
 
+impl IntNumber for i32 {
+    ghost value = { λ x. x };
+
+    ghost of_value = { λ x. x };
+
+    ghost of_its_value = { λ a. refl };
+}
+
 impl OverlayInt for i32 {
     type Wide = i64;
-
-    ghost value = { λ x. x };
 
     ghost least = { negsuc 524287 };
 
@@ -381,6 +406,8 @@ impl OverlayInt for i32 {
     const IS_NARROW: bool = true;
 
     ghost value_tells = { Prim.search rules };
+
+    ghost value_reaches = { λ n. refl };
 
     ghost ordered = { Prim.search rules };
 
@@ -445,10 +472,16 @@ impl OverlayInt for i32 {
     }
 }
 
+impl IntNumber for i64 {
+    ghost value = { λ x. x };
+
+    ghost of_value = { λ x. x };
+
+    ghost of_its_value = { λ a. refl };
+}
+
 impl OverlayInt for i64 {
     type Wide = i128;
-
-    ghost value = { λ x. x };
 
     ghost least = { negsuc 68719476735 };
 
@@ -473,6 +506,8 @@ impl OverlayInt for i64 {
     const IS_NARROW: bool = false;
 
     ghost value_tells = { Prim.search rules };
+
+    ghost value_reaches = { λ n. refl };
 
     ghost ordered = { Prim.search rules };
 

@@ -2,7 +2,6 @@
 
 ghost use Rattle.std.specs.Prelude.{◌≡◌, ℤ, pos, false, ◌↔◌, List};
 ghost use Rattle.std.specs.Cmp.{IsTotalOrder};
-ghost use Rattle.plane_base.specs.declared.point.IntPoint.{IntPoint};
 ghost use Rattle.plane_base.specs.Plane.{Point, RationalPoint, turn, point_order};
 ghost use Rattle.plane_base.specs.Totals.{total};
 ghost use Rattle.plane_base.specs.Counts.{Counting, Entry, boolean, IsNormal};
@@ -12,14 +11,13 @@ ghost use Rattle.plane_base.specs.Windings.{contour_winding, cycle_winding};
 ghost use Rattle.plane_base.specs.Regions.{FillRule, OverlayRule, region};
 ghost use Rattle.plane_base.specs.Laws.{TellsApart, KnownByLookups, OrderIsLost, KeepsLinearSums, KeepsPassingSums, ColumnsSumToZero};
 ghost use Rattle.plane_base.specs.Laws.{WindsAsContours, StepsAddUp, ConvexIsAnswer, ThinnedAwayIsNothing, OneThinnedCycle, ThinnedWindsAsContour};
-ghost use Rattle.plane_base.specs.Views.{point_of};
 
 use crate::int::OverlayInt;
 use crate::point::IntPoint;
 
 /// Points are ordered by the values of x, then of y. The order is total, and only equal points are `Equal`.
 pub fn order_of_points<I: OverlayInt>()
-    ensures by_values { (a b : IntPoint I) → ⟦<IntPoint<I> as Ord>⟧.cmp a b ≡ point_order (point_of I.value a) (point_of I.value b) }
+    ensures by_values { (a b : Point) → ⟦<IntPoint<I> as Ord>⟧.cmp a b ≡ point_order a b }
     ensures total { IsTotalOrder ⟦<IntPoint<I> as Ord>⟧.cmp }
     ensures equal { TellsApart ⟦<IntPoint<I> as Ord>⟧.cmp }
 {}

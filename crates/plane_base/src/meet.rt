@@ -18,12 +18,11 @@ ghost use Rattle.plane_base.specs.Crossing.{meeting_by, marks_by, crosses_off_gr
 ghost use Rattle.plane_base.specs.MarkOrder.{both_along};
 ghost use Rattle.plane_base.specs.CrossingLaws.{BoxesMeet};
 ghost use Rattle.plane_base.specs.PairMarkViews.{pair_marks_of, AreWithin};
-ghost use Rattle.plane_base.specs.Views.{point_of};
-ghost use Rattle.plane_base.specs.SegmentViews.{edge_of, meeting_of};
+ghost use Rattle.plane_base.specs.SegmentViews.{meeting_of};
 ghost use Rattle.plane_base.specs.Sides.{AreSides, CrossesSquarely};
 
 use crate::cross::CrossResult;
-use crate::int::OverlayInt;
+use crate::int::{IntNumber, OverlayInt};
 use crate::point::IntPoint;
 use crate::rounding::Rounding;
 use crate::segment::{XSegment, rows};
@@ -45,13 +44,13 @@ pub fn meet<I: OverlayInt>(
     other: XSegment<I>,
     rounding: Rounding,
 ) -> PairMarks<I>
-    requires not_greater { edge_order (edge_of I.value target) (edge_of I.value other) ≢ Greater }
-    requires target_in_range { IsEdgeWithin I.least I.greatest (edge_of I.value target) }
-    requires other_in_range { IsEdgeWithin I.least I.greatest (edge_of I.value other) }
-    ensures is { pair_marks_of I.value result
-        ≡ both_along (edge_of I.value target) (edge_of I.value other) (marks_by rounding (edge_of I.value target) (edge_of I.value other)) }
-    ensures off_grid { result.is_off_grid ≡ crosses_off_grid (edge_of I.value target) (edge_of I.value other) }
-    ensures within { AreWithin I.least I.greatest (pair_marks_of I.value result) }
+    requires not_greater { edge_order target other ≢ Greater }
+    requires target_in_range { IsEdgeWithin I.least I.greatest target }
+    requires other_in_range { IsEdgeWithin I.least I.greatest other }
+    ensures is { pair_marks_of result
+        ≡ both_along target other (marks_by rounding target other) }
+    ensures off_grid { result.is_off_grid ≡ crosses_off_grid target other }
+    ensures within { AreWithin I.least I.greatest (pair_marks_of result) }
 {
     let Some(sides) = sides_unless_apart(target, other) else {
         return PairMarks::none();
@@ -65,10 +64,10 @@ pub fn sides_unless_apart<I: OverlayInt>(
     target: XSegment<I>,
     other: XSegment<I>,
 ) -> Option<Sides<I::Wide>>
-    requires target_in_range { IsEdgeWithin I.least I.greatest (edge_of I.value target) }
-    requires other_in_range { IsEdgeWithin I.least I.greatest (edge_of I.value other) }
-    ensures none { IfNone result (parted (edge_of I.value target) (edge_of I.value other) ≡ true) }
-    ensures some { IfSome result (λ sides. AreSides I.Wide.number I.most (edge_of I.value target) (edge_of I.value other) sides) }
+    requires target_in_range { IsEdgeWithin I.least I.greatest target }
+    requires other_in_range { IsEdgeWithin I.least I.greatest other }
+    ensures none { IfNone result (parted target other ≡ true) }
+    ensures some { IfSome result (λ sides. AreSides I.Wide.number I.most target other sides) }
 {
     if begins_at_end(target, other) {
         return None;
@@ -96,14 +95,14 @@ pub fn meet_closely<I: OverlayInt>(
     sides: Sides<I::Wide>,
     rounding: Rounding,
 ) -> PairMarks<I>
-    requires not_greater { edge_order (edge_of I.value target) (edge_of I.value other) ≢ Greater }
-    requires target_in_range { IsEdgeWithin I.least I.greatest (edge_of I.value target) }
-    requires other_in_range { IsEdgeWithin I.least I.greatest (edge_of I.value other) }
-    requires sides { AreSides I.Wide.number I.most (edge_of I.value target) (edge_of I.value other) sides }
-    ensures is { pair_marks_of I.value result
-        ≡ both_along (edge_of I.value target) (edge_of I.value other) (marks_by rounding (edge_of I.value target) (edge_of I.value other)) }
-    ensures off_grid { result.is_off_grid ≡ crosses_off_grid (edge_of I.value target) (edge_of I.value other) }
-    ensures within { AreWithin I.least I.greatest (pair_marks_of I.value result) }
+    requires not_greater { edge_order target other ≢ Greater }
+    requires target_in_range { IsEdgeWithin I.least I.greatest target }
+    requires other_in_range { IsEdgeWithin I.least I.greatest other }
+    requires sides { AreSides I.Wide.number I.most target other sides }
+    ensures is { pair_marks_of result
+        ≡ both_along target other (marks_by rounding target other) }
+    ensures off_grid { result.is_off_grid ≡ crosses_off_grid target other }
+    ensures within { AreWithin I.least I.greatest (pair_marks_of result) }
 {
     if cross_squarely(target, other) {
         return PairMarks::both_at(corner(target, other));
@@ -114,7 +113,7 @@ pub fn meet_closely<I: OverlayInt>(
 // Whether the second begins at the x where the first ends, and neither is vertical.
 #[inline(always)]
 fn begins_at_end<I: OverlayInt>(s: XSegment<I>, t: XSegment<I>) -> bool
-    ensures { IsTrue result → parted (edge_of I.value s) (edge_of I.value t) ≡ true }
+    ensures { IsTrue result → parted s t ≡ true }
 {
     let start = s.a.x.to_i64();
     let end = s.b.x.to_i64();
@@ -135,7 +134,7 @@ fn begins_at_end<I: OverlayInt>(s: XSegment<I>, t: XSegment<I>) -> bool
 // Whether two segments share a y.
 #[inline(always)]
 fn share_rows<I: OverlayInt>(s: XSegment<I>, t: XSegment<I>) -> bool
-    ensures { IsFalse result → BoxesMeet (edge_of I.value s) (edge_of I.value t) → ⊥ }
+    ensures { IsFalse result → BoxesMeet s t → ⊥ }
 {
     let (low, high) = rows(s);
     let (other_low, other_high) = rows(t);
@@ -145,7 +144,7 @@ fn share_rows<I: OverlayInt>(s: XSegment<I>, t: XSegment<I>) -> bool
 // Whether the first is horizontal and the second vertical, and each has its ends on both sides of the other.
 #[inline(always)]
 fn cross_squarely<I: OverlayInt>(s: XSegment<I>, t: XSegment<I>) -> bool
-    ensures { IsTrue result → CrossesSquarely (edge_of I.value s) (edge_of I.value t) }
+    ensures { IsTrue result → CrossesSquarely s t }
 {
     let left = s.a.x.to_i64();
     let y = s.a.y.to_i64();
@@ -178,17 +177,17 @@ fn cross_squarely<I: OverlayInt>(s: XSegment<I>, t: XSegment<I>) -> bool
 
 // The point with the x of the second and the y of the first.
 fn corner<I: OverlayInt>(s: XSegment<I>, t: XSegment<I>) -> IntPoint<I>
-    requires s_in_range { IsEdgeWithin I.least I.greatest (edge_of I.value s) }
-    requires t_in_range { IsEdgeWithin I.least I.greatest (edge_of I.value t) }
-    ensures is { point_of I.value result ≡ record { x = I.value t.a.x; y = I.value s.a.y } }
-    ensures within { IsWithin I.least I.greatest (point_of I.value result) }
+    requires s_in_range { IsEdgeWithin I.least I.greatest s }
+    requires t_in_range { IsEdgeWithin I.least I.greatest t }
+    ensures is { result ≡ record { x = t.a.x; y = s.a.y } }
+    ensures within { IsWithin I.least I.greatest result }
 {
     IntPoint::new(t.a.x, s.a.y)
 }
 
 // What a pair has in common, and whether it crosses properly off the grid.
 #[derive(Clone, Copy)]
-pub(crate) struct PairMeeting<I> {
+pub(crate) struct PairMeeting<I: IntNumber> {
     pub(crate) result: Option<CrossResult<I>>,
     pub(crate) is_off_grid: bool,
 }
@@ -200,12 +199,12 @@ pub(crate) fn met<I: OverlayInt>(
     sides: Sides<I::Wide>,
     rounding: Rounding,
 ) -> PairMeeting<I>
-    requires target_in_range { IsEdgeWithin I.least I.greatest (edge_of I.value target) }
-    requires other_in_range { IsEdgeWithin I.least I.greatest (edge_of I.value other) }
-    requires sides { AreSides I.Wide.number I.most (edge_of I.value target) (edge_of I.value other) sides }
-    ensures is { meeting_of I.value result.result ≡ meeting_by rounding (edge_of I.value target) (edge_of I.value other) }
-    ensures off_grid { result.is_off_grid ≡ crosses_off_grid (edge_of I.value target) (edge_of I.value other) }
-    ensures within { IfSome result.result (λ r. IsWithin I.least I.greatest (point_of I.value r.point)) }
+    requires target_in_range { IsEdgeWithin I.least I.greatest target }
+    requires other_in_range { IsEdgeWithin I.least I.greatest other }
+    requires sides { AreSides I.Wide.number I.most target other sides }
+    ensures is { meeting_of result.result ≡ meeting_by rounding target other }
+    ensures off_grid { result.is_off_grid ≡ crosses_off_grid target other }
+    ensures within { IfSome result.result (λ r. IsWithin I.least I.greatest r.point) }
 {
     let own = sides_of(other, target);
     if are_proper(sides, own) {

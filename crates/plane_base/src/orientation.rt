@@ -4,7 +4,6 @@
 ghost use Rattle.std.specs.Prelude.{◌≡◌, pos, ◌-ℤ◌, ◌≤ℤ◌};
 ghost use Rattle.std.specs.Ordering.{int_cmp};
 ghost use Rattle.plane_base.specs.Plane.{turn, IsWithin, HasSize};
-ghost use Rattle.plane_base.specs.Views.{point_of};
 
 use crate::int::{OverlayInt, WideIntNumber};
 use crate::point::IntPoint;
@@ -13,10 +12,10 @@ use std::cmp::Ordering;
 /// On which side of the way from `a` to `b` the point `c` lies: `Greater` on its left, `Less` on its right,
 /// `Equal` where the three lie on one line.
 pub fn orientation<I: OverlayInt>(a: IntPoint<I>, b: IntPoint<I>, c: IntPoint<I>) -> Ordering
-    requires a_in_range { IsWithin I.least I.greatest (point_of I.value a) }
-    requires b_in_range { IsWithin I.least I.greatest (point_of I.value b) }
-    requires c_in_range { IsWithin I.least I.greatest (point_of I.value c) }
-    ensures { result ≡ int_cmp (turn (point_of I.value a) (point_of I.value b) (point_of I.value c)) (pos 0) }
+    requires a_in_range { IsWithin I.least I.greatest a }
+    requires b_in_range { IsWithin I.least I.greatest b }
+    requires c_in_range { IsWithin I.least I.greatest c }
+    ensures { result ≡ int_cmp (turn a b c) (pos 0) }
 {
     let turn = turn_of(a, b, c);
     if turn.is_zero() {
@@ -30,10 +29,10 @@ pub fn orientation<I: OverlayInt>(a: IntPoint<I>, b: IntPoint<I>, c: IntPoint<I>
 
 // Twice the signed area of the triangle.
 pub(crate) fn turn_of<I: OverlayInt>(a: IntPoint<I>, b: IntPoint<I>, c: IntPoint<I>) -> I::Wide
-    requires a_in_range { IsWithin I.least I.greatest (point_of I.value a) }
-    requires b_in_range { IsWithin I.least I.greatest (point_of I.value b) }
-    requires c_in_range { IsWithin I.least I.greatest (point_of I.value c) }
-    ensures is { I.Wide.number result ≡ turn (point_of I.value a) (point_of I.value b) (point_of I.value c) }
+    requires a_in_range { IsWithin I.least I.greatest a }
+    requires b_in_range { IsWithin I.least I.greatest b }
+    requires c_in_range { IsWithin I.least I.greatest c }
+    ensures is { I.Wide.number result ≡ turn a b c }
     ensures fits { HasSize I.most (I.Wide.number result) }
 {
     I::cross_product(

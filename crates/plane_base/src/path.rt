@@ -2,12 +2,13 @@
 
 ghost use Rattle.std.specs.Prelude.{◌≡◌, map};
 
+use crate::int::IntNumber;
 use crate::point::IntPoint;
 use std::alloc::AllocError;
 
 /// Points in order. As a contour the last leads back to the first.
 #[derive(Debug, PartialEq, Eq, Drop)]
-pub struct IntPath<I> {
+pub struct IntPath<I: IntNumber> {
     pub points: Vec<IntPoint<I>>,
 }
 
@@ -16,17 +17,17 @@ pub type IntContour<I> = IntPath<I>;
 
 /// An outline and its holes, the outline first.
 #[derive(Debug, PartialEq, Eq, Drop)]
-pub struct IntShape<I> {
+pub struct IntShape<I: IntNumber> {
     pub contours: Vec<IntContour<I>>,
 }
 
 /// Shapes side by side.
 #[derive(Debug, PartialEq, Eq, Drop)]
-pub struct IntShapes<I> {
+pub struct IntShapes<I: IntNumber> {
     pub shapes: Vec<IntShape<I>>,
 }
 
-impl<I: Copy> Clone for IntPath<I> {
+impl<I: IntNumber> Clone for IntPath<I> {
     ghost is_clone = { λ old new. new.points.items ≡ old.points.items };
 
     /// A path with the same points.
@@ -38,7 +39,7 @@ impl<I: Copy> Clone for IntPath<I> {
     }
 }
 
-impl<I: Copy> Clone for IntShape<I> {
+impl<I: IntNumber> Clone for IntShape<I> {
     ghost is_clone = { λ old new. map (λ c. c.points.items) new.contours.items ≡ map (λ c. c.points.items) old.contours.items };
 
     /// A shape with the same contours.
@@ -52,7 +53,7 @@ impl<I: Copy> Clone for IntShape<I> {
     }
 }
 
-impl<I: Copy> Clone for IntShapes<I> {
+impl<I: IntNumber> Clone for IntShapes<I> {
     ghost is_clone = { λ old new. map (λ s. map (λ c. c.points.items) s.contours.items) new.shapes.items
         ≡ map (λ s. map (λ c. c.points.items) s.contours.items) old.shapes.items };
 

@@ -6,28 +6,29 @@
 
 ghost use Rattle.std.specs.Prelude.{◌≡◌, ⊤, ◌<◌, min, List, [], ◌∷◌, length, map, flat_map, slice_index_or};
 ghost use Rattle.std.proofs.Common.{sym, append-nil};
-ghost use Rattle.plane_base.specs.declared.point.IntPoint.{IntPoint};
+ghost use Rattle.plane_base.specs.Plane.{Point};
 ghost use Rattle.plane_base.specs.PathViews.{paths_of_shape, paths_of_shapes, shapes_together};
 
+use crate::int::IntNumber;
 use crate::path::{IntPath, IntShape, IntShapes};
 use crate::point::IntPoint;
 
 /// Points that are lent, as a contour.
 #[derive(Clone, Copy, Debug)]
-pub struct ContourRef<'a, I> {
+pub struct ContourRef<'a, I: IntNumber> {
     pub points: &'a [IntPoint<I>],
 }
 
 /// A source of paths: they come in shapes, and each is known by its place among all, or by its shape and its place there.
-pub trait IntShapeResource<I> {
+pub trait IntShapeResource<I: IntNumber> {
     /// What a source has to keep to before it is read.
     ghost is_ready: { Self → Type 0 };
 
     /// The paths of each of its shapes, in order.
-    ghost shapes: { Self → List (List (List (IntPoint I))) };
+    ghost shapes: { Self → List (List (List Point)) };
 
     /// Its paths, in order.
-    ghost paths: { Self → List (List (IntPoint I)) };
+    ghost paths: { Self → List (List Point) };
 
     /// How many paths it has; `usize::MAX` where there are as many or more.
     fn path_count(&self) -> usize
@@ -61,7 +62,7 @@ pub trait IntShapeResource<I> {
     ghost together: { (s : Self) → paths s ≡ flat_map (λ shape. shape) (shapes s) };
 }
 
-impl<I> IntShapeResource<I> for IntPath<I> {
+impl<I: IntNumber> IntShapeResource<I> for IntPath<I> {
     ghost is_ready = { λ path. ⊤ };
 
     ghost shapes = { λ source. (source.points.items ∷ []) ∷ [] };
@@ -91,7 +92,7 @@ impl<I> IntShapeResource<I> for IntPath<I> {
     }
 }
 
-impl<'a, I> IntShapeResource<I> for ContourRef<'a, I> {
+impl<'a, I: IntNumber> IntShapeResource<I> for ContourRef<'a, I> {
     ghost is_ready = { λ contour. ⊤ };
 
     ghost shapes = { λ source. (source.points.now ∷ []) ∷ [] };
@@ -121,7 +122,7 @@ impl<'a, I> IntShapeResource<I> for ContourRef<'a, I> {
     }
 }
 
-impl<I> IntShapeResource<I> for IntShape<I> {
+impl<I: IntNumber> IntShapeResource<I> for IntShape<I> {
     ghost is_ready = { λ shape. ⊤ };
 
     ghost shapes = { λ source. (paths_of_shape source) ∷ [] };
@@ -151,7 +152,7 @@ impl<I> IntShapeResource<I> for IntShape<I> {
     }
 }
 
-impl<I> IntShapeResource<I> for IntShapes<I> {
+impl<I: IntNumber> IntShapeResource<I> for IntShapes<I> {
     ghost is_ready = { λ shapes. ⊤ };
 
     ghost shapes = { λ shapes. map paths_of_shape shapes.shapes.items };
@@ -182,7 +183,7 @@ impl<I> IntShapeResource<I> for IntShapes<I> {
 }
 
 // How many contours the shapes have, or the greatest number where there are more.
-fn count_paths<I>(shapes: &[IntShape<I>]) -> usize
+fn count_paths<I: IntNumber>(shapes: &[IntShape<I>]) -> usize
     ensures { result ≡ min (length (paths_of_shapes shapes.now)) usize.MAX }
 {
     let mut count = 0usize;
@@ -193,7 +194,7 @@ fn count_paths<I>(shapes: &[IntShape<I>]) -> usize
 }
 
 // The contour at a place among those of all shapes.
-fn path_of_shapes<I>(shapes: &[IntShape<I>], index: usize) -> &[IntPoint<I>]
+fn path_of_shapes<I: IntNumber>(shapes: &[IntShape<I>], index: usize) -> &[IntPoint<I>]
     requires { index < length (paths_of_shapes shapes.now) }
     ensures { result.now ≡ slice_index_or (paths_of_shapes shapes.now) index [] }
 {

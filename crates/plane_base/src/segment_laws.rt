@@ -2,10 +2,8 @@
 
 ghost use Rattle.std.specs.Prelude.{◌≡◌};
 ghost use Rattle.std.specs.Cmp.{IsTotalOrder};
-ghost use Rattle.plane_base.specs.declared.segment.XSegment.{XSegment};
-ghost use Rattle.plane_base.specs.Plane.{edge_order};
+ghost use Rattle.plane_base.specs.Plane.{Edge, edge_order};
 ghost use Rattle.plane_base.specs.Laws.{TellsApart};
-ghost use Rattle.plane_base.specs.SegmentViews.{edge_of};
 ghost use Rattle.plane_base.specs.CrossingLaws.{CrossingIsCommon, MarksAgree, MarkUnlessParted, MarksAreReal, MarksStayInBoxes, MarksNeedBoxesThatMeet};
 ghost use Rattle.plane_base.specs.ColumnLaws.{OrderIsPlace, LevelInCommonEnds, SidesKeepOrder, OrderIsLawful, PartedMeetInEnds, VerticalIsBeside};
 ghost use Rattle.plane_base.specs.RoundingLaws.{RoundingKeepsOrder, AlongIsOrder, RoundedClimb, LateMarksAreRounded};
@@ -17,7 +15,7 @@ use crate::segment::XSegment;
 
 /// Segments are ordered by the values of a, then of b. The order is total, and only equal segments are `Equal`.
 pub fn order_of_segments<I: OverlayInt>()
-    ensures by_values { (s t : XSegment I) → ⟦<XSegment<I> as Ord>⟧.cmp s t ≡ edge_order (edge_of I.value s) (edge_of I.value t) }
+    ensures by_values { (s t : Edge) → ⟦<XSegment<I> as Ord>⟧.cmp s t ≡ edge_order s t }
     ensures total { IsTotalOrder ⟦<XSegment<I> as Ord>⟧.cmp }
     ensures equal { TellsApart ⟦<XSegment<I> as Ord>⟧.cmp }
 {}

@@ -9,7 +9,6 @@ ghost use Rattle.plane_base.specs.Plane.{Point, RationalPoint, IsWithin, turn};
 ghost use Rattle.plane_base.specs.Cycles.{SameCycle};
 ghost use Rattle.plane_base.specs.Thinning.{IsThinned, Reaches, IsBare, NoneStraight};
 ghost use Rattle.plane_base.specs.Windings.{contour_winding};
-ghost use Rattle.plane_base.specs.Views.{point_of, points_of};
 
 use crate::fault::Fault;
 use crate::int::OverlayInt;
@@ -23,15 +22,15 @@ use std::cmp::Ordering;
 /// again, until none is left, a point that equals a neighbour too. It is empty where fewer than three are left.
 /// It begins at any of its points.
 pub fn thin<I: OverlayInt>(alloc: Global, points: &[IntPoint<I>]) -> Result<IntPath<I>, Fault>
-    requires { All (IsWithin I.least I.greatest) (points_of I.value points.now) }
-    ensures thinned { IfOk result (λ path. IsThinned (points_of I.value points.now) (points_of I.value path.points.items)) }
+    requires { All (IsWithin I.least I.greatest) points.now }
+    ensures thinned { IfOk result (λ path. IsThinned points.now path.points.items) }
     // The cycle doesn't depend on the order in which points are taken out.
     ensures one_cycle { IfOk result
-        (λ path. (c : List Point) → IsThinned (points_of I.value points.now) c → SameCycle c (points_of I.value path.points.items)) }
+        (λ path. (c : List Point) → IsThinned points.now c → SameCycle c path.points.items) }
     // It winds as often as the contour round every point, those on the edges too.
     ensures windings { IfOk result
-        (λ path. (p : RationalPoint) → contour_winding (points_of I.value path.points.items ∷ []) p ≡ contour_winding (points_of I.value points.now ∷ []) p) }
-    ensures in_range { IfOk result (λ path. All (IsWithin I.least I.greatest) (points_of I.value path.points.items)) }
+        (λ path. (p : RationalPoint) → contour_winding (path.points.items ∷ []) p ≡ contour_winding (points.now ∷ []) p) }
+    ensures in_range { IfOk result (λ path. All (IsWithin I.least I.greatest) path.points.items) }
     ensures memory { IsOkUnless result Fault.Memory }
 {
     let mut kept = Vec::new(alloc);
@@ -45,9 +44,9 @@ pub fn thin<I: OverlayInt>(alloc: Global, points: &[IntPoint<I>]) -> Result<IntP
 
 // Thins the list round the seam, of which no three points in a row lie on one line.
 fn close<I: OverlayInt>(kept: &mut Vec<IntPoint<I>>)
-    requires in_range { All (IsWithin I.least I.greatest) (points_of I.value kept.old.items) }
-    requires none_straight { NoneStraight (points_of I.value kept.old.items) }
-    ensures { (c : List Point) → Reaches c (points_of I.value kept.old.items) → IsThinned c (points_of I.value kept.new.items) }
+    requires in_range { All (IsWithin I.least I.greatest) kept.old.items }
+    requires none_straight { NoneStraight kept.old.items }
+    ensures { (c : List Point) → Reaches c kept.old.items → IsThinned c kept.new.items }
 {
     let start = trim(kept);
     if kept.len() - start < 3 {
@@ -59,12 +58,12 @@ fn close<I: OverlayInt>(kept: &mut Vec<IntPoint<I>>)
 
 // Takes the points off the end that lie on a line between their neighbour and the point that comes next.
 fn step_back<I: OverlayInt>(kept: &mut Vec<IntPoint<I>>, next: IntPoint<I>)
-    requires kept_in_range { All (IsWithin I.least I.greatest) (points_of I.value kept.old.items) }
-    requires next_in_range { IsWithin I.least I.greatest (point_of I.value next) }
-    ensures reached { (c rest : List Point) → Reaches c (points_of I.value kept.old.items ++ point_of I.value next ∷ rest)
-        → Reaches c (points_of I.value kept.new.items ++ point_of I.value next ∷ rest) }
-    ensures none_straight { NoneStraight (points_of I.value kept.old.items) → NoneStraight (points_of I.value (kept.new.items ++ next ∷ [])) }
-    ensures in_range { All (IsWithin I.least I.greatest) (points_of I.value kept.new.items) }
+    requires kept_in_range { All (IsWithin I.least I.greatest) kept.old.items }
+    requires next_in_range { IsWithin I.least I.greatest next }
+    ensures reached { (c rest : List Point) → Reaches c (kept.old.items ++ next ∷ rest)
+        → Reaches c (kept.new.items ++ next ∷ rest) }
+    ensures none_straight { NoneStraight kept.old.items → NoneStraight (kept.new.items ++ next ∷ []) }
+    ensures in_range { All (IsWithin I.least I.greatest) kept.new.items }
 {
     while kept.len() >= 2 && is_straight(kept[kept.len() - 2], kept[kept.len() - 1], next) {
         kept.pop();
@@ -73,10 +72,10 @@ fn step_back<I: OverlayInt>(kept: &mut Vec<IntPoint<I>>, next: IntPoint<I>)
 
 // Whether the three points lie on one line.
 fn is_straight<I: OverlayInt>(a: IntPoint<I>, b: IntPoint<I>, c: IntPoint<I>) -> bool
-    requires a_in_range { IsWithin I.least I.greatest (point_of I.value a) }
-    requires b_in_range { IsWithin I.least I.greatest (point_of I.value b) }
-    requires c_in_range { IsWithin I.least I.greatest (point_of I.value c) }
-    ensures { IsTrue result ↔ (turn (point_of I.value a) (point_of I.value b) (point_of I.value c) ≡ pos 0) }
+    requires a_in_range { IsWithin I.least I.greatest a }
+    requires b_in_range { IsWithin I.least I.greatest b }
+    requires c_in_range { IsWithin I.least I.greatest c }
+    ensures { IsTrue result ↔ (turn a b c ≡ pos 0) }
 {
     orientation(a, b, c) == Ordering::Equal
 }
@@ -84,11 +83,11 @@ fn is_straight<I: OverlayInt>(a: IntPoint<I>, b: IntPoint<I>, c: IntPoint<I>) ->
 // Takes points off both ends while the last, or the first, lies on a line between its neighbours round the seam.
 // What is left begins at the place that is answered.
 fn trim<I: OverlayInt>(kept: &mut Vec<IntPoint<I>>) -> usize
-    requires in_range { All (IsWithin I.least I.greatest) (points_of I.value kept.old.items) }
+    requires in_range { All (IsWithin I.least I.greatest) kept.old.items }
     ensures start { result ≤ length kept.new.items }
-    ensures reached { (c : List Point) → Reaches c (points_of I.value kept.old.items) → Reaches c (drop result (points_of I.value kept.new.items)) }
-    ensures bare { NoneStraight (points_of I.value kept.old.items) → 3 ≤ length kept.new.items - result
-        → IsBare (drop result (points_of I.value kept.new.items)) }
+    ensures reached { (c : List Point) → Reaches c kept.old.items → Reaches c (drop result kept.new.items) }
+    ensures bare { NoneStraight kept.old.items → 3 ≤ length kept.new.items - result
+        → IsBare (drop result kept.new.items) }
 {
     let mut start = 0;
     while kept.len() - start >= 3 {

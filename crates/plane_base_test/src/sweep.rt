@@ -1,11 +1,10 @@
 //! A sweep over segments that knows of the live ones what the trait of collections says, and no more: each segment is put
 //! in at a column that it spans, and the uppermost one below a point is asked for.
 
-ghost use Rattle.std.specs.Prelude.{◌≡◌, ◌≢◌, ◌∷◌, ◌≤ℤ◌, ◌+ℤ◌, pos, ◌+◌, ◌-◌, ◌^◌, ◌≤◌, length, IfOk, OnOk, OnErr};
+ghost use Rattle.std.specs.Prelude.{◌≡◌, ◌≢◌, ◌+◌, ◌-◌, ◌^◌, ◌≤◌, length, IfOk, OnOk, OnErr};
 ghost use Rattle.std.specs.declared.cmp.Ordering.TheVariants.{Less};
 ghost use Rattle.i_tree.specs.LiveList.{live_at, live_with, IsNotBefore, HasRoom, IsAdvanced, IsInserted};
 ghost use Rattle.plane_base.specs.Plane.{IsWithin};
-ghost use Rattle.plane_base.specs.Views.{point_of};
 ghost use Rattle.plane_base.specs.SegmentViews.{edge_of};
 ghost use Rattle.plane_base_test.specs.Columns.{AreApart, IsNewAndApart, IsOverColumn, IsUppermostBelow, swept, CanSweep};
 
@@ -28,7 +27,7 @@ pub fn add<I: OverlayInt, V: Copy, C: KeyExpCollection<VSegment<I>, I, V>, L: Le
 ) -> Result<(), AllocError>
     requires room { HasRoom (C.live_list live.old) }
     requires in_time { IsNotBefore I.cmp column (C.live_list live.old) }
-    requires new_and_apart { IsNewAndApart (edge_of I.value) (I.value column) segment
+    requires new_and_apart { IsNewAndApart edge_of (I.value column) segment
         (live_at I.cmp ⟦<VSegment<I> as ExpiredKey<I>>⟧.expires column (C.live_list live.old).entries) }
     ensures ok { OnOk result (IsInserted I.cmp ⟦<VSegment<I> as ExpiredKey<I>>⟧.expires ⟦<VSegment<I> as ExpiredKey<I>>⟧.order
         (segment, val) column (C.live_list live.old) (C.live_list live.new)) }
@@ -48,11 +47,11 @@ pub fn last_below<I: OverlayInt, V: Copy, C: KeyExpCollection<VSegment<I>, I, V>
     steps: &mut Steps<L>,
 ) -> V
     requires in_time { IsNotBefore I.cmp column (C.live_list live.old) }
-    requires apart { AreApart (edge_of I.value) (I.value column)
+    requires apart { AreApart edge_of (I.value column)
         (live_at I.cmp ⟦<VSegment<I> as ExpiredKey<I>>⟧.expires column (C.live_list live.old).entries) }
-    requires point_in_range { IsWithin I.least I.greatest (point_of I.value point) }
-    requires over_column { IsOverColumn (I.value column) (point_of I.value point) }
-    ensures answer { IsUppermostBelow (edge_of I.value) (point_of I.value point) default
+    requires point_in_range { IsWithin I.least I.greatest point }
+    requires over_column { IsOverColumn (I.value column) point }
+    ensures answer { IsUppermostBelow edge_of point default
         (live_at I.cmp ⟦<VSegment<I> as ExpiredKey<I>>⟧.expires column (C.live_list live.old).entries) result }
     ensures kept { IsAdvanced I.cmp ⟦<VSegment<I> as ExpiredKey<I>>⟧.expires column (C.live_list live.old) (C.live_list live.new) }
 {
@@ -80,14 +79,14 @@ pub fn add_and_ask<I: OverlayInt, V: Copy, C: KeyExpCollection<VSegment<I>, I, V
     requires room { HasRoom (C.live_list live.old) }
     requires in_time { IsNotBefore I.cmp column (C.live_list live.old) }
     requires in_order { I.cmp later column ≢ Less }
-    requires new_and_apart { IsNewAndApart (edge_of I.value) (I.value column) segment
+    requires new_and_apart { IsNewAndApart edge_of (I.value column) segment
         (live_at I.cmp ⟦<VSegment<I> as ExpiredKey<I>>⟧.expires column (C.live_list live.old).entries) }
-    requires apart_later { AreApart (edge_of I.value) (I.value later)
+    requires apart_later { AreApart edge_of (I.value later)
         (live_with I.cmp ⟦<VSegment<I> as ExpiredKey<I>>⟧.expires ⟦<VSegment<I> as ExpiredKey<I>>⟧.order (segment, val) later (C.live_list live.old).entries) }
-    requires point_in_range { IsWithin I.least I.greatest (point_of I.value point) }
-    requires over_column { IsOverColumn (I.value later) (point_of I.value point) }
+    requires point_in_range { IsWithin I.least I.greatest point }
+    requires over_column { IsOverColumn (I.value later) point }
     ensures { IfOk result (λ answer.
-        IsUppermostBelow (edge_of I.value) (point_of I.value point) default
+        IsUppermostBelow edge_of point default
         (live_with I.cmp ⟦<VSegment<I> as ExpiredKey<I>>⟧.expires ⟦<VSegment<I> as ExpiredKey<I>>⟧.order (segment, val) later (C.live_list live.old).entries)
         answer) }
 {
@@ -102,7 +101,7 @@ pub fn sweep<I: OverlayInt, V: Copy, C: KeyExpCollection<VSegment<I>, I, V>, L: 
     steps: &mut Steps<L>,
 ) -> Result<(), AllocError>
     requires room { (C.live_list live.old).insertions + length segments.now ≤ 2 ^ 31 - 1 }
-    requires can_sweep { CanSweep I.cmp ⟦<VSegment<I> as ExpiredKey<I>>⟧.expires ⟦<VSegment<I> as ExpiredKey<I>>⟧.order (λ s. s.a.x) (edge_of I.value) I.value
+    requires can_sweep { CanSweep I.cmp ⟦<VSegment<I> as ExpiredKey<I>>⟧.expires ⟦<VSegment<I> as ExpiredKey<I>>⟧.order (λ s. s.a.x) edge_of I.value
         (C.live_list live.old).latest_time segments.now (C.live_list live.old).entries }
     ensures { OnOk result ((C.live_list live.new).entries ≡
         swept I.cmp ⟦<VSegment<I> as ExpiredKey<I>>⟧.expires ⟦<VSegment<I> as ExpiredKey<I>>⟧.order (λ s. s.a.x) segments.now (C.live_list live.old).entries) }

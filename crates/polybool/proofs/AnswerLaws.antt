@@ -42,15 +42,15 @@ use Rattle.polybool.specs.declared.words.Keep.{Keep}
 
 -- the contours of a list, as a builder sees them
 abbrev pub paths_in : {I : Type 0} → (I → ℤ) → List (IntPath I) → List (List Point)
-paths_in value cs = map (points_of value) (map (λ c. c.points.items) cs)
+paths_in value cs = (map (λ c. c.points.items) cs)
 
-pub paths_are : {I : Type 0} (value : I → ℤ) (cs : List (IntPath I)) → paths_in value cs ≡ contours_of value cs
-paths_are value cs = map-map (points_of value) (λ c. c.points.items) cs
+pub paths_are : {I : Type 0} (value : I → ℤ) (cs : List (IntPath I)) → paths_in value cs ≡ contours_of cs
+paths_are value cs = map-map points_of (λ c. c.points.items) cs
 
-pub paths_in_range : {I : Type 0} (value : I → ℤ) (least greatest : ℤ) (cs : List (IntPath I)) → AreInRange value least greatest cs
+pub paths_in_range : {I : Type 0} (value : I → ℤ) (least greatest : ℤ) (cs : List (IntPath I)) → AreInRange least greatest cs
     → All (All (IsWithin least greatest)) (paths_in value cs)
 paths_in_range value least greatest cs h =
-    subst (All (All (IsWithin least greatest))) (sym (paths_are value cs)) (All-map (All (IsWithin least greatest)) (λ c. points_of value c.points.items) cs h)
+    subst (All (All (IsWithin least greatest))) (sym (paths_are value cs)) (All-map (All (IsWithin least greatest)) (λ c. c.points.items) cs h)
 
 -- ---- what is answered
 
@@ -123,20 +123,20 @@ not_failed kept (Err f) h = λ e. never_failed kept (subst (IsOverlayRefused kep
 
 -- ---- what is handed on
 
-pub handed_answer : {I W : Type 0} {int order equality part wide wide_order wide_equality wide_part : _} (value : I → ℤ) (kept : Store) (o : Overlay) (keep : Keep) (shapes : Result (IntShapes I) Fault) (r : Result (Answer I W int order equality part wide wide_order wide_equality wide_part) Refusal) → IsHandedOn keep shapes r
-    → IfOk shapes (λ s. IsAnswer kept o (shapes_of value s.shapes.items)) → IfOk r (λ a. IsAnswer kept o (shapes_of value a.shapes.shapes.items))
-handed_answer value kept o keep (Ok s) (Ok a) is h = subst (λ t. IsAnswer kept o (shapes_of value t.shapes.items)) (sym is.0) h
+pub handed_answer : {I W : Type 0} {int number order equality part wide wide_order wide_equality wide_part : _} (value : I → ℤ) (kept : Store) (o : Overlay) (keep : Keep) (shapes : Result (IntShapes I) Fault) (r : Result (Answer I W int number order equality part wide wide_order wide_equality wide_part) Refusal) → IsHandedOn keep shapes r
+    → IfOk shapes (λ s. IsAnswer kept o (shapes_of s.shapes.items)) → IfOk r (λ a. IsAnswer kept o (shapes_of a.shapes.shapes.items))
+handed_answer value kept o keep (Ok s) (Ok a) is h = subst (λ t. IsAnswer kept o (shapes_of t.shapes.items)) (sym is.0) h
 handed_answer value kept o keep (Ok s) (Err e) is h = tt
 handed_answer value kept o keep (Err f) (Ok a) is h = absurd is
 handed_answer value kept o keep (Err f) (Err e) is h = tt
 
-pub handed_keep : {I W : Type 0} {int order equality part wide wide_order wide_equality wide_part : _} (keep : Keep) (shapes : Result (IntShapes I) Fault) (r : Result (Answer I W int order equality part wide wide_order wide_equality wide_part) Refusal) → IsHandedOn keep shapes r → IfOk r (λ a. a.keep ≡ keep)
+pub handed_keep : {I W : Type 0} {int number order equality part wide wide_order wide_equality wide_part : _} (keep : Keep) (shapes : Result (IntShapes I) Fault) (r : Result (Answer I W int number order equality part wide wide_order wide_equality wide_part) Refusal) → IsHandedOn keep shapes r → IfOk r (λ a. a.keep ≡ keep)
 handed_keep keep (Ok s) (Ok a) is = is.1
 handed_keep keep (Ok s) (Err e) is = tt
 handed_keep keep (Err f) (Ok a) is = absurd is
 handed_keep keep (Err f) (Err e) is = tt
 
-pub handed_refusal : {I W : Type 0} {int order equality part wide wide_order wide_equality wide_part : _} (kept : Store) (keep : Keep) (shapes : Result (IntShapes I) Fault) (r : Result (Answer I W int order equality part wide wide_order wide_equality wide_part) Refusal) → IsHandedOn keep shapes r
+pub handed_refusal : {I W : Type 0} {int number order equality part wide wide_order wide_equality wide_part : _} (kept : Store) (keep : Keep) (shapes : Result (IntShapes I) Fault) (r : Result (Answer I W int number order equality part wide wide_order wide_equality wide_part) Refusal) → IsHandedOn keep shapes r
     → IfErr shapes (IsOverlayRefused kept) → IfErr r (IsOneOf (overlay_refusals kept))
 handed_refusal kept keep (Ok s) (Ok a) is h = tt
 handed_refusal kept keep (Ok s) (Err e) is h = absurd is
@@ -148,61 +148,61 @@ handed_refusal kept keep (Err f) (Err e) is h = why_refused kept f e h is
 module _ {I : Type 0} (value : I → ℤ) where
   abbrev pub Winds : Overlay → IntOverlayOptions → Solver → List (Entry Windings) → IntShapes I → Type 0
   Winds o options solver held shapes =
-      WindsOnce (is_clockwise options.output_direction) (fill_rule_of o.fill) (overlay_rule_of o.rule) (redrawn_of solver.precision held) (all_contours (shapes_of value shapes.shapes.items))
+      WindsOnce (is_clockwise options.output_direction) (fill_rule_of o.fill) (overlay_rule_of o.rule) (redrawn_of solver.precision held) (all_contours (shapes_of shapes.shapes.items))
 
   abbrev pub IsCanonical : Overlay → IntOverlayOptions → Solver → List (Entry Windings) → IntShapes I → Type 0
   IsCanonical o options solver held shapes =
-      shapes_of value shapes.shapes.items ≡ answer_with (answering_of options)
+      shapes_of shapes.shapes.items ≡ answer_with (answering_of options)
       (borders (fill_rule_of o.fill) (overlay_rule_of o.rule) (redrawn_of solver.precision held))
 
   -- its area has room in 128 bits
-  pub overlay_measurable : (least greatest : ℤ) (r : Result (IntShapes I) Fault) → IfOk r (λ shapes. All (All (IsWithin least greatest)) (all_contours (shapes_of value shapes.shapes.items)))
-      → IfOk r (λ shapes. length (flat_map (λ c. c) (all_contours (shapes_of value shapes.shapes.items))) < 2 ^ 31)
-      → IfOk r (λ shapes. AreMeasurable least greatest (flat_map (λ s. s) (shapes_of value shapes.shapes.items)))
+  pub overlay_measurable : (least greatest : ℤ) (r : Result (IntShapes I) Fault) → IfOk r (λ shapes. All (All (IsWithin least greatest)) (all_contours (shapes_of shapes.shapes.items)))
+      → IfOk r (λ shapes. length (flat_map (λ c. c) (all_contours (shapes_of shapes.shapes.items))) < 2 ^ 31)
+      → IfOk r (λ shapes. AreMeasurable least greatest (flat_map (λ s. s) (shapes_of shapes.shapes.items)))
   overlay_measurable least greatest (Err f) within few = tt
-  overlay_measurable least greatest (Ok shapes) within few = measurable least greatest (flat_map (λ s. s) (shapes_of value shapes.shapes.items)) within few
+  overlay_measurable least greatest (Ok shapes) within few = measurable least greatest (flat_map (λ s. s) (shapes_of shapes.shapes.items)) within few
 
-module _ {I W : Type 0} {int order equality part wide wide_order wide_equality wide_part : _} (value : I → ℤ) where
+module _ {I W : Type 0} {int number order equality part wide wide_order wide_equality wide_part : _} (value : I → ℤ) where
   -- the edges of the kept contours are held
-  abbrev pub HoldsKept : Kept I W int order equality part wide wide_order wide_equality wide_part → List (Entry Windings) → Type 0
+  abbrev pub HoldsKept : Kept I W int number order equality part wide wide_order wide_equality wide_part → List (Entry Windings) → Type 0
   HoldsKept kept held = HoldsBoth false (paths_in value kept.subjects.contours.items) (paths_in value kept.clips.contours.items) held
 
-  holds_kept : (kept : Kept I W int order equality part wide wide_order wide_equality wide_part) (held : List (Entry Windings)) → HoldsKept kept held → HoldsBoth false (store_of value kept).subjects (store_of value kept).clips held
+  holds_kept : (kept : Kept I W int number order equality part wide wide_order wide_equality wide_part) (held : List (Entry Windings)) → HoldsKept kept held → HoldsBoth false (store_of kept).subjects (store_of kept).clips held
   holds_kept kept held h =
-      subst (λ s. HoldsBoth false s (store_of value kept).clips held) (paths_are value kept.subjects.contours.items)
+      subst (λ s. HoldsBoth false s (store_of kept).clips held) (paths_are value kept.subjects.contours.items)
       (subst (λ c. HoldsBoth false (paths_in value kept.subjects.contours.items) c held) (paths_are value kept.clips.contours.items) h)
 
   -- its answer is that of the overlay
-  pub overlay_answers : (kept : Kept I W int order equality part wide wide_order wide_equality wide_part) (o : Overlay) (options : IntOverlayOptions) (solver : Solver) (held : List (Entry Windings)) (r : Result (IntShapes I) Fault)
+  pub overlay_answers : (kept : Kept I W int number order equality part wide wide_order wide_equality wide_part) (o : Overlay) (options : IntOverlayOptions) (solver : Solver) (held : List (Entry Windings)) (r : Result (IntShapes I) Fault)
       → options ≡ options_for o → solver ≡ solver_for o.strategy → HoldsKept kept held
       → IfOk r (λ shapes. options.min_output_area ≡ 0 → Winds value o options solver held shapes)
       → IfOk r (λ shapes. IsCanonical value o options solver held shapes)
-      → IfOk r (λ shapes. IsAnswer (store_of value kept) o (shapes_of value shapes.shapes.items))
+      → IfOk r (λ shapes. IsAnswer (store_of kept) o (shapes_of shapes.shapes.items))
   overlay_answers kept o options solver held (Err f) e g holds winds canonical = tt
   overlay_answers kept o options solver held (Ok shapes) e g holds winds canonical =
-      answered (store_of value kept) o held (shapes_of value shapes.shapes.items) (holds_kept kept held holds)
+      answered (store_of kept) o held (shapes_of shapes.shapes.items) (holds_kept kept held holds)
       (subst (λ s. Winds value o (options_for o) s held shapes) g (subst (λ p. p.min_output_area ≡ 0 → Winds value o p solver held shapes) e winds refl))
       (subst (λ s. IsCanonical value o (options_for o) s held shapes) g (subst (λ p. IsCanonical value o p solver held shapes) e canonical))
 
   -- its refusal is one of the overlay
-  pub overlay_refuses : (kept : Kept I W int order equality part wide wide_order wide_equality wide_part) (o : Overlay) (solver : Solver) (held : List (Entry Windings)) (is_failed : Bool) (r : Result (IntShapes I) Fault)
+  pub overlay_refuses : (kept : Kept I W int number order equality part wide wide_order wide_equality wide_part) (o : Overlay) (solver : Solver) (held : List (Entry Windings)) (is_failed : Bool) (r : Result (IntShapes I) Fault)
       → solver ≡ solver_for o.strategy → is_failed ≡ false → HoldsKept kept held → IfErr r (IsRefusedBy is_failed (IsQueryRefused solver.precision held))
-      → IfErr r (IsOverlayRefused (store_of value kept))
+      → IfErr r (IsOverlayRefused (store_of kept))
   overlay_refuses kept o solver held is_failed (Ok shapes) g h holds why = tt
   overlay_refuses kept o solver held is_failed (Err f) g h holds why =
-      not_answered (store_of value kept) held f (holds_kept kept held holds)
+      not_answered (store_of kept) held f (holds_kept kept held holds)
       (subst (λ s. IsQueryRefused s.precision held f) g (subst (λ b. IsRefusedBy b (IsQueryRefused solver.precision held) f) h why))
 
   -- ---- relations
 
   -- the relations of a new builder are those of the kept contours
-  pub relations_told : (kept : Kept I W int order equality part wide wide_order wide_equality wide_part) (r : Relate) (fill : FillRule) (solver : Solver) (held : List (Entry Windings)) (found : Result Relations Fault)
+  pub relations_told : (kept : Kept I W int number order equality part wide wide_order wide_equality wide_part) (r : Relate) (fill : FillRule) (solver : Solver) (held : List (Entry Windings)) (found : Result Relations Fault)
       → fill ≡ r.fill → solver ≡ solver_for r.strategy → HoldsKept kept held
       → IfOk found (λ relations. relations ≡ relations_of (all_links (fill_rule_of fill) (redrawn_of solver.precision held)))
-      → IfOk found (AreRelations (store_of value kept) r)
+      → IfOk found (AreRelations (store_of kept) r)
   relations_told kept r fill solver held (Err f) e g holds are = tt
   relations_told kept r fill solver held (Ok relations) e g holds are =
-      let edges = edges_are (store_of value kept) held (holds_kept kept held holds) in record {
+      let edges = edges_are (store_of kept) held (holds_kept kept held holds) in record {
         subjects = edges.0;
         clips = edges.1;
         are_thinned = edges.2;
@@ -212,19 +212,19 @@ module _ {I W : Type 0} {int order equality part wide wide_order wide_equality w
       }
 
   -- a builder of these contours could not be made
-  pub not_built : (kept : Kept I W int order equality part wide wide_order wide_equality wide_part) (f : Fault) → IsNotMade false (paths_in value kept.subjects.contours.items) (paths_in value kept.clips.contours.items) f
-      → IsOverlayRefused (store_of value kept) f
+  pub not_built : (kept : Kept I W int number order equality part wide wide_order wide_equality wide_part) (f : Fault) → IsNotMade false (paths_in value kept.subjects.contours.items) (paths_in value kept.clips.contours.items) f
+      → IsOverlayRefused (store_of kept) f
   not_built kept f why =
-      not_made (store_of value kept) (paths_in value kept.subjects.contours.items) (paths_in value kept.clips.contours.items) f
+      not_made (store_of kept) (paths_in value kept.subjects.contours.items) (paths_in value kept.clips.contours.items) f
       (paths_are value kept.subjects.contours.items) (paths_are value kept.clips.contours.items) why
 
   -- a new builder could not tell them
-  pub relations_refused : (kept : Kept I W int order equality part wide wide_order wide_equality wide_part) (strategy : Strategy) (solver : Solver) (held : List (Entry Windings)) (is_failed : Bool) (found : Result Relations Fault)
+  pub relations_refused : (kept : Kept I W int number order equality part wide wide_order wide_equality wide_part) (strategy : Strategy) (solver : Solver) (held : List (Entry Windings)) (is_failed : Bool) (found : Result Relations Fault)
       → solver ≡ solver_for strategy → is_failed ≡ false → HoldsKept kept held → IfErr found (IsRefusedBy is_failed (IsQueryRefused solver.precision held))
-      → IfErr found (IsOverlayRefused (store_of value kept))
+      → IfErr found (IsOverlayRefused (store_of kept))
   relations_refused kept strategy solver held is_failed (Ok relations) g h holds why = tt
   relations_refused kept strategy solver held is_failed (Err f) g h holds why =
-      not_answered (store_of value kept) held f (holds_kept kept held holds)
+      not_answered (store_of kept) held f (holds_kept kept held holds)
       (subst (λ s. IsQueryRefused s.precision held f) g (subst (λ b. IsRefusedBy b (IsQueryRefused solver.precision held) f) h why))
 
 pub relations_not_failed : (kept : Store) (found : Result Relations Fault) (f : Fault) → found ≡ Err f → IfErr found (IsOverlayRefused kept) → f ≢ fault.Failed

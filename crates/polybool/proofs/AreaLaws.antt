@@ -5,12 +5,11 @@ use Rattle.std.specs.Int.{w128}
 use Rattle.std.specs.Prelude.{Option, Some, None}
 use Rattle.std.specs.Option.{option_map}
 use Rattle.std.proofs.lemmas.List.{take-append-drop, take_more}
-use Rattle.std.proofs.lemmas.List.{map-append, length-map}
+use Rattle.std.proofs.lemmas.List.{map-append}
 use Rattle.std.proofs.Math.Seq.{drop-cons}
 use Rattle.std.proofs.lemmas.List.Elements.{All-tail, All-append}
 use Rattle.std.proofs.lemmas.Grind.{flat_map-append}
 use Rattle.plane_base.specs.Plane.{Point, IsWithin, HasSize}
-use Rattle.plane_base.specs.Views.{point_of, points_of}
 use Rattle.plane_base.specs.GivenViews.{contours_of}
 use Rattle.plane_base.specs.Areas.{step_area, path_area, area}
 use Rattle.plane_base.proofs.Facts.Windings.AreaRoom.{step_fits}
@@ -65,33 +64,33 @@ pub machine_sum_is : (s r t a b : ℤ) → FitsSigned w128 r → t ≡ a +ℤ b 
 machine_sum_is s r t a b f e g h fits = rw (to_z-of_z w128 r f, g, h, sym e) (to_z-of_z w128 t fits)
 
 module _ {I : Type 0} (value : I → ℤ) where
-  contours_join : Joins (contours_of value)
-  contours_join xs ys = map-append (λ c. points_of value c.points.items) xs ys
+  contours_join : Joins {X = IntPath I} contours_of
+  contours_join xs ys = map-append (λ c. c.points.items) xs ys
 
   nothing_more : (a b c : ℤ) → a ≡ b +ℤ (c +ℤ pos 0) → a ≡ b +ℤ c
   nothing_more a b c e = omega (arith, ints)
 
   pub contour_next : (cs : List (IntPath I)) (i : ℕ) (c : IntPath I) → i < length cs → c ≡ get_or cs i c
-      → area_sum (contours_of value (take (i + 1) cs)) ≡ area_sum (contours_of value (take i cs)) +ℤ area (points_of value c.points.items)
-  contour_next cs i c h e = nothing_more _ (area_sum (contours_of value (take i cs))) (area (points_of value c.points.items)) (taken_next (contours_of value) contours_join cs i c h e)
+      → area_sum (contours_of (take (i + 1) cs)) ≡ area_sum (contours_of (take i cs)) +ℤ area c.points.items
+  contour_next cs i c h e = nothing_more _ (area_sum (contours_of (take i cs))) (area c.points.items) (taken_next contours_of contours_join cs i c h e)
 
   -- the contours of shapes, one after the other
   abbrev pub contours_in : List (IntShape I) → List (List Point)
-  contours_in ss = flat_map (λ s. contours_of value s.contours.items) ss
+  contours_in ss = flat_map (λ s. contours_of s.contours.items) ss
 
   shapes_join : Joins contours_in
-  shapes_join xs ys = flat_map-append (λ s. contours_of value s.contours.items) xs ys
+  shapes_join xs ys = flat_map-append (λ s. contours_of s.contours.items) xs ys
 
-  one_shape : (s : IntShape I) → contours_in (s ∷ []) ≡ contours_of value s.contours.items
-  one_shape s = append-nil (contours_of value s.contours.items)
+  one_shape : (s : IntShape I) → contours_in (s ∷ []) ≡ contours_of s.contours.items
+  one_shape s = append-nil (contours_of s.contours.items)
 
   pub shape_next : (ss : List (IntShape I)) (i : ℕ) (s : IntShape I) → i < length ss → s ≡ get_or ss i s
-      → area_sum (contours_in (take (i + 1) ss)) ≡ area_sum (contours_in (take i ss)) +ℤ area_sum (contours_of value s.contours.items)
+      → area_sum (contours_in (take (i + 1) ss)) ≡ area_sum (contours_in (take i ss)) +ℤ area_sum (contours_of s.contours.items)
   shape_next ss i s h e = taken_next contours_in shapes_join ss i s h e ∙ ap (λ cs. area_sum (contours_in (take i ss)) +ℤ area_sum cs) (one_shape s)
 
   -- the contours of the shapes, as the code holds them
-  pub contours_in-is : (shapes : IntShapes I) → flat_map (λ s. s) (shapes_of value shapes.shapes.items) ≡ contours_in shapes.shapes.items
-  contours_in-is shapes = flat_map-map (λ s. s) (λ s. contours_of value s.contours.items) shapes.shapes.items
+  pub contours_in-is : (shapes : IntShapes I) → flat_map (λ s. s) (shapes_of shapes.shapes.items) ≡ contours_in shapes.shapes.items
+  contours_in-is shapes = flat_map-map (λ s. s) (λ s. contours_of s.contours.items) shapes.shapes.items
 
 module _ {I : Type 0} (value : I → ℤ) (least greatest : ℤ) where
   -- each thing's contours can be measured
@@ -108,24 +107,23 @@ module _ {I : Type 0} (value : I → ℤ) (least greatest : ℤ) where
       )
 
   -- the contours of a shape
-  pub contour_in_range : (cs : List (IntPath I)) (i : ℕ) (c : IntPath I) → i < length cs → c ≡ get_or cs i c → AreMeasurable least greatest (contours_of value cs)
-      → All (IsWithin least greatest) (points_of value c.points.items)
+  pub contour_in_range : (cs : List (IntPath I)) (i : ℕ) (c : IntPath I) → i < length cs → c ≡ get_or cs i c → AreMeasurable least greatest (contours_of cs)
+      → All (IsWithin least greatest) c.points.items
   contour_in_range cs i c h e m =
-      subst (λ ps. All (IsWithin least greatest) ps) (append-nil (points_of value c.points.items)) ((one_measurable (contours_of value) (contours_join value) cs i c h e m).0)
+      subst (λ ps. All (IsWithin least greatest) ps) (append-nil c.points.items) ((one_measurable contours_of (contours_join value) cs i c h e m).0)
 
   -- so many points that 128 bits hold its area
-  pub contour_few : (cs : List (IntPath I)) (i : ℕ) (c : IntPath I) → i < length cs → c ≡ get_or cs i c → AreMeasurable least greatest (contours_of value cs)
+  pub contour_few : (cs : List (IntPath I)) (i : ℕ) (c : IntPath I) → i < length cs → c ≡ get_or cs i c → AreMeasurable least greatest (contours_of cs)
       → length c.points.items < 2 ^ 31
   contour_few cs i c h e m =
       omega (
         arith,
-        length-map c.points.items (point_of value),
-        ap length (append-nil (points_of value c.points.items)),
-        (one_measurable (contours_of value) (contours_join value) cs i c h e m).1,
+        ap length (append-nil c.points.items),
+        (one_measurable contours_of (contours_join value) cs i c h e m).1,
       )
 
   pub shape_measurable : (ss : List (IntShape I)) (i : ℕ) (s : IntShape I) → i < length ss → s ≡ get_or ss i s → AreMeasurable least greatest (contours_in value ss)
-      → AreMeasurable least greatest (contours_of value s.contours.items)
+      → AreMeasurable least greatest (contours_of s.contours.items)
   shape_measurable ss i s h e m = subst (AreMeasurable least greatest) (one_shape value s) (one_measurable (contours_in value) (shapes_join value) ss i s h e m)
 
 module _ {I : Type 0} (value : I → ℤ) (least greatest : ℤ) (low : neg_ℤ (pos (2 ^ 36)) ≤ℤ least) (high : greatest <ℤ pos (2 ^ 36)) where
@@ -174,8 +172,8 @@ module _ {I : Type 0} (value : I → ℤ) (least greatest : ℤ) (low : neg_ℤ 
   pub taken_fits : {X : Type 0} (g : List X → List (List Point)) → Joins g → (xs : List X) (i : ℕ) → AreMeasurable least greatest (g xs) → FitsSigned w128 (area_sum (g (take i xs)))
   taken_fits g joins xs i h = sum_fits (g (take i xs)) (g (drop i xs)) (g xs) (ap g (sym (take-append-drop i xs)) ∙ joins (take i xs) (drop i xs)) h
 
-  pub contours_fit : (cs : List (IntPath I)) (i : ℕ) → AreMeasurable least greatest (contours_of value cs) → FitsSigned w128 (area_sum (contours_of value (take i cs)))
-  contours_fit cs i m = taken_fits (contours_of value) (contours_join value) cs i m
+  pub contours_fit : (cs : List (IntPath I)) (i : ℕ) → AreMeasurable least greatest (contours_of cs) → FitsSigned w128 (area_sum (contours_of (take i cs)))
+  contours_fit cs i m = taken_fits contours_of (contours_join value) cs i m
 
   pub shapes_fit : (ss : List (IntShape I)) (i : ℕ) → AreMeasurable least greatest (contours_in value ss) → FitsSigned w128 (area_sum (contours_in value (take i ss)))
   shapes_fit ss i m = taken_fits (contours_in value) (shapes_join value) ss i m

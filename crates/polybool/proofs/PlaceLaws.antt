@@ -1,12 +1,11 @@
 -- Laws of points that are located.
-use Rattle.std.proofs.Common.{◌≡◌, ◌<◌, ℕ, zero, suc, Bool, true, false, cond, List, [], ◌∷◌, flat_map, length, get_or, All, refl, sym, ap, ap₂, ◌∙◌, arith}
+use Rattle.std.proofs.Common.{◌≡◌, Bool, true, false, cond, List, [], ◌∷◌, flat_map, get_or, All, refl, sym, ap, ◌∙◌, arith}
 use Rattle.std.proofs.lemmas.List.Elements.{All-nil, All-cons}
 use Rattle.plane_base.specs.Plane.{Point}
 use Rattle.segment_arrangement.specs.FanLaws.{whole}
 use Rattle.contour_walk.specs.BindingLaws.{all_contours}
 use Rattle.polygon_overlay.specs.Location.{in_shapes, is_on_edge, AreLocated}
 use Rattle.polybool.specs.Places.{place_of}
-use Rattle.polybool.specs.declared.place.Place.{Place}
 use Rattle.polybool.specs.declared.place.Place.TheVariants.{Inside, Outside, OnEdge}
 use Rattle.polybool.specs.declared.words.Keep.{Keep}
 use Rattle.polybool.specs.declared.words.Keep.TheVariants.{Corners, Points}

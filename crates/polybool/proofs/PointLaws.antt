@@ -1,13 +1,11 @@
 -- Laws of the points that words spell, and of what is held of them.
 use Rattle.std.proofs.Common.{◌≡◌, ℕ, zero, suc, ◌<◌, ◌≤◌, ℤ, Bool, List, [], ◌∷◌, ◌++◌, length, arith, length-append, subst, refl, ap, sym, true, false, Option, Some, None, append_assoc, All, IfSome, ◌∙◌}
 use Rattle.std.specs.Prelude.{if◌then◌else◌}
-use Rattle.std.proofs.lemmas.List.{get_or_append_left, map-append, length-map}
+use Rattle.std.proofs.lemmas.List.{get_or_append_left}
 use Rattle.std.proofs.Math.Seq.{get_or-append_seam}
 use Rattle.std.specs.Borrow.{Bor}
 use Rattle.std.proofs.lemmas.List.Elements.{All-append}
 use Rattle.plane_base.specs.Plane.{Point, IsWithin}
-use Rattle.plane_base.specs.Views.{point_of, points_of}
-use Rattle.plane_base.specs.declared.point.IntPoint.{IntPoint}
 use Rattle.std.specs.Option.{option_copied}
 use Rattle.polybool.specs.Fronts.{BeginsWith}
 use Rattle.polybool.specs.Numerals.{numeral, points_spelled, with_point}
@@ -36,9 +34,9 @@ full_more : (room : ℕ) (ps : List Point) (p : Point) → room < length ps → 
 full_more room ps p h = omega (arith, h, length-append ps (p ∷ []))
 
 -- A point that is out of range, or finds no room, is not held.
-pub Gathers-beyond : {I : Type 0} (value : I → ℤ) (least greatest : ℤ) (g h : Gathered) (points : List (IntPoint I)) (room : ℕ) (ps : List Point) (p : Point)
-    → Gathers value least greatest g points room ps → (IsWithin least greatest p → ⊥)
-    → h.is_within ≡ false → h.has_room ≡ g.has_room → Gathers value least greatest h points room (ps ++ p ∷ [])
+pub Gathers-beyond : {I : Type 0} (value : I → ℤ) (least greatest : ℤ) (g h : Gathered) (points : List Point) (room : ℕ) (ps : List Point) (p : Point)
+    → Gathers least greatest g points room ps → (IsWithin least greatest p → ⊥)
+    → h.is_within ≡ false → h.has_room ≡ g.has_room → Gathers least greatest h points room (ps ++ p ∷ [])
 Gathers-beyond value least greatest g h points room ps p holds out beyond same = record {
   within = λ e. absurd (cc);
   beyond = λ _ all. out (All_last (IsWithin least greatest) ps p all);
@@ -47,23 +45,22 @@ Gathers-beyond value least greatest g h points room ps p holds out beyond same =
 }
 
 -- A point that finds room is held. Where it finds none, there was room for as many points as are held.
-pub Gathers-held : {I : Type 0} (value : I → ℤ) (least greatest : ℤ) (g : Gathered) (points points' : List (IntPoint I)) (room : ℕ) (ps : List Point) (x : IntPoint I) (is_held : Bool)
-    → Gathers value least greatest g points room ps → IsWithin least greatest (point_of value x) → g.is_within ≡ true → g.has_room ≡ true
+pub Gathers-held : {I : Type 0} (value : I → ℤ) (least greatest : ℤ) (g : Gathered) (points points' : List Point) (room : ℕ) (ps : List Point) (x : Point) (is_held : Bool)
+    → Gathers least greatest g points room ps → IsWithin least greatest x → g.is_within ≡ true → g.has_room ≡ true
     → points' ≡ (if is_held then points ++ x ∷ [] else points) → (is_held ≡ false → room ≤ length points)
-    → Gathers value least greatest (record { is_within = g.is_within; has_room = is_held }) points' room (ps ++ point_of value x ∷ [])
+    → Gathers least greatest (record { is_within = g.is_within; has_room = is_held }) points' room (ps ++ x ∷ [])
 Gathers-held value least greatest g points points' room ps x is_held holds in_range within has_room are full =
-    let same : points_of value points ≡ ps = holds.held within has_room in
+    let same : points ≡ ps = holds.held within has_room in
     record {
-      within = λ e. All-append (IsWithin least greatest) ps (point_of value x ∷ []) (holds.within e) (All_one (IsWithin least greatest) (point_of value x) in_range);
+      within = λ e. All-append (IsWithin least greatest) ps (x ∷ []) (holds.within e) (All_one (IsWithin least greatest) x in_range);
       beyond = λ e. absurd (cc);
-      held = λ _ e. ap (points_of value) (are ∙ ap (λ b. if b then points ++ x ∷ [] else points) e)
-          ∙ (map-append (point_of value) points (x ∷ []) ∙ ap (λ qs. qs ++ point_of value x ∷ []) same);
-      full = λ e. omega (arith, full e, ap length same, length-map points (point_of value), length-append ps (point_of value x ∷ []));
+      held = λ _ e. are ∙ (ap (λ b. if b then points ++ x ∷ [] else points) e ∙ ap (λ qs. qs ++ x ∷ []) same);
+      full = λ e. omega (arith, full e, ap length same, length-append ps (x ∷ []));
     }
 
-pub Gathers-unheld : {I : Type 0} (value : I → ℤ) (least greatest : ℤ) (g : Gathered) (points : List (IntPoint I)) (room : ℕ) (ps : List Point) (p : Point)
-    → Gathers value least greatest g points room ps → IsWithin least greatest p
-    → (g.is_within ≡ true → g.has_room ≡ true → ⊥) → Gathers value least greatest g points room (ps ++ p ∷ [])
+pub Gathers-unheld : {I : Type 0} (value : I → ℤ) (least greatest : ℤ) (g : Gathered) (points : List Point) (room : ℕ) (ps : List Point) (p : Point)
+    → Gathers least greatest g points room ps → IsWithin least greatest p
+    → (g.is_within ≡ true → g.has_room ≡ true → ⊥) → Gathers least greatest g points room (ps ++ p ∷ [])
 Gathers-unheld value least greatest g points room ps p holds in_range full = record {
   within = λ e. All-append (IsWithin least greatest) ps (p ∷ []) (holds.within e) (All_one (IsWithin least greatest) p in_range);
   beyond = λ e all. holds.beyond e (All_front (IsWithin least greatest) ps (p ∷ []) all);
@@ -110,7 +107,7 @@ spelled_none (x ∷ y ∷ ws) e = absurd (never (numeral x) (numeral y) (points_
     never (Some x) (Some y) None e = cc
     never (Some x) (Some y) (Some ps) e = cc
 
-module _ {I : Type 0} (value : I → ℤ) (least greatest : ℤ) (ws : List (List ℕ)) (front : Front I) (begins : BeginsWith value least greatest ws front) where
+module _ {I : Type 0} (value : I → ℤ) (least greatest : ℤ) (ws : List (List ℕ)) (front : Front I) (begins : BeginsWith least greatest ws front) where
   -- with nothing behind it
   pub alone_spelled : front.rest ≡ None → points_spelled ws ≡ Some (begins.p ∷ [])
   alone_spelled e =

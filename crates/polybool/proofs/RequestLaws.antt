@@ -29,8 +29,8 @@ is_unknown ws after word is none = λ name arguments e. none name (first _ _ _ _
 module _ (least greatest : ℤ) where
   -- what the words after the first ask for is what all of them ask for
   pub parsed : {I : Type 0} (value : I → ℤ) (ws after : List (List ℕ)) (word : List ℕ) (name : Name) (r : Result (Request I) Refusal) → ws ≡ word ∷ after → word ≡ request_word name
-      → MatchResult r (λ request. (name_of (request_of value request) ≡ name) × SpellAsked least greatest after (request_of value request)) (λ e. (kept : Store) → IsOneOf (refusals least greatest kept name after) e)
-      → MatchResult r (λ request. AskFor least greatest ws (request_of value request)) (λ e. (kept : Store) → AreRefused least greatest kept ws e)
+      → MatchResult r (λ request. (name_of (request_of request) ≡ name) × SpellAsked least greatest after (request_of request)) (λ e. (kept : Store) → IsOneOf (refusals least greatest kept name after) e)
+      → MatchResult r (λ request. AskFor least greatest ws (request_of request)) (λ e. (kept : Store) → AreRefused least greatest kept ws e)
   parsed value ws after word name (Ok request) is e h = (after, is ∙ ap (λ w. w ∷ after) (e ∙ ap request_word (sym h.0)), h.1)
   parsed value ws after word name (Err refusal) is e h = λ kept. named name after (is ∙ ap (λ w. w ∷ after) e) (h kept)
 

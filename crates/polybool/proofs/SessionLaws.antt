@@ -1,5 +1,5 @@
 -- Laws of the lines of an input that comes in pieces.
-use Rattle.std.proofs.Common.{◌≡◌, ◌≢◌, ℕ, ℤ, zero, suc, ◌+◌, ◌<◌, List, [], ◌∷◌, ◌++◌, length, flat_map, All, refl, ap, sym, ◌∙◌, arith, append_assoc, append-nil, subst, add-one}
+use Rattle.std.proofs.Common.{◌≡◌, ◌≢◌, ℕ, ℤ, suc, ◌+◌, ◌<◌, List, [], ◌∷◌, ◌++◌, length, flat_map, All, refl, ap, sym, ◌∙◌, arith, append_assoc, append-nil, subst, add-one}
 use Rattle.std.proofs.lemmas.Grind.{flat_map-append}
 use Rattle.std.proofs.lemmas.List.Elements.{All-append}
 use Rattle.std.proofs.lemmas.List.{length_push}
@@ -69,66 +69,66 @@ module _ (least greatest : ℤ) where
     subst (λ k. StopsAtEnd least greatest input output k) (sym count) (after_last are replies),
   )
 
-module _ {I W : Type 0} {int order equality part wide wide_order wide_equality wide_part : _} (value : I → ℤ) (least greatest : ℤ) where
-  pub Stands-at : (s : Session I W int order equality part wide wide_order wide_equality wide_part) {i j o p : List ℕ} → i ≡ j → o ≡ p → Stands value least greatest s i o → Stands value least greatest s j p
-  Stands-at s {i} {j} {o} {p} e f st = subst (λ t. Stands value least greatest s t p) e (subst (λ t. Stands value least greatest s i t) f st)
+module _ {I W : Type 0} {int number order equality part wide wide_order wide_equality wide_part : _} (value : I → ℤ) (least greatest : ℤ) where
+  pub Stands-at : (s : Session I W int number order equality part wide wide_order wide_equality wide_part) {i j o p : List ℕ} → i ≡ j → o ≡ p → Stands least greatest s i o → Stands least greatest s j p
+  Stands-at s {i} {j} {o} {p} e f st = subst (λ t. Stands least greatest s t p) e (subst (λ t. Stands least greatest s i t) f st)
 
   -- the number of the line that is being answered
-  number_is : (s t : Session I W int order equality part wide wide_order wide_equality wide_part) (input output : List ℕ) (st : Stands value least greatest s input output) → t.answered ≡ s.answered + 1 → t.answered ≡ suc (length st.lines)
+  number_is : (s t : Session I W int number order equality part wide wide_order wide_equality wide_part) (input output : List ℕ) (st : Stands least greatest s input output) → t.answered ≡ s.answered + 1 → t.answered ≡ suc (length st.lines)
   number_is s t input output st e = omega (arith, st.count)
 
   -- the replies with that to the next line
-  replies_more : (s t : Session I W int order equality part wide wide_order wide_equality wide_part) (input output line sent unsent : List ℕ) (st : Stands value least greatest s input output) → t.answered ≡ s.answered + 1
-      → IsReply least greatest t.answered (store_of value s.kept) line (sent ++ unsent) (store_of value t.kept) → unsent ≡ []
-      → AreReplies least greatest (st.lines ++ line ∷ []) (output ++ sent) (store_of value t.kept)
+  replies_more : (s t : Session I W int number order equality part wide wide_order wide_equality wide_part) (input output line sent unsent : List ℕ) (st : Stands least greatest s input output) → t.answered ≡ s.answered + 1
+      → IsReply least greatest t.answered (store_of s.kept) line (sent ++ unsent) (store_of t.kept) → unsent ≡ []
+      → AreReplies least greatest (st.lines ++ line ∷ []) (output ++ sent) (store_of t.kept)
   replies_more s t input output line sent unsent st e reply none =
       let whole : sent ++ unsent ≡ sent = ap (λ u. sent ++ u) none ∙ append-nil sent in
-      more st.replies (subst (λ r. IsReply least greatest (suc (length st.lines)) (store_of value s.kept) line r (store_of value t.kept)) whole
-      (subst (λ n. IsReply least greatest n (store_of value s.kept) line (sent ++ unsent) (store_of value t.kept)) (number_is s t input output st e) reply))
+      more st.replies (subst (λ r. IsReply least greatest (suc (length st.lines)) (store_of s.kept) line r (store_of t.kept)) whole
+      (subst (λ n. IsReply least greatest n (store_of s.kept) line (sent ++ unsent) (store_of t.kept)) (number_is s t input output st e) reply))
 
   -- the input ended at the end of a line
-  pub finish_empty : (s : Session I W int order equality part wide wide_order wide_equality wide_part) (input output : List ℕ) (st : Stands value least greatest s input output) → st.rest ≡ []
+  pub finish_empty : (s : Session I W int number order equality part wide wide_order wide_equality wide_part) (input output : List ℕ) (st : Stands least greatest s input output) → st.rest ≡ []
       → IsTranscript least greatest input (output ++ []) × StopsAtEnd least greatest input (output ++ []) s.answered
   finish_empty s input output st e =
-      rw append-nil (ends least greatest input output st.lines (store_of value s.kept) s.answered (ended_all (subst (λ r. Splits input st.lines r) e st.splits)) st.replies st.count)
+      rw append-nil (ends least greatest input output st.lines (store_of s.kept) s.answered (ended_all (subst (λ r. Splits input st.lines r) e st.splits)) st.replies st.count)
 
   -- the last line, which has no end, is answered
-  pub finish_sent : (s t : Session I W int order equality part wide wide_order wide_equality wide_part) (input output sent unsent : List ℕ) (st : Stands value least greatest s input output) → (st.rest ≡ [] → ⊥) → t.answered ≡ s.answered + 1
-      → IsReply least greatest t.answered (store_of value s.kept) st.rest (sent ++ unsent) (store_of value t.kept) → unsent ≡ []
+  pub finish_sent : (s t : Session I W int number order equality part wide wide_order wide_equality wide_part) (input output sent unsent : List ℕ) (st : Stands least greatest s input output) → (st.rest ≡ [] → ⊥) → t.answered ≡ s.answered + 1
+      → IsReply least greatest t.answered (store_of s.kept) st.rest (sent ++ unsent) (store_of t.kept) → unsent ≡ []
       → IsTranscript least greatest input (output ++ sent) × StopsAtEnd least greatest input (output ++ sent) t.answered
   finish_sent s t input output sent unsent st some e reply none =
-      ends least greatest input (output ++ sent) (st.lines ++ st.rest ∷ []) (store_of value t.kept) t.answered (open_last st.splits (some_length st.rest some))
+      ends least greatest input (output ++ sent) (st.lines ++ st.rest ∷ []) (store_of t.kept) t.answered (open_last st.splits (some_length st.rest some))
       (replies_more s t input output st.rest sent unsent st e reply none)
       (number_is s t input output st e ∙ sym (simp add-one at (length_push st.lines st.rest)))
 
   -- the reply to the next line broke off
-  breaks_off : (s t : Session I W int order equality part wide wide_order wide_equality wide_part) (input output line sent unsent : List ℕ) (st : Stands value least greatest s input output) → t.answered ≡ s.answered + 1
-      → IsReply least greatest t.answered (store_of value s.kept) line (sent ++ unsent) (store_of value t.kept) → 0 < length unsent
+  breaks_off : (s t : Session I W int number order equality part wide wide_order wide_equality wide_part) (input output line sent unsent : List ℕ) (st : Stands least greatest s input output) → t.answered ≡ s.answered + 1
+      → IsReply least greatest t.answered (store_of s.kept) line (sent ++ unsent) (store_of t.kept) → 0 < length unsent
       → BreaksOff least greatest st.lines line (output ++ sent)
   breaks_off s t input output line sent unsent st e reply left = record {
     text = output;
     sent = sent;
     unsent = unsent;
-    kept = store_of value s.kept;
-    after = store_of value t.kept;
+    kept = store_of s.kept;
+    after = store_of t.kept;
     is = refl;
     replies = st.replies;
-    reply = subst (λ n. IsReply least greatest n (store_of value s.kept) line (sent ++ unsent) (store_of value t.kept)) (number_is s t input output st e) reply;
+    reply = subst (λ n. IsReply least greatest n (store_of s.kept) line (sent ++ unsent) (store_of t.kept)) (number_is s t input output st e) reply;
     left = left;
   }
 
   -- the reply to the last line, which has no end, broke off
-  pub finish_unsent : (s t : Session I W int order equality part wide wide_order wide_equality wide_part) (input output sent unsent : List ℕ) (st : Stands value least greatest s input output) → (st.rest ≡ [] → ⊥) → t.answered ≡ s.answered + 1
-      → IsReply least greatest t.answered (store_of value s.kept) st.rest (sent ++ unsent) (store_of value t.kept) → 0 < length unsent
+  pub finish_unsent : (s t : Session I W int number order equality part wide wide_order wide_equality wide_part) (input output sent unsent : List ℕ) (st : Stands least greatest s input output) → (st.rest ≡ [] → ⊥) → t.answered ≡ s.answered + 1
+      → IsReply least greatest t.answered (store_of s.kept) st.rest (sent ++ unsent) (store_of t.kept) → 0 < length unsent
       → StopsAtEnd least greatest input (output ++ sent) t.answered
   finish_unsent s t input output sent unsent st some e reply left =
       subst (λ k. StopsAtEnd least greatest input (output ++ sent) k) (sym (number_is s t input output st e))
       (in_last (open_last st.splits (some_length st.rest some)) (breaks_off s t input output st.rest sent unsent st e reply left))
 
   -- a line ended, and is answered
-  pub stands_more : (s t : Session I W int order equality part wide wide_order wide_equality wide_part) (input output line sent unsent : List ℕ) (st : Stands value least greatest s input output) → IsLine line → t.answered ≡ s.answered + 1
-      → Holds t.line [] → IsReply least greatest t.answered (store_of value s.kept) (st.rest ++ line) (sent ++ unsent) (store_of value t.kept) → unsent ≡ []
-      → Stands value least greatest t (input ++ ended line) (output ++ sent)
+  pub stands_more : (s t : Session I W int number order equality part wide wide_order wide_equality wide_part) (input output line sent unsent : List ℕ) (st : Stands least greatest s input output) → IsLine line → t.answered ≡ s.answered + 1
+      → Holds t.line [] → IsReply least greatest t.answered (store_of s.kept) (st.rest ++ line) (sent ++ unsent) (store_of t.kept) → unsent ≡ []
+      → Stands least greatest t (input ++ ended line) (output ++ sent)
   stands_more s t input output line sent unsent st is e held reply none = record {
     lines = st.lines ++ (st.rest ++ line) ∷ [];
     rest = [];
@@ -139,8 +139,8 @@ module _ {I W : Type 0} {int order equality part wide wide_order wide_equality w
   }
 
   -- a line ended, and its reply broke off
-  pub stops_more : (s t : Session I W int order equality part wide wide_order wide_equality wide_part) (input output line after sent unsent : List ℕ) (st : Stands value least greatest s input output) → IsLine line → t.answered ≡ s.answered + 1
-      → IsReply least greatest t.answered (store_of value s.kept) (st.rest ++ line) (sent ++ unsent) (store_of value t.kept) → 0 < length unsent
+  pub stops_more : (s t : Session I W int number order equality part wide wide_order wide_equality wide_part) (input output line after sent unsent : List ℕ) (st : Stands least greatest s input output) → IsLine line → t.answered ≡ s.answered + 1
+      → IsReply least greatest t.answered (store_of s.kept) (st.rest ++ line) (sent ++ unsent) (store_of t.kept) → 0 < length unsent
       → StopsWriting least greatest (input ++ (ended line ++ after)) (output ++ sent) t.answered
   stops_more s t input output line after sent unsent st is e reply left =
       let splits = lines_more input line st.lines st.rest st.splits is in record {
@@ -156,13 +156,13 @@ module _ {I W : Type 0} {int order equality part wide wide_order wide_equality w
       }
 
   -- more of a line came
-  pub stands_rest : (s t : Session I W int order equality part wide wide_order wide_equality wide_part) (input output piece : List ℕ) (st : Stands value least greatest s input output) → IsLine piece → t.kept ≡ s.kept → t.answered ≡ s.answered
-      → Holds t.line (st.rest ++ piece) → Stands value least greatest t (input ++ piece) output
+  pub stands_rest : (s t : Session I W int number order equality part wide wide_order wide_equality wide_part) (input output piece : List ℕ) (st : Stands least greatest s input output) → IsLine piece → t.kept ≡ s.kept → t.answered ≡ s.answered
+      → Holds t.line (st.rest ++ piece) → Stands least greatest t (input ++ piece) output
   stands_rest s t input output piece st is kept answered held = record {
     lines = st.lines;
     rest = st.rest ++ piece;
     splits = Splits-more input piece st.lines st.rest st.splits is;
-    replies = subst (λ k. AreReplies least greatest st.lines output (store_of value k)) (sym kept) st.replies;
+    replies = subst (λ k. AreReplies least greatest st.lines output (store_of k)) (sym kept) st.replies;
     count = answered ∙ st.count;
     held = held;
   }

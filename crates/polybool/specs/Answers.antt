@@ -103,7 +103,7 @@ IsRefusalOf fault.Edges e = e ≡ Edges
 IsRefusalOf fault.Failed e = ⊥
 
 -- Shapes are answered as they are, and a fault by its refusal.
-abbrev pub IsHandedOn : {I W : Type 0} {int order equality part wide wide_order wide_equality wide_part : _} → Keep → Result (IntShapes I) Fault → Result (Answer I W int order equality part wide wide_order wide_equality wide_part) Refusal → Type 0
+abbrev pub IsHandedOn : {I W : Type 0} {int number order equality part wide wide_order wide_equality wide_part : _} → Keep → Result (IntShapes I) Fault → Result (Answer I W int number order equality part wide wide_order wide_equality wide_part) Refusal → Type 0
 IsHandedOn keep (Ok shapes) (Ok answer) = (answer.shapes ≡ shapes) × (answer.keep ≡ keep)
 IsHandedOn keep (Ok shapes) (Err e) = ⊥
 IsHandedOn keep (Err f) (Ok answer) = ⊥

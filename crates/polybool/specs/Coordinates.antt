@@ -1,7 +1,6 @@
 -- What is found of a number that may be a coordinate, of those from a least to a greatest.
 use Rattle.std.specs.Prelude.{◌≡◌, ℤ, List, All, Option, Some, None}
 use Rattle.plane_base.specs.Plane.{IsCoordinate, IsWithin}
-use Rattle.plane_base.specs.Views.{points_of}
 use Rattle.plane_base.specs.declared.path.IntPath.{IntPath}
 use Rattle.polybool.specs.declared.numeral.Numeral.{Numeral}
 use Rattle.polybool.specs.declared.numeral.Numeral.TheVariants.{Within, Beyond}
@@ -17,5 +16,5 @@ Finds value least greatest None number = number ≡ None
 Finds value least greatest (Some found) number = (z : ℤ) × (number ≡ Some z) × IsFound value least greatest found z
 
 -- all points of all contours are in range
-abbrev pub AreInRange : {I : Type 0} → (I → ℤ) → ℤ → ℤ → List (IntPath I) → Type 0
-AreInRange value least greatest cs = All (λ c. All (IsWithin least greatest) (points_of value c.points.items)) cs
+abbrev pub AreInRange : {I : Type 0} → ℤ → ℤ → List (IntPath I) → Type 0
+AreInRange least greatest cs = All (λ c. All (IsWithin least greatest) c.points.items) cs

@@ -2,23 +2,21 @@
 use Rattle.std.specs.Prelude.{◌≡◌, ℕ, ℤ, List, ◌∷◌, Option, Some, None}
 use Rattle.std.specs.Option.{option_copied}
 use Rattle.plane_base.specs.Plane.{Point, IsWithin}
-use Rattle.plane_base.specs.Views.{point_of}
 use Rattle.polybool.specs.Words.{words_after}
 use Rattle.polybool.specs.Numerals.{numeral}
-use Rattle.plane_base.specs.declared.point.IntPoint.{IntPoint}
 use Rattle.polybool.specs.declared.points.Front.{Front}
 
 -- the point, where it is in range, and nothing else where it isn't
-abbrev pub IsPointInRange : {I : Type 0} → (I → ℤ) → ℤ → ℤ → Point → Option (IntPoint I) → Type 0
-IsPointInRange value least greatest p (Some found) = (p ≡ point_of value found) × IsWithin least greatest p
-IsPointInRange value least greatest p None = IsWithin least greatest p → ⊥
+abbrev pub IsPointInRange : ℤ → ℤ → Point → Option Point → Type 0
+IsPointInRange least greatest p (Some found) = (p ≡ found) × IsWithin least greatest p
+IsPointInRange least greatest p None = IsWithin least greatest p → ⊥
 
 -- two numerals, the words after them, and the point that the two spell
-pub record BeginsWith {I : Type 0} (value : I → ℤ) (least greatest : ℤ) (ws : List (List ℕ)) (front : Front I) : Type 0 where
+pub record BeginsWith {I : Type 0} (least greatest : ℤ) (ws : List (List ℕ)) (front : Front I) : Type 0 where
   pub x : List ℕ
   pub y : List ℕ
   pub p : Point
   pub words : ws ≡ x ∷ y ∷ words_after (option_copied front.rest)
   pub x_is : numeral x ≡ Some p.x
   pub y_is : numeral y ≡ Some p.y
-  pub point : IsPointInRange value least greatest p front.point
+  pub point : IsPointInRange least greatest p front.point

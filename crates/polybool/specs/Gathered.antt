@@ -1,17 +1,15 @@
 -- What is held of points while they are read.
 use Rattle.std.specs.Prelude.{◌≡◌, ◌<◌, ℕ, ℤ, true, false, List, [], ◌∷◌, length, All}
 use Rattle.plane_base.specs.Plane.{Point, IsWithin}
-use Rattle.plane_base.specs.Views.{points_of}
-use Rattle.plane_base.specs.declared.point.IntPoint.{IntPoint}
 use Rattle.polybool.specs.Refusals.{Refusals}
 use Rattle.polybool.specs.declared.points.Gathered.{Gathered}
 use Rattle.polybool.specs.declared.refusal.Refusal.TheVariants.{Arguments, Range, Memory}
 
 -- these are the points so far, which were added to a list that had room for so many at first
-pub record Gathers {I : Type 0} (value : I → ℤ) (least greatest : ℤ) (g : Gathered) (points : List (IntPoint I)) (room : ℕ) (ps : List Point) : Type 0 where
+pub record Gathers (least greatest : ℤ) (g : Gathered) (points : List Point) (room : ℕ) (ps : List Point) : Type 0 where
   pub within : g.is_within ≡ true → All (IsWithin least greatest) ps
   pub beyond : g.is_within ≡ false → All (IsWithin least greatest) ps → ⊥
-  pub held : g.is_within ≡ true → g.has_room ≡ true → points_of value points ≡ ps
+  pub held : g.is_within ≡ true → g.has_room ≡ true → points ≡ ps
   pub full : g.has_room ≡ false → room < length ps
 
 -- the points of a request

@@ -73,21 +73,21 @@ pub data AreReplies : ℤ → ℤ → List (List ℕ) → List ℕ → Store →
       → AreReplies least greatest (lines ++ line ∷ []) (text ++ reply) after
 
 -- the text of a reply to the line of this number
-abbrev pub reply_text : {I W : Type 0} {int order equality part wide wide_order wide_equality wide_part : _} → (I → ℤ) → ℕ → Reply I W int order equality part wide wide_order wide_equality wide_part → List ℕ
-reply_text value number Nothing = []
-reply_text value number Done = ok_text
-reply_text value number (Refused e) = error_text number e
-reply_text value number (Area sum) = area_text sum
-reply_text value number (Related relations) = relations_text relations
-reply_text value number (Place place) = place_text place
-reply_text value number (Shapes answer) = shapes_text (shapes_of value answer.shapes.shapes.items)
+abbrev pub reply_text : {I W : Type 0} {int number order equality part wide wide_order wide_equality wide_part : _} → ℕ → Reply I W int number order equality part wide wide_order wide_equality wide_part → List ℕ
+reply_text number Nothing = []
+reply_text number Done = ok_text
+reply_text number (Refused e) = error_text number e
+reply_text number (Area sum) = area_text sum
+reply_text number (Related relations) = relations_text relations
+reply_text number (Place place) = place_text place
+reply_text number (Shapes answer) = shapes_text (shapes_of answer.shapes.shapes.items)
 
 -- what is kept after a reply: its shapes become the last answer
-abbrev pub kept_after : {I W : Type 0} {int order equality part wide wide_order wide_equality wide_part : _} → (I → ℤ) → Store → Reply I W int order equality part wide wide_order wide_equality wide_part → Store
-kept_after value kept Nothing = kept
-kept_after value kept Done = kept
-kept_after value kept (Refused e) = kept
-kept_after value kept (Area sum) = kept
-kept_after value kept (Related relations) = kept
-kept_after value kept (Place place) = kept
-kept_after value kept (Shapes answer) = with_answer kept (answer_of value answer)
+abbrev pub kept_after : {I W : Type 0} {int number order equality part wide wide_order wide_equality wide_part : _} → Store → Reply I W int number order equality part wide wide_order wide_equality wide_part → Store
+kept_after kept Nothing = kept
+kept_after kept Done = kept
+kept_after kept (Refused e) = kept
+kept_after kept (Area sum) = kept
+kept_after kept (Related relations) = kept
+kept_after kept (Place place) = kept
+kept_after kept (Shapes answer) = with_answer kept (answer_of answer)

@@ -1,7 +1,6 @@
 -- What a line's words ask for.
 use Rattle.std.specs.Prelude.{◌≡◌, ◌⊎◌, ℕ, ◌<◌, ℤ, List, [], ◌∷◌, length, All, Some}
 use Rattle.plane_base.specs.Plane.{Point, IsWithin}
-use Rattle.plane_base.specs.Views.{point_of, points_of}
 use Rattle.polybool.specs.Numerals.{points_spelled}
 use Rattle.polybool.specs.Names.{request_word, rule_word, SpellsFill, strategy_word, direction_word, keep_word}
 use Rattle.polybool.specs.Refusals.{Refusals}
@@ -66,14 +65,14 @@ pub data Asked : Type 0 where
   area : Asked
   reset : Asked
 
-abbrev pub request_of : {I : Type 0} → (I → ℤ) → Request I → Asked
-request_of value (request.Subject contour) = subject (points_of value contour.points.items)
-request_of value (request.Clip contour) = clip (points_of value contour.points.items)
-request_of value (request.Overlay o) = overlay o
-request_of value (request.Relate r) = relate r
-request_of value (request.Locate p) = locate (point_of value p)
-request_of value request.Area = area
-request_of value request.Reset = reset
+abbrev pub request_of : {I : Type 0} → Request I → Asked
+request_of (request.Subject contour) = subject contour.points.items
+request_of (request.Clip contour) = clip contour.points.items
+request_of (request.Overlay o) = overlay o
+request_of (request.Relate r) = relate r
+request_of (request.Locate p) = locate p
+request_of request.Area = area
+request_of request.Reset = reset
 
 -- what its first word names
 abbrev pub name_of : Asked → Name

@@ -8,11 +8,11 @@ use Rattle.polybool.specs.declared.session.Session.{Session}
 
 -- After this input each whole line of it is answered, the output is the replies to these, and the rest
 -- is held as the line that is being read.
-pub record Stands {I W : Type 0} {int order equality part wide wide_order wide_equality wide_part : _} (value : I → ℤ) (least greatest : ℤ) (s : Session I W int order equality part wide wide_order wide_equality wide_part)
+pub record Stands {I W : Type 0} {int number order equality part wide wide_order wide_equality wide_part : _} (least greatest : ℤ) (s : Session I W int number order equality part wide wide_order wide_equality wide_part)
     (input output : List ℕ) : Type 0 where
   pub lines : List (List ℕ)
   pub rest : List ℕ
   pub splits : Splits input lines rest
-  pub replies : AreReplies least greatest lines output (store_of value s.kept)
+  pub replies : AreReplies least greatest lines output (store_of s.kept)
   pub count : s.answered ≡ length lines
   pub held : Holds s.line rest

@@ -1,5 +1,5 @@
 -- What is kept from line to line.
-use Rattle.std.specs.Prelude.{◌≡◌, ℤ, List, [], ◌∷◌, ◌++◌, Option, Some, None}
+use Rattle.std.specs.Prelude.{◌≡◌, List, [], ◌∷◌, ◌++◌, Option, Some, None}
 use Rattle.std.specs.Option.{option_map}
 use Rattle.plane_base.specs.Plane.{Point}
 use Rattle.plane_base.specs.GivenViews.{contours_of}
@@ -46,13 +46,13 @@ abbrev pub KeepsCorners : Store → Type 0
 KeepsCorners kept = (answer : LastAnswer) × (kept.answer ≡ Some answer) × (answer.keep ≡ Corners)
 
 -- an answer, as the plane's definitions see it
-abbrev pub answer_of : {I W : Type 0} {int order equality part wide wide_order wide_equality wide_part : _} → (I → ℤ) → Answer I W int order equality part wide wide_order wide_equality wide_part → LastAnswer
-answer_of value answer = record { shapes = shapes_of value answer.shapes.shapes.items; keep = answer.keep }
+abbrev pub answer_of : {I W : Type 0} {int number order equality part wide wide_order wide_equality wide_part : _} → Answer I W int number order equality part wide wide_order wide_equality wide_part → LastAnswer
+answer_of answer = record { shapes = shapes_of answer.shapes.shapes.items; keep = answer.keep }
 
 -- what the code keeps, as the plane's definitions see it
-abbrev pub store_of : {I W : Type 0} {int order equality part wide wide_order wide_equality wide_part : _} → (I → ℤ) → Kept I W int order equality part wide wide_order wide_equality wide_part → Store
-store_of value kept = record {
-  subjects = contours_of value kept.subjects.contours.items;
-  clips = contours_of value kept.clips.contours.items;
-  answer = option_map (answer_of value) kept.answer;
+abbrev pub store_of : {I W : Type 0} {int number order equality part wide wide_order wide_equality wide_part : _} → Kept I W int number order equality part wide wide_order wide_equality wide_part → Store
+store_of kept = record {
+  subjects = contours_of kept.subjects.contours.items;
+  clips = contours_of kept.clips.contours.items;
+  answer = option_map answer_of kept.answer;
 }

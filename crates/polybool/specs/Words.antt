@@ -1,5 +1,5 @@
 -- The words of a line's text.
-use Rattle.std.specs.Prelude.{ℕ, List, [], ◌∷◌, Option, Some, None, ◌==◌, if◌then◌else◌}
+use Rattle.std.specs.Prelude.{if◌then◌else◌, ℕ, List, [], ◌∷◌, Option, Some, None, ◌==◌}
 
 -- the byte at the front of the first word
 abbrev pub onto_first : ℕ → List (List ℕ) → List (List ℕ)

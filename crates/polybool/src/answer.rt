@@ -27,10 +27,10 @@ pub fn overlay<I: OverlayInt>(
     kept: &mut Kept<I>,
     words: request::Overlay,
 ) -> Result<Answer<I>, Refusal>
-    ensures answer { IfOk result (λ answer. IsAnswer (store_of I.value kept.old) words (shapes_of I.value answer.shapes.shapes.items)) }
+    ensures answer { IfOk result (λ answer. IsAnswer (store_of kept.old) words (shapes_of answer.shapes.shapes.items)) }
     ensures keep { IfOk result (λ answer. answer.keep ≡ words.keep) }
-    ensures refused { IfErr result (IsOneOf (overlay_refusals (store_of I.value kept.old))) }
-    ensures unchanged { store_of I.value kept.new ≡ store_of I.value kept.old }
+    ensures refused { IfErr result (IsOneOf (overlay_refusals (store_of kept.old))) }
+    ensures unchanged { store_of kept.new ≡ store_of kept.old }
 {
     answer_of(overlay_kept(alloc, kept, words), words.keep)
 }
@@ -40,7 +40,7 @@ fn answer_of<I: OverlayInt>(
     shapes: Result<IntShapes<I>, Fault>,
     keep: Keep,
 ) -> Result<Answer<I>, Refusal>
-    requires measurable { IfOk shapes (λ shapes. AreMeasurable I.least I.greatest (flat_map (λ s. s) (shapes_of I.value shapes.shapes.items))) }
+    requires measurable { IfOk shapes (λ shapes. AreMeasurable I.least I.greatest (flat_map (λ s. s) (shapes_of shapes.shapes.items))) }
     requires refused { IfErr shapes (λ fault. fault ≢ Failed) }
     ensures { IsHandedOn keep shapes result }
 {
@@ -56,10 +56,10 @@ fn overlay_kept<I: OverlayInt>(
     kept: &mut Kept<I>,
     words: request::Overlay,
 ) -> Result<IntShapes<I>, Fault>
-    ensures answer { IfOk result (λ shapes. IsAnswer (store_of I.value kept.old) words (shapes_of I.value shapes.shapes.items)) }
-    ensures measurable { IfOk result (λ shapes. AreMeasurable I.least I.greatest (flat_map (λ s. s) (shapes_of I.value shapes.shapes.items))) }
-    ensures refused { IfErr result (IsOverlayRefused (store_of I.value kept.old)) }
-    ensures unchanged { store_of I.value kept.new ≡ store_of I.value kept.old }
+    ensures answer { IfOk result (λ shapes. IsAnswer (store_of kept.old) words (shapes_of shapes.shapes.items)) }
+    ensures measurable { IfOk result (λ shapes. AreMeasurable I.least I.greatest (flat_map (λ s. s) (shapes_of shapes.shapes.items))) }
+    ensures refused { IfErr result (IsOverlayRefused (store_of kept.old)) }
+    ensures unchanged { store_of kept.new ≡ store_of kept.old }
 {
     let mut builder = match kept.builder.take() {
         Some(builder) => builder,
@@ -80,9 +80,9 @@ fn overlay_by<I: OverlayInt>(
 ) -> Result<IntShapes<I>, Fault>
     requires options { builder.old.options ≡ options_for words }
     requires solver { builder.old.solver ≡ solver_for words.strategy }
-    ensures answer { IfOk result (λ shapes. IsAnswer (store_of I.value kept.now) words (shapes_of I.value shapes.shapes.items)) }
-    ensures measurable { IfOk result (λ shapes. AreMeasurable I.least I.greatest (flat_map (λ s. s) (shapes_of I.value shapes.shapes.items))) }
-    ensures refused { IfErr result (IsOverlayRefused (store_of I.value kept.now)) }
+    ensures answer { IfOk result (λ shapes. IsAnswer (store_of kept.now) words (shapes_of shapes.shapes.items)) }
+    ensures measurable { IfOk result (λ shapes. AreMeasurable I.least I.greatest (flat_map (λ s. s) (shapes_of shapes.shapes.items))) }
+    ensures refused { IfErr result (IsOverlayRefused (store_of kept.now)) }
 {
     builder.reinit_with_subj_and_clip(&kept.subjects, &kept.clips)?;
     builder.overlay(words.rule, words.fill)

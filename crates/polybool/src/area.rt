@@ -11,8 +11,8 @@ use plane_base::path::{IntShape, IntShapes};
 
 /// Twice the signed area of each contour of the shapes, summed.
 pub fn area<I: OverlayInt>(shapes: &IntShapes<I>) -> i128
-    requires { AreMeasurable I.least I.greatest (flat_map (λ s. s) (shapes_of I.value shapes.now.shapes.items)) }
-    ensures { result ≡ shapes_area (shapes_of I.value shapes.now.shapes.items) }
+    requires { AreMeasurable I.least I.greatest (flat_map (λ s. s) (shapes_of shapes.now.shapes.items)) }
+    ensures { result ≡ shapes_area (shapes_of shapes.now.shapes.items) }
 {
     let mut sum = 0;
     for shape in &shapes.shapes {
@@ -23,8 +23,8 @@ pub fn area<I: OverlayInt>(shapes: &IntShapes<I>) -> i128
 
 // That of each contour of one shape, summed.
 fn shape_area<I: OverlayInt>(shape: &IntShape<I>) -> i128
-    requires { AreMeasurable I.least I.greatest (contours_of I.value shape.now.contours.items) }
-    ensures { result ≡ area_sum (contours_of I.value shape.now.contours.items) }
+    requires { AreMeasurable I.least I.greatest (contours_of shape.now.contours.items) }
+    ensures { result ≡ area_sum (contours_of shape.now.contours.items) }
 {
     let mut sum = 0;
     for contour in &shape.contours {

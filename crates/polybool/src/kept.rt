@@ -6,7 +6,6 @@
 
 ghost use Rattle.std.specs.Prelude.{◌≡◌, ◌≤◌, [], vec_len, vec_capacity, OnOk, OnErr, IsOkUnless, All, flat_map};
 ghost use Rattle.std.specs.Option.{option_map};
-ghost use Rattle.plane_base.specs.Views.{points_of};
 ghost use Rattle.contour_walk.specs.ShapeViews.{shapes_of};
 ghost use Rattle.plane_base.specs.Plane.{IsWithin};
 ghost use Rattle.polybool.specs.Coordinates.{AreInRange};
@@ -26,7 +25,7 @@ use std::alloc::Global;
 pub struct Answer<I: OverlayInt> {
     pub shapes: IntShapes<I>,
     pub keep: Keep,
-    ghost measurable: { AreMeasurable I.least I.greatest (flat_map (λ s. s) (shapes_of I.value shapes.shapes.items)) },
+    ghost measurable: { AreMeasurable I.least I.greatest (flat_map (λ s. s) (shapes_of shapes.shapes.items)) },
 }
 
 /// The contours that were given, in order, and the shapes of the last answer.
@@ -37,8 +36,8 @@ pub struct Kept<I: OverlayInt> {
     pub answer: Option<Answer<I>>,
     /// What made the last answer. The next is made in its storage, and no answer depends on it.
     pub builder: Option<Overlay<I>>,
-    ghost subjects_in_range: { AreInRange I.value I.least I.greatest subjects.contours.items },
-    ghost clips_in_range: { AreInRange I.value I.least I.greatest clips.contours.items },
+    ghost subjects_in_range: { AreInRange I.least I.greatest subjects.contours.items },
+    ghost clips_in_range: { AreInRange I.least I.greatest clips.contours.items },
 }
 
 impl<I: OverlayInt> Kept<I> {
@@ -47,7 +46,7 @@ impl<I: OverlayInt> Kept<I> {
 
     /// Nothing is kept yet.
     pub fn new(alloc: Global) -> Kept<I>
-        ensures { store_of I.value result ≡ nothing }
+        ensures { store_of result ≡ nothing }
     {
         Kept {
             subjects: no_contours(alloc),
@@ -59,9 +58,9 @@ impl<I: OverlayInt> Kept<I> {
 
     /// Keeps a contour as a subject, behind the others. It is refused only where the list has no room and cannot grow.
     pub fn keep_subject(&mut self, contour: IntContour<I>) -> Result<(), Refusal>
-        requires { All (IsWithin I.least I.greatest) (points_of I.value contour.points.items) }
-        ensures kept { OnOk result (store_of I.value self.new ≡ with_subject (store_of I.value self.old) (points_of I.value contour.points.items)) }
-        ensures unchanged { OnErr result (store_of I.value self.new ≡ store_of I.value self.old) }
+        requires { All (IsWithin I.least I.greatest) contour.points.items }
+        ensures kept { OnOk result (store_of self.new ≡ with_subject (store_of self.old) contour.points.items) }
+        ensures unchanged { OnErr result (store_of self.new ≡ store_of self.old) }
         ensures only { IsOkUnless result Refusal.Memory }
         ensures full { OnErr result (vec_capacity self.old.subjects.contours ≤ vec_len self.old.subjects.contours) }
     {
@@ -71,9 +70,9 @@ impl<I: OverlayInt> Kept<I> {
 
     /// Keeps a contour as a clip, behind the others. It is refused only where the list has no room and cannot grow.
     pub fn keep_clip(&mut self, contour: IntContour<I>) -> Result<(), Refusal>
-        requires { All (IsWithin I.least I.greatest) (points_of I.value contour.points.items) }
-        ensures kept { OnOk result (store_of I.value self.new ≡ with_clip (store_of I.value self.old) (points_of I.value contour.points.items)) }
-        ensures unchanged { OnErr result (store_of I.value self.new ≡ store_of I.value self.old) }
+        requires { All (IsWithin I.least I.greatest) contour.points.items }
+        ensures kept { OnOk result (store_of self.new ≡ with_clip (store_of self.old) contour.points.items) }
+        ensures unchanged { OnErr result (store_of self.new ≡ store_of self.old) }
         ensures only { IsOkUnless result Refusal.Memory }
         ensures full { OnErr result (vec_capacity self.old.clips.contours ≤ vec_len self.old.clips.contours) }
     {
@@ -83,7 +82,7 @@ impl<I: OverlayInt> Kept<I> {
 
     /// Keeps the answer that a reply carries, if it does, as the last one.
     pub fn keep(&mut self, reply: Reply<I>)
-        ensures { store_of I.value self.new ≡ kept_after I.value (store_of I.value self.old) reply }
+        ensures { store_of self.new ≡ kept_after (store_of self.old) reply }
     {
         if let Reply::Shapes(answer) = reply {
             self.answer = Some(answer);
@@ -92,7 +91,7 @@ impl<I: OverlayInt> Kept<I> {
 
     /// Twice the signed area of each contour of the last answer, summed; nothing where there is no answer yet.
     pub fn area(&self) -> Option<i128>
-        ensures { result ≡ option_map (λ answer. shapes_area answer.shapes) (store_of I.value self.now).answer }
+        ensures { result ≡ option_map (λ answer. shapes_area answer.shapes) (store_of self.now).answer }
     {
         match &self.answer {
             Some(answer) => Some(area(&answer.shapes)),
@@ -102,7 +101,7 @@ impl<I: OverlayInt> Kept<I> {
 
     /// Contours and answer go.
     pub fn reset(&mut self)
-        ensures { store_of I.value self.new ≡ nothing }
+        ensures { store_of self.new ≡ nothing }
     {
         self.subjects.contours.clear();
         self.clips.contours.clear();

@@ -3,7 +3,6 @@
 
 ghost use Rattle.std.specs.Prelude.{◌≡◌, IfOk, IfErr, IsOkUnless, flat_map};
 ghost use Rattle.polybool.specs.AnswerAreas.{AreMeasurable};
-ghost use Rattle.plane_base.specs.Views.{point_of};
 ghost use Rattle.contour_walk.specs.ShapeViews.{shapes_of};
 ghost use Rattle.plane_base.specs.Plane.{IsWithin};
 ghost use Rattle.polybool.specs.Places.{place_of, IsPlaced, IsNotPlaced};
@@ -26,9 +25,9 @@ pub fn locate<I: OverlayInt>(
     kept: &Kept<I>,
     point: IntPoint<I>,
 ) -> Result<Place, Refusal>
-    requires { IsWithin I.least I.greatest (point_of I.value point) }
-    ensures placed { IfOk result (IsPlaced (store_of I.value kept.now) (point_of I.value point)) }
-    ensures refused { IfErr result (IsNotPlaced (store_of I.value kept.now)) }
+    requires { IsWithin I.least I.greatest point }
+    ensures placed { IfOk result (IsPlaced (store_of kept.now) point) }
+    ensures refused { IfErr result (IsNotPlaced (store_of kept.now)) }
 {
     let Some(answer) = &kept.answer else {
         return Err(Refusal::NoAnswer);
@@ -48,9 +47,9 @@ fn place_in<I: OverlayInt>(
     shapes: &IntShapes<I>,
     point: IntPoint<I>,
 ) -> Result<Place, Fault>
-    requires measurable { AreMeasurable I.least I.greatest (flat_map (λ s. s) (shapes_of I.value shapes.now.shapes.items)) }
-    requires in_range { IsWithin I.least I.greatest (point_of I.value point) }
-    ensures placed { IfOk result (λ place. place ≡ place_of (shapes_of I.value shapes.now.shapes.items) (point_of I.value point)) }
+    requires measurable { AreMeasurable I.least I.greatest (flat_map (λ s. s) (shapes_of shapes.now.shapes.items)) }
+    requires in_range { IsWithin I.least I.greatest point }
+    ensures placed { IfOk result (λ place. place ≡ place_of (shapes_of shapes.now.shapes.items) point) }
     ensures memory { IsOkUnless result Fault.Memory }
 {
     if shapes.is_on_edge(point) {

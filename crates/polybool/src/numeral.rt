@@ -1,18 +1,18 @@
 //! Numerals: decimal digits, as many as there may be, for coordinates behind an optional minus sign. Degenerate cases: without a digit
 //! it is none; a number that no coordinate reaches is capped, so no sum overflows. It takes a step for each digit.
 
-ghost use Rattle.std.specs.Prelude.{◌≡◌, ℕ, ℤ, ◌<◌, ◌≤◌, ◌^◌, ◌+◌, length, true, false, min, None, pos, neg_ℤ, MatchOption, IfSome, IfNone};
+ghost use Rattle.std.specs.Prelude.{◌≡◌, ℕ, ℤ, ◌<◌, ◌≤◌, ◌^◌, ◌+◌, length, true, min, None, pos, neg_ℤ, MatchOption, IfSome, IfNone};
 ghost use Rattle.std.specs.List.{list_all};
 ghost use Rattle.polybool.specs.Numerals.{is_digit, digits_value, magnitude, numeral, IsDepth};
 ghost use Rattle.polybool.specs.Coordinates.{IsFound, Finds};
 ghost use Rattle.segment_arrangement.specs.Depths.{windings_of};
 
-use plane_base::int::OverlayInt;
+use plane_base::int::{IntNumber, OverlayInt};
 use segment_arrangement::depth::Depth;
 
 /// A number that a numeral spells, as far as a coordinate can hold it.
 #[derive(Clone, Copy, Debug, PartialEq, Eq)]
-pub enum Numeral<I> {
+pub enum Numeral<I: IntNumber> {
     /// It is a coordinate.
     Within(I),
     /// It is out of a coordinate's range.

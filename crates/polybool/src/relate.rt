@@ -20,8 +20,8 @@ pub fn relate<I: OverlayInt>(
     kept: &Kept<I>,
     words: request::Relate,
 ) -> Result<Relations, Refusal>
-    ensures are { IfOk result (AreRelations (store_of I.value kept.now) words) }
-    ensures refused { IfErr result (IsOneOf (overlay_refusals (store_of I.value kept.now))) }
+    ensures are { IfOk result (AreRelations (store_of kept.now) words) }
+    ensures refused { IfErr result (IsOneOf (overlay_refusals (store_of kept.now))) }
 {
     match relations_of(alloc, kept, words) {
         Ok(relations) => Ok(relations),
@@ -35,8 +35,8 @@ fn relations_of<I: OverlayInt>(
     kept: &Kept<I>,
     words: request::Relate,
 ) -> Result<Relations, Fault>
-    ensures are { IfOk result (AreRelations (store_of I.value kept.now) words) }
-    ensures refused { IfErr result (IsOverlayRefused (store_of I.value kept.now)) }
+    ensures are { IfOk result (AreRelations (store_of kept.now) words) }
+    ensures refused { IfErr result (IsOverlayRefused (store_of kept.now)) }
 {
     let mut builder = PredicateOverlay::from_subj_and_clip_custom(
         alloc,

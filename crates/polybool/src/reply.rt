@@ -1,9 +1,9 @@
 //! The reply to a line, and how it goes out: short ones by a fixed text, shapes piece by piece. No reply takes memory.
 
-ghost use Rattle.std.specs.Prelude.{◌≡◌, ℕ, ◌+◌, ◌≤◌, ◌<◌, List, [], ◌∷◌, ◌++◌, length, take, MatchResult, decimal};
+ghost use Rattle.std.specs.Prelude.{◌≡◌, ℕ, ◌+◌, ◌≤◌, ◌<◌, List, [], ◌∷◌, ◌++◌, length, MatchResult, decimal};
 ghost use Rattle.std.specs.Fmt.{signed_decimal};
 ghost use Rattle.std.specs.Io.KnownBytes.{Appends};
-ghost use Rattle.polybool.specs.Texts.{code_of, error_text, area_text};
+ghost use Rattle.polybool.specs.Texts.{error_text, area_text};
 ghost use Rattle.polybool.specs.Replies.{reply_text};
 ghost use Rattle.polybool.specs.Shorts.{text_of_short};
 
@@ -42,7 +42,7 @@ pub fn write_reply<I: OverlayInt, W: Write>(
     number: u64,
     reply: &Reply<I>,
 ) -> Result<(), WriteFailed>
-    ensures { (sent unsent : List ℕ) × (reply_text I.value number reply.now ≡ sent ++ unsent)
+    ensures { (sent unsent : List ℕ) × (reply_text number reply.now ≡ sent ++ unsent)
         × Appends (W.contents writer.old) (W.contents writer.new) sent × MatchResult result (λ _. unsent ≡ []) (λ _. 0 < length unsent) }
 {
     match reply {

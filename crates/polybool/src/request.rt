@@ -1,12 +1,11 @@
 //! What a request line asks for: its words, parsed from the front, each once. It takes time linear in the text.
 
-ghost use Rattle.std.specs.Prelude.{◌≡◌, ◌≢◌, ℕ, ◌<◌, [], ◌∷◌, Some, None, List, map, length, MatchResult, IfSome, IfNone};
+ghost use Rattle.std.specs.Prelude.{◌≡◌, ◌≢◌, ℕ, ◌<◌, [], Some, None, List, MatchResult, IfSome, IfNone};
 ghost use Rattle.std.specs.Option.{option_copied};
 ghost use Rattle.polybool.specs.Words.{words_of, words_after};
 ghost use Rattle.polybool.specs.Names.{SpellsFill};
 ghost use Rattle.polybool.specs.Stores.{Store};
 ghost use Rattle.polybool.specs.Refusals.{IsOneOf};
-ghost use Rattle.plane_base.specs.Views.{points_of};
 ghost use Rattle.polybool.specs.Requests.{AskFor, SpellAsked, SpellPoints, SpellOverlay, SpellRelate};
 ghost use Rattle.polybool.specs.Requests.{point_refusals, overlay_words, relate_words, request_of, name_of};
 ghost use Rattle.polybool.specs.Refused.{AreRefused, refusals};
@@ -18,7 +17,7 @@ use crate::refusal::Refusal;
 use crate::text::{first_word, next_word};
 use crate::words::{Keep, Name, parse_direction, parse_fill, parse_rule, parse_strategy};
 use contour_walk::contour_direction::ContourDirection;
-use plane_base::int::OverlayInt;
+use plane_base::int::{IntNumber, OverlayInt};
 use plane_base::path::IntContour;
 use plane_base::point::IntPoint;
 use segment_arrangement::fill_rule::FillRule;
@@ -45,7 +44,7 @@ pub struct Relate {
 
 /// A request whose words are right.
 #[derive(Debug, PartialEq, Eq, Drop)]
-pub enum Request<I> {
+pub enum Request<I: IntNumber> {
     /// A contour to keep as a subject.
     Subject(IntContour<I>),
     /// A contour to keep as a clip.
@@ -66,7 +65,7 @@ impl<I: OverlayInt> Request<I> {
     /// What the text of a line asks for, or why it is refused.
     pub fn parse(alloc: Global, text: &[u8]) -> Result<Request<I>, Refusal>
         ensures { MatchResult result
-            (λ request. AskFor I.least I.greatest (words_of text.now) (request_of I.value request))
+            (λ request. AskFor I.least I.greatest (words_of text.now) (request_of request))
             (λ e. (kept : Store) → AreRefused I.least I.greatest kept (words_of text.now) e) }
     {
         let (word, rest) = first_word(text);
@@ -83,8 +82,8 @@ impl<I: OverlayInt> Request<I> {
         rest: Option<&[u8]>,
     ) -> Result<Request<I>, Refusal>
         ensures { MatchResult result
-            (λ request. (name_of (request_of I.value request) ≡ name)
-            × SpellAsked I.least I.greatest (words_after (option_copied rest.entry)) (request_of I.value request))
+            (λ request. (name_of (request_of request) ≡ name)
+            × SpellAsked I.least I.greatest (words_after (option_copied rest.entry)) (request_of request))
             (λ e. (kept : Store) → IsOneOf (refusals I.least I.greatest kept name (words_after (option_copied rest.entry))) e) }
     {
         match name {
@@ -125,7 +124,7 @@ fn parse_contour<I: OverlayInt>(
     alloc: Global,
     rest: Option<&[u8]>,
 ) -> Result<IntContour<I>, Refusal>
-    ensures { MatchResult result (λ contour. SpellPoints I.least I.greatest (words_after (option_copied rest.entry)) (points_of I.value contour.points.items))
+    ensures { MatchResult result (λ contour. SpellPoints I.least I.greatest (words_after (option_copied rest.entry)) contour.points.items)
         (IsOneOf (point_refusals I.least I.greatest 0 (words_after (option_copied rest.entry)))) }
 {
     let mut points = Vec::new(alloc);

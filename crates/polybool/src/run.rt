@@ -78,7 +78,7 @@ fn answer_all<I: OverlayInt, R: Read, W: Write>(
     reader: &mut R,
     writer: &mut W,
 ) -> Result<(), RunFault>
-    requires stands { Stands I.value I.least I.greatest session.old [] [] }
+    requires stands { Stands I.least I.greatest session.old [] [] }
     requires answered { session.old.answered ≡ 0 }
     ensures { IsRunIn I.least I.greatest (R.remaining reader.old) (R.remaining reader.new) (W.contents writer.old) (W.contents writer.new) result }
 {

@@ -2,7 +2,7 @@
 //! is counted and has no reply; a refused one changes nothing. Beside the requests it takes one pass over the
 //! bytes.
 
-ghost use Rattle.std.specs.Prelude.{◌≡◌, ℕ, ◌+◌, ◌≤◌, ◌<◌, ◌^◌, List, [], ◌∷◌, ◌++◌, length, MatchResult, IfSome, IfNone};
+ghost use Rattle.std.specs.Prelude.{◌≡◌, ℕ, ◌+◌, ◌≤◌, ◌<◌, ◌^◌, List, [], ◌++◌, length, MatchResult, IfSome, IfNone};
 ghost use Rattle.std.specs.Io.KnownBytes.{Appends, Keeps};
 ghost use Rattle.polybool.specs.Words.{words_of};
 ghost use Rattle.polybool.specs.Lines.{IsLine, ended};
@@ -36,7 +36,7 @@ pub struct Session<I: OverlayInt> {
 impl<I: OverlayInt> Session<I> {
     /// Nothing was read yet.
     pub fn new(alloc: Global) -> Session<I>
-        ensures stands { Stands I.value I.least I.greatest result [] [] }
+        ensures stands { Stands I.least I.greatest result [] [] }
         ensures answered { result.answered ≡ 0 }
     {
         Session {
@@ -55,9 +55,9 @@ impl<I: OverlayInt> Session<I> {
     ) -> Result<(), WriteFailed>
         requires { self.old.answered + length bytes.now < 2 ^ 64 }
         ensures answered { self.new.answered ≤ self.old.answered + length bytes.now }
-        ensures stands { (input output : List ℕ) → Stands I.value I.least I.greatest self.old input output → (more : List ℕ)
+        ensures stands { (input output : List ℕ) → Stands I.least I.greatest self.old input output → (more : List ℕ)
             × Appends (W.contents writer.old) (W.contents writer.new) more × MatchResult result
-            (λ _. Stands I.value I.least I.greatest self.new (input ++ bytes.now) (output ++ more))
+            (λ _. Stands I.least I.greatest self.new (input ++ bytes.now) (output ++ more))
             (λ _. StopsWriting I.least I.greatest (input ++ bytes.now) (output ++ more) self.new.answered) }
     {
         let mut rest = bytes;
@@ -73,7 +73,7 @@ impl<I: OverlayInt> Session<I> {
     /// Answers the line that has no end, if there is one, and sends everything out.
     pub fn finish<W: Write>(&mut self, alloc: Global, writer: &mut W) -> Result<(), WriteFailed>
         requires { self.old.answered + 1 < 2 ^ 64 }
-        ensures stands { (input output : List ℕ) → Stands I.value I.least I.greatest self.old input output → (more : List ℕ)
+        ensures stands { (input output : List ℕ) → Stands I.least I.greatest self.old input output → (more : List ℕ)
             × Appends (W.contents writer.old) (W.contents writer.new) more × MatchResult result
             (λ _. IsTranscript I.least I.greatest input (output ++ more))
             (λ _. StopsAtEnd I.least I.greatest input (output ++ more) self.new.answered) }
@@ -91,7 +91,7 @@ impl<I: OverlayInt> Session<I> {
         ensures number { self.new.answered ≡ self.old.answered + 1 }
         ensures line { Holds self.new.line [] }
         ensures reply { (bytes : List ℕ) → Holds self.old.line bytes → (sent unsent : List ℕ)
-            × IsReplyBy I.least I.greatest self.old.line.state self.new.answered (store_of I.value self.old.kept) bytes (sent ++ unsent) (store_of I.value self.new.kept)
+            × IsReplyBy I.least I.greatest self.old.line.state self.new.answered (store_of self.old.kept) bytes (sent ++ unsent) (store_of self.new.kept)
             × Appends (W.contents writer.old) (W.contents writer.new) sent
             × MatchResult result (λ _. unsent ≡ []) (λ _. 0 < length unsent) }
     {
@@ -107,7 +107,7 @@ impl<I: OverlayInt> Session<I> {
         ensures number { self.new.answered ≡ self.old.answered + 1 }
         ensures line { Holds self.new.line [] }
         ensures reply { (number : ℕ) (bytes : List ℕ) → Holds self.old.line bytes
-            → IsReplyBy I.least I.greatest self.old.line.state number (store_of I.value self.old.kept) bytes (reply_text I.value number result) (kept_after I.value (store_of I.value self.new.kept) result) }
+            → IsReplyBy I.least I.greatest self.old.line.state number (store_of self.old.kept) bytes (reply_text number result) (kept_after (store_of self.new.kept) result) }
     {
         let reply = reply_to(alloc, &mut self.kept, &self.line);
         self.answered += 1;
@@ -139,7 +139,7 @@ fn split_line(bytes: &[u8]) -> Option<(&[u8], &[u8])>
 // The reply to a line. A refused line changes nothing.
 fn reply_to<I: OverlayInt>(alloc: Global, kept: &mut Kept<I>, line: &Line) -> Reply<I>
     ensures { (number : ℕ) (bytes : List ℕ) → Holds line.now bytes
-        → IsReplyBy I.least I.greatest line.now.state number (store_of I.value kept.old) bytes (reply_text I.value number result) (kept_after I.value (store_of I.value kept.new) result) }
+        → IsReplyBy I.least I.greatest line.now.state number (store_of kept.old) bytes (reply_text number result) (kept_after (store_of kept.new) result) }
 {
     match line.text() {
         Ok(text) => {
@@ -155,7 +155,7 @@ fn reply_to<I: OverlayInt>(alloc: Global, kept: &mut Kept<I>, line: &Line) -> Re
 
 // The reply to a line with this text.
 fn serve<I: OverlayInt>(alloc: Global, kept: &mut Kept<I>, text: &[u8]) -> Reply<I>
-    ensures { (number : ℕ) → IsReplyTo I.least I.greatest number (store_of I.value kept.old) (words_of text.now) (reply_text I.value number result) (kept_after I.value (store_of I.value kept.new) result) }
+    ensures { (number : ℕ) → IsReplyTo I.least I.greatest number (store_of kept.old) (words_of text.now) (reply_text number result) (kept_after (store_of kept.new) result) }
 {
     match Request::parse(alloc, text) {
         Ok(request) => match fulfil(alloc, kept, request) {
@@ -172,10 +172,10 @@ fn fulfil<I: OverlayInt>(
     kept: &mut Kept<I>,
     request: Request<I>,
 ) -> Result<Reply<I>, Refusal>
-    requires { (ws : List (List ℕ)) × AskFor I.least I.greatest ws (request_of I.value request) }
-    ensures { (number : ℕ) (ws : List (List ℕ)) → AskFor I.least I.greatest ws (request_of I.value request) → MatchResult result
-        (λ reply. IsReplyTo I.least I.greatest number (store_of I.value kept.old) ws (reply_text I.value number reply) (kept_after I.value (store_of I.value kept.new) reply))
-        (λ e. AreRefused I.least I.greatest (store_of I.value kept.old) ws e × (store_of I.value kept.new ≡ store_of I.value kept.old)) }
+    requires { (ws : List (List ℕ)) × AskFor I.least I.greatest ws (request_of request) }
+    ensures { (number : ℕ) (ws : List (List ℕ)) → AskFor I.least I.greatest ws (request_of request) → MatchResult result
+        (λ reply. IsReplyTo I.least I.greatest number (store_of kept.old) ws (reply_text number reply) (kept_after (store_of kept.new) reply))
+        (λ e. AreRefused I.least I.greatest (store_of kept.old) ws e × (store_of kept.new ≡ store_of kept.old)) }
 {
     match request {
         Request::Subject(contour) => {

@@ -2,7 +2,6 @@
 
 ghost use Rattle.std.specs.Prelude.{◌≡◌, ℕ, ◌≤◌, ◌<◌, List, [], ◌++◌, length, decimal, MatchResult};
 ghost use Rattle.std.specs.Io.KnownBytes.{Appends};
-ghost use Rattle.plane_base.specs.Views.{point_of, points_of};
 ghost use Rattle.plane_base.specs.GivenViews.{contours_of};
 ghost use Rattle.contour_walk.specs.ShapeViews.{shapes_of};
 ghost use Rattle.polybool.specs.Pieces.{text_of_piece, Lays};
@@ -21,7 +20,7 @@ pub fn write_shapes<I: OverlayInt, W: Write>(
     writer: &mut W,
     shapes: &IntShapes<I>,
 ) -> Result<(), WriteFailed>
-    ensures { (sent unsent : List ℕ) × (shapes_text (shapes_of I.value shapes.now.shapes.items) ≡ sent ++ unsent)
+    ensures { (sent unsent : List ℕ) × (shapes_text (shapes_of shapes.now.shapes.items) ≡ sent ++ unsent)
         × Appends (W.contents writer.old) (W.contents writer.new) sent × MatchResult result (λ _. unsent ≡ []) (λ _. 0 < length unsent) }
 {
     let mut piece = Piece::new();
@@ -39,7 +38,7 @@ fn lay_shape<I: OverlayInt, W: Write>(
     shape: &IntShape<I>,
 ) -> Result<(), WriteFailed>
     ensures { Lays (W.contents writer.old) (W.contents writer.new) (text_of_piece piece.old) (text_of_piece piece.new)
-        (shape_text (contours_of I.value shape.now.contours.items)) result }
+        (shape_text (contours_of shape.now.contours.items)) result }
 {
     lay_count(writer, piece, b"shape ", shape.contours.len())?;
     for contour in &shape.contours {
@@ -55,7 +54,7 @@ fn lay_contour<I: OverlayInt, W: Write>(
     contour: &IntContour<I>,
 ) -> Result<(), WriteFailed>
     ensures { Lays (W.contents writer.old) (W.contents writer.new) (text_of_piece piece.old) (text_of_piece piece.new)
-        (contour_text (points_of I.value contour.now.points.items)) result }
+        (contour_text contour.now.points.items) result }
 {
     lay_word(writer, piece, b"contour")?;
     for point in &contour.points {
@@ -71,7 +70,7 @@ fn lay_point<I: OverlayInt, W: Write>(
     point: &IntPoint<I>,
 ) -> Result<(), WriteFailed>
     ensures { Lays (W.contents writer.old) (W.contents writer.new) (text_of_piece piece.old) (text_of_piece piece.new)
-        (point_text (point_of I.value point.now)) result }
+        (point_text point.now) result }
 {
     piece.make_room(writer)?;
     piece.push(b' ');

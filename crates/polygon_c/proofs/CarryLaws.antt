@@ -255,15 +255,15 @@ given_is_balanced subjects clips = record {
 
 -- Data that turned edges keep are those of the map.
 data_kept : {I D : Type 0} (value : I → ℤ) (turns : D → D → Type 0) → ((d e : D) → turns d e → e ≡ d) → (es : List (Entry (Count × D)))
-    (shapes : List (List (List (DataVectorEdge I D)))) → All (All (All (HasDatumIn value turns es))) shapes → All (All (All (HasDatumIn value (λ d e. e ≡ d) es))) shapes
+    (shapes : List (List (List (DataVectorEdge I D)))) → All (All (All (HasDatumIn turns es))) shapes → All (All (All (HasDatumIn (λ d e. e ≡ d) es))) shapes
 data_kept {I} {D} value turns keeps es =
     All-weaker (All (All has)) (All (All keeps_it)) (All-weaker (All has) (All keeps_it) (All-weaker has keeps_it (λ v h. (h.0, h.1, h.2, (keeps h.0.count.1 v.datum h.3.0, h.3.1)))))
   where
     has : DataVectorEdge I D → Type 0
-    has = HasDatumIn value turns es
+    has = HasDatumIn turns es
 
     keeps_it : DataVectorEdge I D → Type 0
-    keeps_it = HasDatumIn value (λ d e. e ≡ d) es
+    keeps_it = HasDatumIn (λ d e. e ≡ d) es
 
 -- What a builder answers that holds them is the overlay that is asked for.
 pub carried_overlay : {I D : Type 0} (value : I → ℤ) (join : D → D → D) (r : Request) (edges : List (Entry (Count × D))) (same : D → D → Bool) (turns : D → D → Type 0)

@@ -6,7 +6,6 @@ use Rattle.std.proofs.lemmas.List.{take-map, drop-map}
 use Rattle.std.proofs.lemmas.List.Elements.{All-nil, All-append, All-take, All-drop}
 use Rattle.plane_base.specs.Flat.{part, parts, parts_of_parts}
 use Rattle.plane_base.specs.PathViews.{paths_of_shape}
-use Rattle.plane_base.specs.Views.{points_of}
 use Rattle.plane_base.specs.declared.path.IntPath.{IntPath}
 use Rattle.plane_base.specs.declared.path.IntShape.{IntShape}
 use Rattle.contour_walk.specs.ShapeViews.{shapes_of}
@@ -23,12 +22,12 @@ parts_of_parts-ranges_of xs ns ms =
     ap (map (parts xs)) (parts-ranges_of ms 0 (ranges_of 0 ns))
     ∙ (map-cut (part xs) ms (ranges_of 0 ns) ∙ ap (cut ms) (parts-ranges_of ns 0 xs))
 
-pub contours-paths : {I : Type 0} (value : I → ℤ) (cs : List (IntPath I)) → map (λ c. points_of value c.points.items) cs ≡ map (points_of value) (map (λ c. c.points.items) cs)
+pub contours-paths : {I : Type 0} (value : I → ℤ) (cs : List (IntPath I)) → map (λ c. c.points.items) cs ≡ (map (λ c. c.points.items) cs)
 contours-paths value [] = refl
-contours-paths value (c ∷ cs) = ap (λ rest. points_of value c.points.items ∷ rest) (contours-paths value cs)
+contours-paths value (c ∷ cs) = ap (λ rest. c.points.items ∷ rest) (contours-paths value cs)
 
 -- shapes, seen as lists of points first
-pub shapes-paths : {I : Type 0} (value : I → ℤ) (ss : List (IntShape I)) → shapes_of value ss ≡ map (map (points_of value)) (map paths_of_shape ss)
+pub shapes-paths : {I : Type 0} (value : I → ℤ) (ss : List (IntShape I)) → shapes_of ss ≡ (map paths_of_shape ss)
 shapes-paths value [] = refl
 shapes-paths value (s ∷ ss) = ap₂ (λ one rest. one ∷ rest) (contours-paths value s.contours.items) (shapes-paths value ss)
 

@@ -63,10 +63,10 @@ AnswersRelations plane least greatest q g relations =
     (r : Request) × Passes plane least greatest q g r × AreRelationsOf r (subjects_of plane g) (clips_of plane g) relations
 
 -- The buffer has these contours, ready for the engine.
-pub record AreTaken {I : Type 0} (value : I → ℤ) (least greatest : ℤ) (buffer : FlatContoursBuffer I) (contours : List (List Point)) : Type 0 where
+pub record AreTaken {I : Type 0} (least greatest : ℤ) (buffer : FlatContoursBuffer I) (contours : List (List Point)) : Type 0 where
   pub ready : IsFlat buffer
-  pub in_range : AreFlatInRange value least greatest buffer
-  pub are : flat_contours value buffer ≡ contours
+  pub in_range : AreFlatInRange least greatest buffer
+  pub are : flat_contours buffer ≡ contours
 
 -- Why the engine isn't asked: the first test that fails, in the order size, rule, fill rule, strategy, precision, lengths, range; or, where none
 -- does, memory, which may always be refused.

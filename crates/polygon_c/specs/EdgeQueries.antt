@@ -5,7 +5,6 @@ use Rattle.std.specs.declared.result.Result.{Result}
 use Rattle.plane_base.specs.Plane.{Point}
 use Rattle.plane_base.specs.Counts.{Count, Counting, Entry, boolean, one_subject, one_clip, lay}
 use Rattle.plane_base.specs.Given.{laid}
-use Rattle.plane_base.specs.Views.{point_of}
 use Rattle.plane_base.specs.declared.fault.Fault.{Fault}
 use Rattle.plane_base.specs.declared.fault.Fault.TheVariants as fault
 use Rattle.segment_split.specs.Data.{carried, normal_with_data, redrawn_with_data}
@@ -82,8 +81,8 @@ pub record Carrying (D : Type 0) : Type 0 where
   pub options : IntOverlayOptions
   pub solver : Solver
 
-abbrev pub carrying_of : {I D W S : Type 0} {int order equality part wide wide_order wide_equality wide_part joining same : _}
-    → EdgeOverlay I D W S int order equality part wide wide_order wide_equality wide_part joining same → Carrying D
+abbrev pub carrying_of : {I D W S : Type 0} {int number order equality part wide wide_order wide_equality wide_part joining same : _}
+    → EdgeOverlay I D W S int number order equality part wide wide_order wide_equality wide_part joining same → Carrying D
 carrying_of overlay = record {
   edges = held_by overlay;
   with_data = with_data_of overlay;
@@ -127,15 +126,15 @@ IsNotCarried r subjects clips fault =
 -- ---- answers that lie flat
 
 -- where the edges of contours begin, and what they tell
-abbrev pub starts_in : {I D : Type 0} → (I → ℤ) → List (List (DataVectorEdge I D)) → List (List Point)
-starts_in value contours = map (map (λ e. point_of value e.a)) contours
+abbrev pub starts_in : {I D : Type 0} → List (List (DataVectorEdge I D)) → List (List Point)
+starts_in contours = map (map (λ e. e.a)) contours
 
 abbrev pub told_by : {I D : Type 0} → (D → Option ℕ) → List (List (DataVectorEdge I D)) → List (Option ℕ)
 told_by number contours = flat_map (map (λ e. number e.datum)) contours
 
 -- the same of shapes
-abbrev pub starts_of : {I D : Type 0} → (I → ℤ) → List (List (List (DataVectorEdge I D))) → List (List (List Point))
-starts_of value shapes = map (starts_in value) shapes
+abbrev pub starts_of : {I D : Type 0} → List (List (List (DataVectorEdge I D))) → List (List (List Point))
+starts_of shapes = map starts_in shapes
 
 abbrev pub numbers_of : {I D : Type 0} → (D → Option ℕ) → List (List (List (DataVectorEdge I D))) → List (Option ℕ)
 numbers_of number shapes = flat_map (told_by number) shapes
@@ -144,7 +143,7 @@ numbers_of number shapes = flat_map (told_by number) shapes
 abbrev pub IsFlatCarried : {I D P : Type 0} → (I → ℤ) → (Point → P) → (P → Point) → Joining D → Request → Given P → Given ℕ → Arrays P → List ℕ → Type 0
 IsFlatCarried {I} {D} value at plane by r g n answer numbers =
     (shapes : List (List (List (DataVectorEdge I D)))) × IsCarriedOverlay value by.join r (given_with by.join by.datum plane g n) shapes
-    × (answer ≡ flat at (starts_of value shapes)) × (map Some numbers ≡ numbers_of by.number shapes)
+    × (answer ≡ flat at (starts_of shapes)) × (map Some numbers ≡ numbers_of by.number shapes)
 
 -- Memory is refused; or the engine refuses for a fault that is told so; or there is an overlay, an edge of which tells no number.
 abbrev pub IsCarryRefused : {I D P : Type 0} → (I → ℤ) → (P → Point) → Joining D → Request → Given P → Given ℕ → Refusal → Type 0

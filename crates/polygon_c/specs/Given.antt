@@ -2,7 +2,6 @@
 use Rattle.std.specs.Prelude.{◌≡◌, ℕ, ℤ, List, length, map, All, sum}
 use Rattle.plane_base.specs.Flat.{parts}
 use Rattle.plane_base.specs.Plane.{Point, IsWithin}
-use Rattle.plane_base.specs.Views.{points_of}
 use Rattle.plane_base.specs.declared.flat.FlatContoursBuffer.{FlatContoursBuffer}
 use Rattle.polygon_c.specs.Cuts.{cut}
 use Rattle.polygon_c.specs.declared.given.CPoint.{CPoint}
@@ -41,11 +40,11 @@ abbrev pub cut_contours : {P : Type 0} → (P → Point) → List P → List ℕ
 cut_contours plane points lengths = cut lengths (plane_points plane points)
 
 -- the contours that lie flat as the engine has them
-abbrev pub flat_contours : {I : Type 0} → (I → ℤ) → FlatContoursBuffer I → List (List Point)
-flat_contours value buffer = map (points_of value) (parts buffer.points.items buffer.ranges.items)
+abbrev pub flat_contours : {I : Type 0} → FlatContoursBuffer I → List (List Point)
+flat_contours buffer = (parts buffer.points.items buffer.ranges.items)
 
-abbrev pub AreFlatInRange : {I : Type 0} → (I → ℤ) → ℤ → ℤ → FlatContoursBuffer I → Type 0
-AreFlatInRange value least greatest buffer = All (All (IsWithin least greatest)) (flat_contours value buffer)
+abbrev pub AreFlatInRange : {I : Type 0} → ℤ → ℤ → FlatContoursBuffer I → Type 0
+AreFlatInRange least greatest buffer = All (All (IsWithin least greatest)) (flat_contours buffer)
 
 -- ---- a subject and a clip
 

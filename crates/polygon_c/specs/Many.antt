@@ -35,9 +35,9 @@ AreOverlaysOf least greatest r subjects (group ∷ groups) [] = ⊥
 AreOverlaysOf least greatest r subjects (group ∷ groups) (shapes ∷ all) = IsOverlayOf least greatest r subjects group shapes × AreOverlaysOf least greatest r subjects groups all
 
 -- The shapes are these groups, ready for the engine.
-pub record AreGroupsTaken {I : Type 0} (value : I → ℤ) (least greatest : ℤ) (shapes : IntShapes I) (groups : List (List (List Point))) : Type 0 where
-  pub in_range : AreGroupsInRange least greatest (shapes_of value shapes.shapes.items)
-  pub are : shapes_of value shapes.shapes.items ≡ groups
+pub record AreGroupsTaken {I : Type 0} (least greatest : ℤ) (shapes : IntShapes I) (groups : List (List (List Point))) : Type 0 where
+  pub in_range : AreGroupsInRange least greatest (shapes_of shapes.shapes.items)
+  pub are : shapes_of shapes.shapes.items ≡ groups
 
 -- ---- tests
 

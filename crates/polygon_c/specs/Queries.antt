@@ -1,6 +1,6 @@
 -- What the numbers of a query stand for.
 use Rattle.std.specs.Int.{w32, cast_signed}
-use Rattle.std.specs.Prelude.{◌≡◌, ℕ, ◌+◌, ◌*◌, ◌^◌, ◌<◌, ◌≤◌, ℤ, pos, int_le, Bool, not, ◌==◌, if◌then◌else◌}
+use Rattle.std.specs.Prelude.{if◌then◌else◌, ◌≡◌, ℕ, ◌+◌, ◌*◌, ◌^◌, ◌<◌, ◌≤◌, ℤ, pos, int_le, Bool, not, ◌==◌}
 use Rattle.std.specs.Prelude.{List, length, slice_index, Option, Some, None, IsSome}
 use Rattle.plane_base.specs.Regions as region
 use Rattle.segment_arrangement.specs.RuleViews.{fill_rule_of}

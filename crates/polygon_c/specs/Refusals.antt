@@ -1,5 +1,5 @@
 -- The numbers and the texts of refusals.
-use Rattle.std.specs.Prelude.{ℕ, List, codes, if◌then◌else◌, ◌==◌}
+use Rattle.std.specs.Prelude.{if◌then◌else◌, ℕ, List, codes, ◌==◌}
 use Rattle.polygon_c.specs.declared.refusal.Refusal.{Refusal}
 use Rattle.polygon_c.specs.declared.refusal.Refusal.TheVariants.{Memory, Count, Edges, Rule, Fill, Strategy, Precision, Lengths, Range, Room, Size, Join, Slant}
 

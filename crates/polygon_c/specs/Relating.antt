@@ -1,5 +1,5 @@
 -- What a call that tells relations says and leaves.
-use Rattle.std.specs.Prelude.{◌≡◌, ◌⊎◌, ℕ, ℤ, pos, negsuc, Bool, if◌then◌else◌, List}
+use Rattle.std.specs.Prelude.{if◌then◌else◌, ◌≡◌, ◌⊎◌, ℕ, ℤ, pos, negsuc, Bool, List}
 use Rattle.polygon_overlay.specs.declared.relate.Relations.{Relations}
 use Rattle.polygon_c.specs.Answers.{IsNotRelated, IsRefused, AnswersRelations}
 use Rattle.plane_base.specs.Plane.{Point}

@@ -1,7 +1,7 @@
 //! Arrays of a caller that are written from their beginning, and lengths that cut an array. Degenerate cases: lengths whose sum
 //! would overflow. Each call takes linear time.
 
-ghost use Rattle.std.specs.Prelude.{◌≡◌, ◌≤◌, ◌++◌, ◌↔◌, ◌<◌, ◌^◌, IsTrue, IfOk, IsOk, length, drop, sum};
+ghost use Rattle.std.specs.Prelude.{◌≡◌, ◌≤◌, ◌++◌, ◌↔◌, ◌<◌, ◌^◌, IsTrue, IfOk, length, drop, sum};
 ghost use Rattle.polygon_c.specs.Cuts.{ranges_of};
 
 use std::alloc::{AllocError, Global};

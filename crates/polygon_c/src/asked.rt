@@ -9,12 +9,12 @@ use crate::given::{CPointOf, contours, test};
 use crate::query::{Request, read};
 use crate::refusal::Refusal;
 use polygon_overlay::plane::flat::FlatContoursBuffer;
-use polygon_overlay::plane::int::OverlayInt;
+use polygon_overlay::plane::int::{IntNumber, OverlayInt};
 use std::alloc::Global;
 
 // A request, and the contours of a subject and of a clip as the engine has them.
 #[derive(Drop)]
-pub(crate) struct Asked<I> {
+pub(crate) struct Asked<I: IntNumber> {
     pub(crate) request: Request,
     pub(crate) subjects: FlatContoursBuffer<I>,
     pub(crate) clips: FlatContoursBuffer<I>,
@@ -30,8 +30,8 @@ pub(crate) fn ask<I: OverlayInt, P: CPointOf<I>>(
     clip_lengths: &[usize],
 ) -> Result<Asked<I>, Refusal>
     ensures passes { IfOk result (λ asked. Passes P.plane I.least I.greatest query.now (given subject.now subject_lengths.now clip.now clip_lengths.now) asked.request) }
-    ensures subjects { IfOk result (λ asked. AreTaken I.value I.least I.greatest asked.subjects (subjects_of P.plane (given subject.now subject_lengths.now clip.now clip_lengths.now))) }
-    ensures clips { IfOk result (λ asked. AreTaken I.value I.least I.greatest asked.clips (clips_of P.plane (given subject.now subject_lengths.now clip.now clip_lengths.now))) }
+    ensures subjects { IfOk result (λ asked. AreTaken I.least I.greatest asked.subjects (subjects_of P.plane (given subject.now subject_lengths.now clip.now clip_lengths.now))) }
+    ensures clips { IfOk result (λ asked. AreTaken I.least I.greatest asked.clips (clips_of P.plane (given subject.now subject_lengths.now clip.now clip_lengths.now))) }
     ensures refused { IfErr result (IsUnasked P.plane I.least I.greatest query.now (given subject.now subject_lengths.now clip.now clip_lengths.now)) }
 {
     let request = read(query)?;

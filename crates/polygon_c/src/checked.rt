@@ -174,7 +174,7 @@ fn spaces<I: OverlayInt, P: CPointOf<I>>(
 // Whether contours can be checked for a width or a space.
 fn can_be_checked<I: OverlayInt>(contours: &FlatContoursBuffer<I>, side: I) -> bool
     requires { IsFlat contours.now }
-    ensures { IsTrue result ↔ CanBeChecked I.least I.greatest (I.value side) (flat_contours I.value contours.now) }
+    ensures { IsTrue result ↔ CanBeChecked I.least I.greatest (I.value side) (flat_contours contours.now) }
 {
     if !is_side(side) {
         return false;

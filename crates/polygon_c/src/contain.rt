@@ -119,9 +119,9 @@ pub(crate) fn engine_shapes<I: OverlayInt, P: CPointOf<I>>(
     requires contours { sum contours.now ≡ length points.now }
     requires shapes { sum shapes.now ≡ length contours.now }
     requires in_range { AreInRange P.plane I.least I.greatest points.now }
-    ensures cut { IfOk result (λ found. shapes_of I.value found.shapes.items ≡ cut_shapes P.plane (arrays points.now contours.now shapes.now)) }
-    ensures in_range { IfOk result (λ found. All (All (IsWithin I.least I.greatest)) (all_contours (shapes_of I.value found.shapes.items))) }
-    ensures each_in_range { IfOk result (λ found. AreGroupsInRange I.least I.greatest (shapes_of I.value found.shapes.items)) }
+    ensures cut { IfOk result (λ found. shapes_of found.shapes.items ≡ cut_shapes P.plane (arrays points.now contours.now shapes.now)) }
+    ensures in_range { IfOk result (λ found. All (All (IsWithin I.least I.greatest)) (all_contours (shapes_of found.shapes.items))) }
+    ensures each_in_range { IfOk result (λ found. AreGroupsInRange I.least I.greatest (shapes_of found.shapes.items)) }
     ensures memory { IsOkUnless result Fault.Memory }
 {
     let corners = engine_points(alloc, points)?;

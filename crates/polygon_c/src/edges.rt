@@ -1,6 +1,6 @@
 //! Overlays of contours whose edges have numbers: the tests, and then an overlay of edges with data, whose type the join tells.
 
-ghost use Rattle.std.specs.Prelude.{◌≡◌, ◌≢◌, ◌⊎◌, ◌++◌, ◌∷◌, [], Some, None, OnOk, IfOk, IfErr, MatchOption, Contains, false, map, length, sum};
+ghost use Rattle.std.specs.Prelude.{◌≡◌, ◌≢◌, ◌++◌, ◌∷◌, [], Some, None, OnOk, IfOk, IfErr, MatchOption, Contains, false, map, length, sum};
 ghost use Rattle.plane_base.specs.Counts.{boolean, lay};
 ghost use Rattle.plane_base.specs.Given.{laid};
 ghost use Rattle.plane_base.specs.Plane.{IsWithin};
@@ -320,7 +320,7 @@ fn lay_edges<I: OverlayInt, P: CPointOf<I>, D: Datum>(
     alloc: Global,
     shapes: &[DataVectorShape<I, D>],
 ) -> Result<ToldEdges<P>, AllocError>
-    ensures laid { IfOk result (λ found. lists_of found.laid ≡ flat P.at (starts_of I.value (edges_of_shapes shapes.now))) }
+    ensures laid { IfOk result (λ found. lists_of found.laid ≡ flat P.at (starts_of (edges_of_shapes shapes.now))) }
     ensures told { IfOk result (λ found. found.told.items ≡ numbers_of D.told (edges_of_shapes shapes.now)) }
 {
     let mut found = ToldEdges {
@@ -342,11 +342,11 @@ fn add_shape<I: OverlayInt, P: CPointOf<I>, D: Datum>(
     found: &mut ToldEdges<P>,
     shape: &DataVectorShape<I, D>,
 ) -> Result<(), AllocError>
-    ensures points { OnOk result (found.new.laid.points.items ≡ found.old.laid.points.items ++ flat_points P.at (starts_in I.value (edges_of_paths shape.now.paths.items))) }
+    ensures points { OnOk result (found.new.laid.points.items ≡ found.old.laid.points.items ++ flat_points P.at (starts_in (edges_of_paths shape.now.paths.items))) }
     ensures contours { OnOk result (found.new.laid.contours.items
-        ≡ found.old.laid.contours.items ++ map length (starts_in I.value (edges_of_paths shape.now.paths.items))) }
+        ≡ found.old.laid.contours.items ++ map length (starts_in (edges_of_paths shape.now.paths.items))) }
     ensures shapes { OnOk result (found.new.laid.shapes.items
-        ≡ found.old.laid.shapes.items ++ length (starts_in I.value (edges_of_paths shape.now.paths.items)) ∷ []) }
+        ≡ found.old.laid.shapes.items ++ length (starts_in (edges_of_paths shape.now.paths.items)) ∷ []) }
     ensures told { OnOk result (found.new.told.items ≡ found.old.told.items ++ told_by D.told (edges_of_paths shape.now.paths.items)) }
 {
     for path in &shape.paths {
@@ -361,8 +361,8 @@ fn add_path<I: OverlayInt, P: CPointOf<I>, D: Datum>(
     found: &mut ToldEdges<P>,
     path: &DataVectorPath<I, D>,
 ) -> Result<(), AllocError>
-    ensures points { OnOk result (found.new.laid.points.items ≡ found.old.laid.points.items ++ flat_points P.at (starts_in I.value (path.now.edges.items ∷ []))) }
-    ensures contours { OnOk result (found.new.laid.contours.items ≡ found.old.laid.contours.items ++ map length (starts_in I.value (path.now.edges.items ∷ []))) }
+    ensures points { OnOk result (found.new.laid.points.items ≡ found.old.laid.points.items ++ flat_points P.at (starts_in (path.now.edges.items ∷ []))) }
+    ensures contours { OnOk result (found.new.laid.contours.items ≡ found.old.laid.contours.items ++ map length (starts_in (path.now.edges.items ∷ []))) }
     ensures shapes { found.new.laid.shapes.items ≡ found.old.laid.shapes.items }
     ensures told { OnOk result (found.new.told.items ≡ found.old.told.items ++ told_by D.told (path.now.edges.items ∷ [])) }
 {

@@ -2,7 +2,6 @@
 
 ghost use Rattle.std.specs.Prelude.{◌≡◌, All, IfOk, IfErr, IsOkUnless};
 ghost use Rattle.plane_base.specs.GivenViews.{contours_of};
-ghost use Rattle.plane_base.specs.Views.{points_of};
 ghost use Rattle.segment_arrangement.specs.RuleViews.{fill_rule_of};
 ghost use Rattle.contour_walk.specs.BindingLaws.{all_contours};
 ghost use Rattle.contour_walk.specs.ShapeViews.{shapes_of, IsFlat};
@@ -26,7 +25,7 @@ use polygon_overlay::checks::{space_errors, width_errors};
 use polygon_overlay::overlay::Overlay;
 use polygon_overlay::plane::fault::Fault;
 use polygon_overlay::plane::flat::FlatContoursBuffer;
-use polygon_overlay::plane::int::OverlayInt;
+use polygon_overlay::plane::int::{IntNumber, OverlayInt};
 use polygon_overlay::plane::path::{IntPath, IntShape, IntShapes};
 use polygon_overlay::plane::point::IntPoint;
 use polygon_overlay::point_location::IntPointContainment;
@@ -48,11 +47,11 @@ pub(crate) fn shapes<I: OverlayInt>(
 ) -> Result<IntShapes<I>, Fault>
     requires subjects_ready { IsFlat subjects.now }
     requires clips_ready { IsFlat clips.now }
-    requires subjects_in_range { AreFlatInRange I.value I.least I.greatest subjects.now }
-    requires clips_in_range { AreFlatInRange I.value I.least I.greatest clips.now }
-    ensures answered { IfOk result (λ shapes. IsOverlayOf I.least I.greatest request (flat_contours I.value subjects.now) (flat_contours I.value clips.now)
-        (shapes_of I.value shapes.shapes.items)) }
-    ensures refused { IfErr result (IsNotOverlaid request (flat_contours I.value subjects.now) (flat_contours I.value clips.now)) }
+    requires subjects_in_range { AreFlatInRange I.least I.greatest subjects.now }
+    requires clips_in_range { AreFlatInRange I.least I.greatest clips.now }
+    ensures answered { IfOk result (λ shapes. IsOverlayOf I.least I.greatest request (flat_contours subjects.now) (flat_contours clips.now)
+        (shapes_of shapes.shapes.items)) }
+    ensures refused { IfErr result (IsNotOverlaid request (flat_contours subjects.now) (flat_contours clips.now)) }
 {
     let mut overlay = Overlay::from_subj_and_clip_custom(
         alloc,
@@ -85,11 +84,11 @@ pub(crate) fn overlay_again<I: OverlayInt>(
     requires options { builder.old.options ≡ request.options }
     requires solver { builder.old.solver ≡ request.solver }
     requires subjects_ready { IsFlat subjects.now }
-    requires subjects_in_range { AreFlatInRange I.value I.least I.greatest subjects.now }
-    requires clips_in_range { All (All (IsWithin I.least I.greatest)) (contours_of I.value clips.now.contours.items) }
-    ensures answered { IfOk result (λ shapes. IsOverlayOf I.least I.greatest request (flat_contours I.value subjects.now) (contours_of I.value clips.now.contours.items)
-        (shapes_of I.value shapes.shapes.items)) }
-    ensures refused { IfErr result (IsNotOverlaid request (flat_contours I.value subjects.now) (contours_of I.value clips.now.contours.items)) }
+    requires subjects_in_range { AreFlatInRange I.least I.greatest subjects.now }
+    requires clips_in_range { All (All (IsWithin I.least I.greatest)) (contours_of clips.now.contours.items) }
+    ensures answered { IfOk result (λ shapes. IsOverlayOf I.least I.greatest request (flat_contours subjects.now) (contours_of clips.now.contours.items)
+        (shapes_of shapes.shapes.items)) }
+    ensures refused { IfErr result (IsNotOverlaid request (flat_contours subjects.now) (contours_of clips.now.contours.items)) }
     ensures options { builder.new.options ≡ request.options }
     ensures solver { builder.new.solver ≡ request.solver }
 {
@@ -100,7 +99,7 @@ pub(crate) fn overlay_again<I: OverlayInt>(
 
 // Shapes, and which of them lie in holes of others.
 #[derive(Drop)]
-pub(crate) struct Nested<I> {
+pub(crate) struct Nested<I: IntNumber> {
     pub(crate) shapes: IntShapes<I>,
     pub(crate) links: Vec<ChildLink>,
 }
@@ -114,11 +113,11 @@ pub(crate) fn hierarchy<I: OverlayInt>(
 ) -> Result<Nested<I>, Fault>
     requires subjects_ready { IsFlat subjects.now }
     requires clips_ready { IsFlat clips.now }
-    requires subjects_in_range { AreFlatInRange I.value I.least I.greatest subjects.now }
-    requires clips_in_range { AreFlatInRange I.value I.least I.greatest clips.now }
-    ensures answered { IfOk result (λ found. IsHierarchyOf I.least I.greatest request (flat_contours I.value subjects.now) (flat_contours I.value clips.now)
-        (shapes_of I.value found.shapes.shapes.items) found.links.items) }
-    ensures refused { IfErr result (IsNotOverlaid request (flat_contours I.value subjects.now) (flat_contours I.value clips.now)) }
+    requires subjects_in_range { AreFlatInRange I.least I.greatest subjects.now }
+    requires clips_in_range { AreFlatInRange I.least I.greatest clips.now }
+    ensures answered { IfOk result (λ found. IsHierarchyOf I.least I.greatest request (flat_contours subjects.now) (flat_contours clips.now)
+        (shapes_of found.shapes.shapes.items) found.links.items) }
+    ensures refused { IfErr result (IsNotOverlaid request (flat_contours subjects.now) (flat_contours clips.now)) }
 {
     let mut overlay = Overlay::from_subj_and_clip_custom(
         alloc,
@@ -145,11 +144,11 @@ pub(crate) fn slice<I: OverlayInt>(
 ) -> Result<IntShapes<I>, Fault>
     requires shape_ready { IsFlat shape.now }
     requires lines_ready { IsFlat lines.now }
-    requires shape_in_range { AreFlatInRange I.value I.least I.greatest shape.now }
-    requires lines_in_range { AreFlatInRange I.value I.least I.greatest lines.now }
-    ensures slice { IfOk result (λ shapes. IsSliceOf I.least I.greatest (fill_rule_of request.fill_rule) (flat_contours I.value shape.now)
-        (flat_contours I.value lines.now) (shapes_of I.value shapes.shapes.items)) }
-    ensures refused { IfErr result (IsNotSliced request (flat_contours I.value shape.now) (flat_contours I.value lines.now)) }
+    requires shape_in_range { AreFlatInRange I.least I.greatest shape.now }
+    requires lines_in_range { AreFlatInRange I.least I.greatest lines.now }
+    ensures slice { IfOk result (λ shapes. IsSliceOf I.least I.greatest (fill_rule_of request.fill_rule) (flat_contours shape.now)
+        (flat_contours lines.now) (shapes_of shapes.shapes.items)) }
+    ensures refused { IfErr result (IsNotSliced request (flat_contours shape.now) (flat_contours lines.now)) }
 {
     shape.slice_by_source(alloc, lines, request.fill_rule)
 }
@@ -163,11 +162,11 @@ pub(crate) fn clip<I: OverlayInt>(
 ) -> Result<Vec<IntPath<I>>, Fault>
     requires shape_ready { IsFlat shape.now }
     requires lines_ready { IsFlat lines.now }
-    requires shape_in_range { AreFlatInRange I.value I.least I.greatest shape.now }
-    requires lines_in_range { AreFlatInRange I.value I.least I.greatest lines.now }
-    ensures clip { IfOk result (λ paths. IsClipOf I.least I.greatest (fill_rule_of request.fill_rule) request.clip_rule (flat_contours I.value shape.now)
-        (flat_contours I.value lines.now) (contours_of I.value paths.items)) }
-    ensures refused { IfErr result (IsNotClipped request (flat_contours I.value shape.now) (flat_contours I.value lines.now)) }
+    requires shape_in_range { AreFlatInRange I.least I.greatest shape.now }
+    requires lines_in_range { AreFlatInRange I.least I.greatest lines.now }
+    ensures clip { IfOk result (λ paths. IsClipOf I.least I.greatest (fill_rule_of request.fill_rule) request.clip_rule (flat_contours shape.now)
+        (flat_contours lines.now) (contours_of paths.items)) }
+    ensures refused { IfErr result (IsNotClipped request (flat_contours shape.now) (flat_contours lines.now)) }
 {
     shape.clip_source(alloc, lines, request.fill_rule, request.clip_rule)
 }
@@ -180,12 +179,12 @@ pub(crate) fn sized<I: OverlayInt>(
     by: Sizing<I>,
 ) -> Result<IntShapes<I>, Fault>
     requires ready { IsFlat contours.now }
-    requires in_range { AreFlatInRange I.value I.least I.greatest contours.now }
-    requires straight { AreRectilinear (flat_contours I.value contours.now) }
-    requires fits { Fits I.least I.greatest (amounts_of I.value by) (flat_contours I.value contours.now) }
-    ensures answered { IfOk result (λ shapes. IsSizingOf I.least I.greatest (amounts_of I.value by) request (flat_contours I.value contours.now)
-        (shapes_of I.value shapes.shapes.items)) }
-    ensures refused { IfErr result (IsSizingRefused I.least I.greatest (amounts_of I.value by) request (flat_contours I.value contours.now)) }
+    requires in_range { AreFlatInRange I.least I.greatest contours.now }
+    requires straight { AreRectilinear (flat_contours contours.now) }
+    requires fits { Fits I.least I.greatest (amounts_of I.value by) (flat_contours contours.now) }
+    ensures answered { IfOk result (λ shapes. IsSizingOf I.least I.greatest (amounts_of I.value by) request (flat_contours contours.now)
+        (shapes_of shapes.shapes.items)) }
+    ensures refused { IfErr result (IsSizingRefused I.least I.greatest (amounts_of I.value by) request (flat_contours contours.now)) }
 {
     sized_region(
         alloc,
@@ -206,13 +205,13 @@ pub(crate) fn sized_in_turn<I: OverlayInt>(
     second: Sizing<I>,
 ) -> Result<IntShapes<I>, Fault>
     requires ready { IsFlat contours.now }
-    requires in_range { AreFlatInRange I.value I.least I.greatest contours.now }
-    requires straight { AreRectilinear (flat_contours I.value contours.now) }
-    requires fits { FitsInTurn I.least I.greatest (amounts_of I.value first) (amounts_of I.value second) (flat_contours I.value contours.now) }
+    requires in_range { AreFlatInRange I.least I.greatest contours.now }
+    requires straight { AreRectilinear (flat_contours contours.now) }
+    requires fits { FitsInTurn I.least I.greatest (amounts_of I.value first) (amounts_of I.value second) (flat_contours contours.now) }
     ensures answered { IfOk result (λ shapes. IsSizingInTurnOf I.least I.greatest (amounts_of I.value first) (amounts_of I.value second) request
-        (flat_contours I.value contours.now) (shapes_of I.value shapes.shapes.items)) }
+        (flat_contours contours.now) (shapes_of shapes.shapes.items)) }
     ensures refused { IfErr result (IsSizingInTurnRefused I.least I.greatest (amounts_of I.value first) (amounts_of I.value second) request
-        (flat_contours I.value contours.now)) }
+        (flat_contours contours.now)) }
 {
     sized_region_in_turn(
         alloc,
@@ -233,13 +232,13 @@ pub(crate) fn widths<I: OverlayInt>(
     width: I,
 ) -> Result<IntShapes<I>, Fault>
     requires ready { IsFlat contours.now }
-    requires in_range { AreFlatInRange I.value I.least I.greatest contours.now }
-    requires straight { AreRectilinear (flat_contours I.value contours.now) }
+    requires in_range { AreFlatInRange I.least I.greatest contours.now }
+    requires straight { AreRectilinear (flat_contours contours.now) }
     requires side { IsSide I.least I.greatest (I.value width) }
-    requires fits { Fits I.least I.greatest (evenly (I.value width)) (flat_contours I.value contours.now) }
-    ensures answered { IfOk result (λ shapes. AreWidthsOf I.least I.greatest (I.value width) request (flat_contours I.value contours.now)
-        (shapes_of I.value shapes.shapes.items)) }
-    ensures refused { IfErr result (AreWidthsRefused I.least I.greatest (I.value width) request (flat_contours I.value contours.now)) }
+    requires fits { Fits I.least I.greatest (evenly (I.value width)) (flat_contours contours.now) }
+    ensures answered { IfOk result (λ shapes. AreWidthsOf I.least I.greatest (I.value width) request (flat_contours contours.now)
+        (shapes_of shapes.shapes.items)) }
+    ensures refused { IfErr result (AreWidthsRefused I.least I.greatest (I.value width) request (flat_contours contours.now)) }
 {
     width_errors(
         alloc,
@@ -259,13 +258,13 @@ pub(crate) fn spaces<I: OverlayInt>(
     space: I,
 ) -> Result<IntShapes<I>, Fault>
     requires ready { IsFlat contours.now }
-    requires in_range { AreFlatInRange I.value I.least I.greatest contours.now }
-    requires straight { AreRectilinear (flat_contours I.value contours.now) }
+    requires in_range { AreFlatInRange I.least I.greatest contours.now }
+    requires straight { AreRectilinear (flat_contours contours.now) }
     requires side { IsSide I.least I.greatest (I.value space) }
-    requires fits { Fits I.least I.greatest (evenly (I.value space)) (flat_contours I.value contours.now) }
-    ensures answered { IfOk result (λ shapes. AreSpacesOf I.least I.greatest (I.value space) request (flat_contours I.value contours.now)
-        (shapes_of I.value shapes.shapes.items)) }
-    ensures refused { IfErr result (AreSpacesRefused I.least I.greatest (I.value space) request (flat_contours I.value contours.now)) }
+    requires fits { Fits I.least I.greatest (evenly (I.value space)) (flat_contours contours.now) }
+    ensures answered { IfOk result (λ shapes. AreSpacesOf I.least I.greatest (I.value space) request (flat_contours contours.now)
+        (shapes_of shapes.shapes.items)) }
+    ensures refused { IfErr result (AreSpacesRefused I.least I.greatest (I.value space) request (flat_contours contours.now)) }
 {
     space_errors(
         alloc,
@@ -286,10 +285,10 @@ pub(crate) fn relations<I: OverlayInt>(
 ) -> Result<Relations, Fault>
     requires subjects_ready { IsFlat subjects.now }
     requires clips_ready { IsFlat clips.now }
-    requires subjects_in_range { AreFlatInRange I.value I.least I.greatest subjects.now }
-    requires clips_in_range { AreFlatInRange I.value I.least I.greatest clips.now }
-    ensures answered { IfOk result (AreRelationsOf request (flat_contours I.value subjects.now) (flat_contours I.value clips.now)) }
-    ensures refused { IfErr result (IsNotRelated request (flat_contours I.value subjects.now) (flat_contours I.value clips.now)) }
+    requires subjects_in_range { AreFlatInRange I.least I.greatest subjects.now }
+    requires clips_in_range { AreFlatInRange I.least I.greatest clips.now }
+    ensures answered { IfOk result (AreRelationsOf request (flat_contours subjects.now) (flat_contours clips.now)) }
+    ensures refused { IfErr result (IsNotRelated request (flat_contours subjects.now) (flat_contours clips.now)) }
 {
     if lie_apart::<I, FlatContoursBuffer<I>, FlatContoursBuffer<I>>(subjects, clips) {
         return Ok(Relations {
@@ -319,10 +318,10 @@ pub(crate) fn contain<I: OverlayInt>(
     shapes: &IntShapes<I>,
     places: &[IntPoint<I>],
 ) -> Result<Vec<bool>, Fault>
-    requires shapes_in_range { All (All (IsWithin I.least I.greatest)) (all_contours (shapes_of I.value shapes.now.shapes.items)) }
-    requires places_in_range { All (IsWithin I.least I.greatest) (points_of I.value places.now) }
-    ensures located { IfOk result (λ inside. AreLocated (all_contours (shapes_of I.value shapes.now.shapes.items))
-        (in_shapes (shapes_of I.value shapes.now.shapes.items)) (points_of I.value places.now) inside.items) }
+    requires shapes_in_range { All (All (IsWithin I.least I.greatest)) (all_contours (shapes_of shapes.now.shapes.items)) }
+    requires places_in_range { All (IsWithin I.least I.greatest) places.now }
+    ensures located { IfOk result (λ inside. AreLocated (all_contours (shapes_of shapes.now.shapes.items))
+        (in_shapes (shapes_of shapes.now.shapes.items)) places.now inside.items) }
     ensures memory { IsOkUnless result Fault.Memory }
 {
     shapes.contains_points(alloc, places)

@@ -3,7 +3,6 @@
 
 ghost use Rattle.std.specs.Prelude.{◌≡◌, ◌↔◌, IsTrue, IfOk, IfErr, OnOk, IsOkUnless, length, sum};
 ghost use Rattle.plane_base.specs.Plane.{Point};
-ghost use Rattle.plane_base.specs.Views.{point_of, points_of};
 ghost use Rattle.contour_walk.specs.ShapeViews.{IsFlat};
 ghost use Rattle.polygon_c.specs.Given.{plane_point, c_point, wide_plane_point, wide_c_point, plane_points, AreInRange};
 ghost use Rattle.polygon_c.specs.Given.{cut_contours, flat_contours, AreFlatInRange};
@@ -90,7 +89,7 @@ impl CPointOf<i64> for CPoint64 {
 
 // The same point as the engine has it.
 pub(crate) fn engine_point<I: OverlayInt, P: CPointOf<I>>(point: P) -> IntPoint<I>
-    ensures { point_of I.value result ≡ P.plane point }
+    ensures { result ≡ P.plane point }
 {
     IntPoint {
         x: point.x(),
@@ -139,8 +138,8 @@ pub(crate) fn contours<I: OverlayInt, P: CPointOf<I>>(
     requires cut { sum lengths.now ≡ length points.now }
     requires in_range { AreInRange P.plane I.least I.greatest points.now }
     ensures ready { IfOk result (λ buffer. IsFlat buffer) }
-    ensures cut { IfOk result (λ buffer. flat_contours I.value buffer ≡ cut_contours P.plane points.now lengths.now) }
-    ensures in_range { IfOk result (λ buffer. AreFlatInRange I.value I.least I.greatest buffer) }
+    ensures cut { IfOk result (λ buffer. flat_contours buffer ≡ cut_contours P.plane points.now lengths.now) }
+    ensures in_range { IfOk result (λ buffer. AreFlatInRange I.least I.greatest buffer) }
     ensures memory { IsOkUnless result Fault.Memory }
 {
     Ok(FlatContoursBuffer {
@@ -154,7 +153,7 @@ pub(crate) fn engine_points<I: OverlayInt, P: CPointOf<I>>(
     alloc: Global,
     points: &[P],
 ) -> Result<Vec<IntPoint<I>>, Fault>
-    ensures points { IfOk result (λ found. points_of I.value found.items ≡ plane_points P.plane points.now) }
+    ensures points { IfOk result (λ found. found.items ≡ plane_points P.plane points.now) }
     ensures memory { IsOkUnless result Fault.Memory }
 {
     let mut found = Vec::with_capacity(alloc, points.len())?;

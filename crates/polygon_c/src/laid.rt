@@ -3,7 +3,6 @@
 
 ghost use Rattle.std.specs.Prelude.{◌≡◌, ◌++◌, ◌∷◌, [], OnOk, IfOk, map, length};
 ghost use Rattle.plane_base.specs.GivenViews.{contours_of};
-ghost use Rattle.plane_base.specs.Views.{points_of};
 ghost use Rattle.contour_walk.specs.ShapeViews.{shapes_of};
 ghost use Rattle.polygon_c.specs.Flat.{flat_points, flat, flat_paths, lists_of};
 
@@ -27,7 +26,7 @@ pub(crate) fn lay<I: OverlayInt, P: CPointOf<I>>(
     alloc: Global,
     shapes: &IntShapes<I>,
 ) -> Result<Laid<P>, AllocError>
-    ensures { IfOk result (λ laid. lists_of laid ≡ flat P.at (shapes_of I.value shapes.now.shapes.items)) }
+    ensures { IfOk result (λ laid. lists_of laid ≡ flat P.at (shapes_of shapes.now.shapes.items)) }
 {
     let mut laid = Laid {
         points: Vec::new(alloc),
@@ -45,7 +44,7 @@ pub(crate) fn lay_paths<I: OverlayInt, P: CPointOf<I>>(
     alloc: Global,
     paths: &[IntPath<I>],
 ) -> Result<Laid<P>, AllocError>
-    ensures { IfOk result (λ laid. lists_of laid ≡ flat_paths P.at (contours_of I.value paths.now)) }
+    ensures { IfOk result (λ laid. lists_of laid ≡ flat_paths P.at (contours_of paths.now)) }
 {
     let mut laid = Laid {
         points: Vec::new(alloc),
@@ -63,11 +62,11 @@ fn add_shape<I: OverlayInt, P: CPointOf<I>>(
     laid: &mut Laid<P>,
     shape: &IntShape<I>,
 ) -> Result<(), AllocError>
-    ensures points { OnOk result (laid.new.points.items ≡ laid.old.points.items ++ flat_points P.at (contours_of I.value shape.now.contours.items)) }
+    ensures points { OnOk result (laid.new.points.items ≡ laid.old.points.items ++ flat_points P.at (contours_of shape.now.contours.items)) }
     ensures contours { OnOk result (laid.new.contours.items
-        ≡ laid.old.contours.items ++ map length (contours_of I.value shape.now.contours.items)) }
+        ≡ laid.old.contours.items ++ map length (contours_of shape.now.contours.items)) }
     ensures shapes { OnOk result (laid.new.shapes.items
-        ≡ laid.old.shapes.items ++ length (contours_of I.value shape.now.contours.items) ∷ []) }
+        ≡ laid.old.shapes.items ++ length (contours_of shape.now.contours.items) ∷ []) }
 {
     for contour in &shape.contours {
         add_contour(laid, contour)?;
@@ -81,9 +80,9 @@ fn add_contour<I: OverlayInt, P: CPointOf<I>>(
     laid: &mut Laid<P>,
     contour: &IntPath<I>,
 ) -> Result<(), AllocError>
-    ensures points { OnOk result (laid.new.points.items ≡ laid.old.points.items ++ flat_points P.at (points_of I.value contour.now.points.items ∷ [])) }
+    ensures points { OnOk result (laid.new.points.items ≡ laid.old.points.items ++ flat_points P.at (contour.now.points.items ∷ [])) }
     ensures contours { OnOk result (laid.new.contours.items
-        ≡ laid.old.contours.items ++ length (points_of I.value contour.now.points.items) ∷ []) }
+        ≡ laid.old.contours.items ++ length contour.now.points.items ∷ []) }
     ensures shapes { laid.new.shapes.items ≡ laid.old.shapes.items }
 {
     for point in &contour.points {

@@ -1,7 +1,6 @@
 //! Where points lie: in shapes, on their edges, or outside, told point by point by a `PointLocator` of the shapes.
 
 ghost use Rattle.std.specs.Prelude.{◌≡◌, All, IfOk, IfErr, IsOkUnless, map};
-ghost use Rattle.plane_base.specs.Views.{point_of, points_of};
 ghost use Rattle.contour_walk.specs.BindingLaws.{all_contours};
 ghost use Rattle.contour_walk.specs.ShapeViews.{shapes_of};
 ghost use Rattle.plane_base.specs.Plane.{IsWithin};
@@ -91,10 +90,10 @@ fn places_in<I: OverlayInt>(
     shapes: &IntShapes<I>,
     places: &[IntPoint<I>],
 ) -> Result<Vec<u8>, Fault>
-    requires shapes_in_range { All (All (IsWithin I.least I.greatest)) (all_contours (shapes_of I.value shapes.now.shapes.items)) }
-    requires places_in_range { All (IsWithin I.least I.greatest) (points_of I.value places.now) }
+    requires shapes_in_range { All (All (IsWithin I.least I.greatest)) (all_contours (shapes_of shapes.now.shapes.items)) }
+    requires places_in_range { All (IsWithin I.least I.greatest) places.now }
     ensures placed { IfOk result (λ numbers. numbers.items
-        ≡ map (place_of (shapes_of I.value shapes.now.shapes.items)) (points_of I.value places.now)) }
+        ≡ map (place_of (shapes_of shapes.now.shapes.items)) places.now) }
     ensures memory { IsOkUnless result Fault.Memory }
 {
     let locator = PointLocator::new(alloc, shapes)?;
@@ -107,8 +106,8 @@ fn places_under<I: OverlayInt>(
     locator: &PointLocator<I>,
     places: &[IntPoint<I>],
 ) -> Result<Vec<u8>, Fault>
-    requires { All (IsWithin I.least I.greatest) (points_of I.value places.now) }
-    ensures placed { IfOk result (λ numbers. numbers.items ≡ map (place_of locator.now) (points_of I.value places.now)) }
+    requires { All (IsWithin I.least I.greatest) places.now }
+    ensures placed { IfOk result (λ numbers. numbers.items ≡ map (place_of locator.now) places.now) }
     ensures memory { IsOkUnless result Fault.Memory }
 {
     let mut numbers = Vec::with_capacity(alloc, places.len())?;
@@ -120,8 +119,8 @@ fn places_under<I: OverlayInt>(
 
 // Where a point lies.
 fn place_in<I: OverlayInt>(locator: &PointLocator<I>, place: IntPoint<I>) -> u8
-    requires { IsWithin I.least I.greatest (point_of I.value place) }
-    ensures { result ≡ place_of locator.now (point_of I.value place) }
+    requires { IsWithin I.least I.greatest place }
+    ensures { result ≡ place_of locator.now place }
 {
     if locator.is_on_edge(place) {
         return 2;

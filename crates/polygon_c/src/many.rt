@@ -20,7 +20,7 @@ use crate::query::{Request, read};
 use crate::refusal::Refusal;
 use polygon_overlay::plane::fault::Fault;
 use polygon_overlay::plane::flat::FlatContoursBuffer;
-use polygon_overlay::plane::int::OverlayInt;
+use polygon_overlay::plane::int::{IntNumber, OverlayInt};
 use polygon_overlay::plane::path::{IntShape, IntShapes};
 use std::alloc::Global;
 
@@ -36,7 +36,7 @@ pub struct ManySizes {
 
 // A request, and the contours of a subject and groups of clips as the engine has them.
 #[derive(Drop)]
-struct AskedMany<I> {
+struct AskedMany<I: IntNumber> {
     request: Request,
     subjects: FlatContoursBuffer<I>,
     groups: IntShapes<I>,
@@ -44,7 +44,7 @@ struct AskedMany<I> {
 
 // Shapes of overlays, one overlay after another, and how many each has.
 #[derive(Drop)]
-struct Many<I> {
+struct Many<I: IntNumber> {
     shapes: IntShapes<I>,
     overlays: Vec<usize>,
 }
@@ -176,8 +176,8 @@ fn ask_all<I: OverlayInt, P: CPointOf<I>>(
     groups: &[usize],
 ) -> Result<AskedMany<I>, Refusal>
     ensures passes { IfOk result (λ asked. PassesMany P.plane I.least I.greatest query.now (given subject.now subject_lengths.now clip.now clip_lengths.now) groups.now asked.request) }
-    ensures subjects { IfOk result (λ asked. AreTaken I.value I.least I.greatest asked.subjects (subjects_of P.plane (given subject.now subject_lengths.now clip.now clip_lengths.now))) }
-    ensures groups { IfOk result (λ asked. AreGroupsTaken I.value I.least I.greatest asked.groups
+    ensures subjects { IfOk result (λ asked. AreTaken I.least I.greatest asked.subjects (subjects_of P.plane (given subject.now subject_lengths.now clip.now clip_lengths.now))) }
+    ensures groups { IfOk result (λ asked. AreGroupsTaken I.least I.greatest asked.groups
         (groups_of P.plane (given subject.now subject_lengths.now clip.now clip_lengths.now) groups.now)) }
     ensures refused { IfErr result (IsManyUnasked P.plane I.least I.greatest query.now (given subject.now subject_lengths.now clip.now clip_lengths.now) groups.now) }
 {
@@ -219,13 +219,13 @@ fn overlay_each<I: OverlayInt>(
     groups: &[IntShape<I>],
 ) -> Result<Many<I>, Fault>
     requires subjects_ready { IsFlat subjects.now }
-    requires subjects_in_range { AreFlatInRange I.value I.least I.greatest subjects.now }
-    requires groups_in_range { AreGroupsInRange I.least I.greatest (shapes_of I.value groups.now) }
+    requires subjects_in_range { AreFlatInRange I.least I.greatest subjects.now }
+    requires groups_in_range { AreGroupsInRange I.least I.greatest (shapes_of groups.now) }
     ensures answered { IfOk result (λ many. (all : List (List (List (List Point))))
-        × AreOverlaysOf I.least I.greatest request (flat_contours I.value subjects.now) (shapes_of I.value groups.now) all
-        × (shapes_of I.value many.shapes.shapes.items ≡ flat_map (λ shapes. shapes) all) × (many.overlays.items ≡ map length all)) }
-    ensures refused { IfErr result (λ fault. (fault ≡ Fault.Memory) ⊎ ((group : List (List Point)) × Contains (shapes_of I.value groups.now) group
-        × IsNotOverlaid request (flat_contours I.value subjects.now) group fault)) }
+        × AreOverlaysOf I.least I.greatest request (flat_contours subjects.now) (shapes_of groups.now) all
+        × (shapes_of many.shapes.shapes.items ≡ flat_map (λ shapes. shapes) all) × (many.overlays.items ≡ map length all)) }
+    ensures refused { IfErr result (λ fault. (fault ≡ Fault.Memory) ⊎ ((group : List (List Point)) × Contains (shapes_of groups.now) group
+        × IsNotOverlaid request (flat_contours subjects.now) group fault)) }
 {
     let mut builder = engine::builder(alloc, request)?;
     let mut shapes = Vec::new(alloc);

@@ -1,7 +1,7 @@
 //! What a C program asks for, as numbers, and what they stand for. Degenerate cases: a missing word is 0, each number's default; one more
 //! than is known is refused. It takes constant time.
 
-ghost use Rattle.std.specs.Prelude.{◌≡◌, Bool, IfOk, IfErr, not, ◌==◌};
+ghost use Rattle.std.specs.Prelude.{◌≡◌, IfOk, IfErr, not, ◌==◌};
 ghost use Rattle.std.specs.Option.{option_map};
 ghost use Rattle.polygon_overlay.specs.RuleViews.{fill_rule_of};
 ghost use Rattle.polygon_c.specs.Queries.{word, query_of, named_rule, named_fill, named_strategy, named_precision, options_of, Reads, IsUnread};

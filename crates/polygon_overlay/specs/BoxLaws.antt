@@ -66,8 +66,8 @@ pub record SlicesStayInTheBox : Type 0 where
 abbrev pub IsWayIn : Bounds → VectorEdge → Type 0
 IsWayIn box v = LiesWithin box v.way.a × LiesWithin box v.way.b
 
-abbrev pub IsVectorIn : {I D : Type 0} → (I → ℤ) → Bounds → DataVectorEdge I D → Type 0
-IsVectorIn value box e = IsWayIn box (vector_of value e)
+abbrev pub IsVectorIn : {I D : Type 0} → Bounds → DataVectorEdge I D → Type 0
+IsVectorIn box e = IsWayIn box (vector_of e)
 
 -- Edges that are answered with their sides lie in each box in which the ends of all held edges lie: all edges of the redrawn map, those that bound a
 -- region, and the edges of shapes, simplified or not, with data or without.
@@ -81,9 +81,9 @@ pub record VectorsStayInTheBox {I D : Type 0} (value : I → ℤ) (turns : D →
       (least greatest : ℤ) (box : Bounds) (same : D → D → Bool) (options : IntOverlayOptions) (fill : FillRule) (rule : OverlayRule) (precision : Precision)
       (held : List (Entry Count)) (shapes : List (List (List (DataVectorEdge I D)))) →
       IsHeld least greatest held → EndsLieWithin box held → AreShapes value same options fill rule (redrawn_of precision held) shapes
-      → All (All (All (IsVectorIn value box))) shapes
+      → All (All (All (IsVectorIn box))) shapes
   pub with_data :
       (least greatest : ℤ) (box : Bounds) (same : D → D → Bool) (options : IntOverlayOptions) (fill : FillRule) (rule : OverlayRule) (precision : Precision)
       (held : List (Entry Count)) (es : List (Entry (Count × D))) (shapes : List (List (List (DataVectorEdge I D)))) →
       IsHeld least greatest held → EndsLieWithin box held → without_data es ≡ redrawn_of precision held →
-      AreDataShapes value same turns options fill rule es shapes → All (All (All (IsVectorIn value box))) shapes
+      AreDataShapes value same turns options fill rule es shapes → All (All (All (IsVectorIn box))) shapes

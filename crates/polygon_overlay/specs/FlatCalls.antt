@@ -1,5 +1,5 @@
 -- Queries whose contours are laid flat.
-use Rattle.std.specs.Prelude.{◌≡◌, ℤ, List, [], OnOk, OnErr}
+use Rattle.std.specs.Prelude.{◌≡◌, List, [], OnOk, OnErr}
 use Rattle.std.specs.declared.result.Result.{Result}
 use Rattle.plane_base.specs.Plane.{Point}
 use Rattle.plane_base.specs.Counts.{Count, Entry}
@@ -22,7 +22,7 @@ abbrev pub IsEmptied : {I : Type 0} → FlatContoursBuffer I → Type 0
 IsEmptied buffer = (buffer.points.items ≡ []) × (buffer.ranges.items ≡ [])
 
 -- The buffer holds these contours and nothing else, or after a refusal nothing.
-pub record LaysFlat {I T : Type 0} (value : I → ℤ) (contours : List (List Point)) (buffer : FlatContoursBuffer I) (result : Result T Fault) : Type 0 where
-  pub is : OnOk result (flat_of value buffer ≡ contours)
+pub record LaysFlat {I T : Type 0} (contours : List (List Point)) (buffer : FlatContoursBuffer I) (result : Result T Fault) : Type 0 where
+  pub is : OnOk result (flat_of buffer ≡ contours)
   pub well_formed : IsFlat buffer
   pub refused : OnErr result (IsEmptied buffer)

@@ -57,7 +57,6 @@ pub use Rattle.plane_base.specs.PathViews
 pub use Rattle.plane_base.specs.Flat
 pub use Rattle.plane_base.specs.declared.fault.Fault
 pub use Rattle.plane_base.specs.declared.path.IntShapes
-pub use Rattle.plane_base.specs.declared.point.IntPoint
 -- of segments, solvers, groups and data
 pub use Rattle.segment_split.specs.Adding
 pub use Rattle.segment_split.specs.Data

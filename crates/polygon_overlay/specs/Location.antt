@@ -1,5 +1,5 @@
 -- Which points lie inside of contours, by parity, and whether a contour meets itself in ends alone.
-use Rattle.std.specs.Prelude.{◌≡◌, ◌≢◌, ◌<◌, ℕ, Bool, true, false, List, [], ◌∷◌, length, slice_index_or, flat_map, All, AllPairs}
+use Rattle.std.specs.Prelude.{◌≡◌, ◌≢◌, ◌<◌, ℕ, Bool, true, false, List, [], ◌∷◌, length, slice_index_or, flat_map, AllPairs}
 use Rattle.std.specs.List.{list_any}
 use Rattle.plane_base.specs.Plane.{Point, Edge, RationalPoint, is_before, lies_on}
 use Rattle.plane_base.specs.Regions.{is_odd}

@@ -66,9 +66,9 @@ abbrev pub fast_shapes : Bool → FillRule → List Point → List (List (List P
 fast_shapes clockwise fill points = unwrap_or (fast_answer clockwise fill points) ((points ∷ []) ∷ [])
 
 -- the shapes of what a call finds, if it finds any
-abbrev pub shapes_if_any : {I : Type 0} → (I → ℤ) → Option (IntShapes I) → Option (List (List (List Point)))
-shapes_if_any value None = None
-shapes_if_any value (Some found) = Some (shapes_of value found.shapes.items)
+abbrev pub shapes_if_any : {I : Type 0} → Option (IntShapes I) → Option (List (List (List Point)))
+shapes_if_any None = None
+shapes_if_any (Some found) = Some (shapes_of found.shapes.items)
 
 -- what becomes of a perfect contour, in the program's words
 abbrev pub fill_direction : Bool → FillRule → List Point → ContourFillDirection

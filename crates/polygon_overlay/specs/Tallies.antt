@@ -6,7 +6,6 @@ use Rattle.plane_base.specs.Plane.{Point, point_order}
 use Rattle.plane_base.specs.Counts.{Count, Entry}
 use Rattle.plane_base.specs.Balance.{mark, fall}
 use Rattle.plane_base.specs.Totals.{total}
-use Rattle.plane_base.specs.Views.{point_of}
 use Rattle.polygon_overlay.specs.declared.edge_overlay.tally.End.{End}
 use Rattle.polygon_overlay.specs.declared.edge_overlay.tally.Tally.{Tally}
 
@@ -16,11 +15,11 @@ pub record Leaving : Type 0 where
   pub count : Count
 
 -- an end of an edge: its point, and how often the edge leaves it
-abbrev pub leaving_of : {I : Type 0} → (I → ℤ) → End I → Leaving
-leaving_of value e = record { point = point_of value e.point; count = e.count }
+abbrev pub leaving_of : {I : Type 0} → End I → Leaving
+leaving_of e = record { point = e.point; count = e.count }
 
-abbrev pub leavings_of : {I : Type 0} → (I → ℤ) → List (End I) → List Leaving
-leavings_of value ends = map (leaving_of value) ends
+abbrev pub leavings_of : {I : Type 0} → List (End I) → List Leaving
+leavings_of ends = map leaving_of ends
 
 -- how many ends more there is room for
 abbrev pub spare_of : {I : Type 0} → Tally I → ℕ

@@ -1,10 +1,8 @@
 -- What the handlers of predicates answer: for what they were told, and the links that are still to come.
-use Rattle.std.specs.Prelude.{◌≡◌, ℕ, ℤ, Bool, true, false, not, ◌&&◌, ◌||◌, List, ◌∷◌, ◌++◌}
+use Rattle.std.specs.Prelude.{◌≡◌, ℕ, Bool, true, false, not, ◌&&◌, ◌||◌, List, ◌∷◌, ◌++◌}
 use Rattle.std.specs.declared.ops.ControlFlow.{ControlFlow}
 use Rattle.std.specs.declared.ops.ControlFlow.TheVariants.{Continue, Break}
-use Rattle.plane_base.specs.Plane.{Point}
-use Rattle.plane_base.specs.SegmentViews.{edge_of}
-use Rattle.plane_base.specs.declared.segment.XSegment.{XSegment}
+use Rattle.plane_base.specs.Plane.{Point, Edge}
 use Rattle.segment_arrangement.specs.Fills.{has}
 use Rattle.segment_arrangement.specs.Graphs.{Link}
 use Rattle.polygon_overlay.specs.declared.relate.Relations.{Relations}
@@ -12,8 +10,8 @@ use Rattle.polygon_overlay.specs.declared.predicate.SeenFills.{SeenFills}
 use Rattle.polygon_overlay.specs.Predicates.{is_shared, is_common, is_inside, is_covered, is_subjects_own, is_clips_own, some, each, ends_where, share_point}
 
 -- the link of a segment with this fill
-abbrev pub link_told : {I : Type 0} → (I → ℤ) → XSegment I → ℕ → Link
-link_told value x fill = record { edge = edge_of value x; fill = fill }
+abbrev pub link_told : Edge → ℕ → Link
+link_told x fill = record { edge = x; fill = fill }
 
 -- Told a link, it goes on or breaks off with an answer, and the answer is the same as before, whatever links are to come.
 abbrev pub Tells : {H O : Type 0} → (H → List Link → O) → H → Link → ControlFlow O (Unit {0}) → H → Type 0

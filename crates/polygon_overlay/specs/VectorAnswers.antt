@@ -2,7 +2,6 @@
 use Rattle.std.specs.Prelude.{◌≡◌, ℤ, Bool, List, map, filter, All, Contains}
 use Rattle.plane_base.specs.Counts.{Count, Entry}
 use Rattle.plane_base.specs.Regions.{FillRule, OverlayRule}
-use Rattle.plane_base.specs.Views.{point_of}
 use Rattle.segment_split.specs.Data.{without_data, HasDatum}
 use Rattle.segment_arrangement.specs.EdgeSides.{fill_of, is_boundary}
 use Rattle.segment_arrangement.specs.Graphs.{Link, all_links}
@@ -23,11 +22,11 @@ abbrev pub all_vectors : FillRule → List (Entry Count) → List VectorEdge
 all_vectors fill es = map along (all_links fill es)
 
 -- an edge with its datum
-abbrev pub data_vector_of : {I D : Type 0} → (I → ℤ) → DataVectorEdge I D → VectorEdge × D
-data_vector_of value e = (vector_of value e, e.datum)
+abbrev pub data_vector_of : {I D : Type 0} → DataVectorEdge I D → VectorEdge × D
+data_vector_of e = (vector_of e, e.datum)
 
-abbrev pub data_vectors_of : {I D : Type 0} → (I → ℤ) → List (DataVectorEdge I D) → List (VectorEdge × D)
-data_vectors_of value edges = map (data_vector_of value) edges
+abbrev pub data_vectors_of : {I D : Type 0} → List (DataVectorEdge I D) → List (VectorEdge × D)
+data_vectors_of edges = map data_vector_of edges
 
 -- an entry without its datum
 abbrev pub bare : {D : Type 0} → Entry (Count × D) → Entry Count
@@ -50,18 +49,18 @@ boundary_vectors fill rule es =
 pub record AreShapes {I D : Type 0} (value : I → ℤ) (same : D → D → Bool) (options : IntOverlayOptions) (fill : FillRule) (rule : OverlayRule)
     (es : List (Entry Count)) (shapes : List (List (List (DataVectorEdge I D)))) : Type 0 where
   pub whole : List (List (List (DataVectorEdge I D)))
-  pub geometry : vectors_of value whole ≡ vector_answer (answering_of options) fill rule es
+  pub geometry : vectors_of whole ≡ vector_answer (answering_of options) fill rule es
   pub left : AreLeft value same options.preserve_output_collinear whole shapes
 
 -- the map has the edge, with its datum
-abbrev pub HasDatumIn : {I D : Type 0} → (I → ℤ) → (D → D → Type 0) → List (Entry (Count × D)) → DataVectorEdge I D → Type 0
-HasDatumIn value turns es v =
-    (e : Entry _) × Contains es e × (e.edge ≡ between (point_of value v.a) (point_of value v.b)) × HasDatum turns (point_of value v.a) (point_of value v.b) e.count.1 v.datum
+abbrev pub HasDatumIn : {I D : Type 0} → (D → D → Type 0) → List (Entry (Count × D)) → DataVectorEdge I D → Type 0
+HasDatumIn turns es v =
+    (e : Entry _) × Contains es e × (e.edge ≡ between v.a v.b) × HasDatum turns v.a v.b e.count.1 v.datum
 
 -- The same of a map with data, whatever they are. Each edge has the datum of the map.
 pub record AreDataShapes {I D : Type 0} (value : I → ℤ) (same : D → D → Bool) (turns : D → D → Type 0) (options : IntOverlayOptions) (fill : FillRule) (rule : OverlayRule)
     (es : List (Entry (Count × D))) (shapes : List (List (List (DataVectorEdge I D)))) : Type 0 where
   pub whole : List (List (List (DataVectorEdge I D)))
-  pub geometry : vectors_of value whole ≡ vector_answer (answering_of options) fill rule (without_data es)
-  pub data_of_map : All (All (All (HasDatumIn value turns es))) whole
+  pub geometry : vectors_of whole ≡ vector_answer (answering_of options) fill rule (without_data es)
+  pub data_of_map : All (All (All (HasDatumIn turns es))) whole
   pub left : AreLeft value same options.preserve_output_collinear whole shapes

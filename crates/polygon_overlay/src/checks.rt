@@ -52,14 +52,14 @@ pub fn width_errors<I: OverlayInt, R: IntShapeResource<I>>(
     solver: Solver,
 ) -> Result<IntShapes<I>, Fault>
     requires ready { R.is_ready source.now }
-    requires in_range { AreInRange I.least I.greatest (contours_of I.value (R.paths source.now)) }
-    requires straight { AreRectilinear (contours_of I.value (R.paths source.now)) }
+    requires in_range { AreInRange I.least I.greatest (contours_of (R.paths source.now)) }
+    requires straight { AreRectilinear (contours_of (R.paths source.now)) }
     requires side { IsSide I.least I.greatest (I.value width) }
-    requires fits { Fits I.least I.greatest (evenly (I.value width)) (contours_of I.value (R.paths source.now)) }
+    requires fits { Fits I.least I.greatest (evenly (I.value width)) (contours_of (R.paths source.now)) }
     ensures told { IfOk result (λ shapes. AreWidthErrors I.least I.greatest (I.value width) options (fill_rule_of fill_rule) solver.precision
-        (contours_of I.value (R.paths source.now)) (shapes_of I.value shapes.shapes.items)) }
+        (contours_of (R.paths source.now)) (shapes_of shapes.shapes.items)) }
     ensures refused { IfErr result (AreNoWidthErrors I.least I.greatest (I.value width) options (fill_rule_of fill_rule) solver.precision
-        (contours_of I.value (R.paths source.now))) }
+        (contours_of (R.paths source.now))) }
 {
     regions_stay_in_the_box();
     moved_fill_the_sized();
@@ -81,14 +81,14 @@ pub fn space_errors<I: OverlayInt, R: IntShapeResource<I>>(
     solver: Solver,
 ) -> Result<IntShapes<I>, Fault>
     requires ready { R.is_ready source.now }
-    requires in_range { AreInRange I.least I.greatest (contours_of I.value (R.paths source.now)) }
-    requires straight { AreRectilinear (contours_of I.value (R.paths source.now)) }
+    requires in_range { AreInRange I.least I.greatest (contours_of (R.paths source.now)) }
+    requires straight { AreRectilinear (contours_of (R.paths source.now)) }
     requires side { IsSide I.least I.greatest (I.value space) }
-    requires fits { Fits I.least I.greatest (evenly (I.value space)) (contours_of I.value (R.paths source.now)) }
+    requires fits { Fits I.least I.greatest (evenly (I.value space)) (contours_of (R.paths source.now)) }
     ensures told { IfOk result (λ shapes. AreSpaceErrors I.least I.greatest (I.value space) options (fill_rule_of fill_rule) solver.precision
-        (contours_of I.value (R.paths source.now)) (shapes_of I.value shapes.shapes.items)) }
+        (contours_of (R.paths source.now)) (shapes_of shapes.shapes.items)) }
     ensures refused { IfErr result (AreNoSpaceErrors I.least I.greatest (I.value space) options (fill_rule_of fill_rule) solver.precision
-        (contours_of I.value (R.paths source.now))) }
+        (contours_of (R.paths source.now))) }
 {
     regions_stay_in_the_box();
     moved_fill_the_sized();
@@ -171,13 +171,13 @@ fn moved_in_turn<I: OverlayInt>(
     solver: Solver,
 ) -> Result<IntShape<I>, Fault>
     requires well_formed { IsFlat region.now }
-    requires in_range { AreInRange I.least I.greatest (contours_of I.value (parts region.now.points.items region.now.ranges.items)) }
+    requires in_range { AreInRange I.least I.greatest (contours_of (parts region.now.points.items region.now.ranges.items)) }
     requires fits { FitsInTurn I.least I.greatest (amounts_of I.value first) (amounts_of I.value second)
-        (contours_of I.value (parts region.now.points.items region.now.ranges.items)) }
+        (contours_of (parts region.now.points.items region.now.ranges.items)) }
     ensures is { IfOk result (λ shifted. IsMovedInTurn I.least I.greatest (amounts_of I.value first) (amounts_of I.value second) solver.precision
-        (contours_of I.value (parts region.now.points.items region.now.ranges.items)) (contours_of I.value (paths_of_shape shifted))) }
+        (contours_of (parts region.now.points.items region.now.ranges.items)) (contours_of (paths_of_shape shifted))) }
     ensures refused { IfErr result (IsNotMovedInTurn I.least I.greatest (amounts_of I.value first) (amounts_of I.value second) solver.precision
-        (contours_of I.value (parts region.now.points.items region.now.ranges.items))) }
+        (contours_of (parts region.now.points.items region.now.ranges.items))) }
 {
     regions_stay_in_the_box();
     let between = moved_region(alloc, region, first, solver)?;
@@ -193,15 +193,15 @@ fn difference<I: OverlayInt, R: IntShapeResource<I>, S: IntShapeResource<I>>(
     solver: Solver,
 ) -> Result<IntShapes<I>, Fault>
     requires one_is_ready { R.is_ready one.now }
-    requires one_in_range { AreInRange I.least I.greatest (contours_of I.value (R.paths one.now)) }
-    requires one_straight { AreRectilinear (contours_of I.value (R.paths one.now)) }
+    requires one_in_range { AreInRange I.least I.greatest (contours_of (R.paths one.now)) }
+    requires one_straight { AreRectilinear (contours_of (R.paths one.now)) }
     requires other_is_ready { S.is_ready other.now }
-    requires other_in_range { AreInRange I.least I.greatest (contours_of I.value (S.paths other.now)) }
-    requires other_straight { AreRectilinear (contours_of I.value (S.paths other.now)) }
-    ensures is { IfOk result (λ shapes. IsDifferenceOf I.least I.greatest options solver.precision (contours_of I.value (R.paths one.now))
-        (contours_of I.value (S.paths other.now)) (shapes_of I.value shapes.shapes.items)) }
-    ensures refused { IfErr result (IsNoDifference options.preserve_input_collinear solver.precision (contours_of I.value (R.paths one.now))
-        (contours_of I.value (S.paths other.now))) }
+    requires other_in_range { AreInRange I.least I.greatest (contours_of (S.paths other.now)) }
+    requires other_straight { AreRectilinear (contours_of (S.paths other.now)) }
+    ensures is { IfOk result (λ shapes. IsDifferenceOf I.least I.greatest options solver.precision (contours_of (R.paths one.now))
+        (contours_of (S.paths other.now)) (shapes_of shapes.shapes.items)) }
+    ensures refused { IfErr result (IsNoDifference options.preserve_input_collinear solver.precision (contours_of (R.paths one.now))
+        (contours_of (S.paths other.now))) }
 {
     holding_goes_on();
     sources_are_held();

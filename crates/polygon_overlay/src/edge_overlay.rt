@@ -16,7 +16,7 @@ mod tally;
 use contour_walk::extract::BooleanExtractionBuffer;
 use contour_walk::options::IntOverlayOptions;
 pub use pairs::EdgePairs;
-use plane_base::int::OverlayInt;
+use plane_base::int::{IntNumber, OverlayInt};
 use plane_base::point::IntPoint;
 use segment_arrangement::builder::GraphBuilder;
 use segment_split::count::ShapeCountBoolean;
@@ -28,7 +28,7 @@ use tally::Tally;
 
 /// An edge from `a` to `b`, and what else belongs to it.
 #[derive(Debug, Clone, Copy, PartialEq, Eq)]
-pub struct InputEdge<I, D> {
+pub struct InputEdge<I: IntNumber, D> {
     pub a: IntPoint<I>,
     pub b: IntPoint<I>,
     pub datum: D,
@@ -48,5 +48,5 @@ pub struct EdgeOverlay<I: OverlayInt, D: OverlayEdgeData<ShapeCountBoolean>> {
     graph_builder: GraphBuilder<I, D>,
     alloc: Global,
     ghost sound: { AreHeldEdges I.least I.greatest held.edges } by { Prim.hlevel props },
-    ghost tallied: { IsTallyOf (leavings_of I.value tally.ends.items) held.edges } by { Prim.hlevel props },
+    ghost tallied: { IsTallyOf (leavings_of tally.ends.items) held.edges } by { Prim.hlevel props },
 }

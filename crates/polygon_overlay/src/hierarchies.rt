@@ -46,7 +46,7 @@ pub(crate) fn find_hierarchy<I: OverlayInt, L: Ledger>(
     requires parts { blank.parts ≡ L.parts }
     requires two { blank.parts ≡ 2 }
     ensures answered { IfOk result (λ found. IsHierarchy I.least I.greatest query.options (fill_rule_of query.fill_rule) (overlay_rule_of query.overlay_rule)
-        query.solver.precision held.old.edges (flat_shapes_of I.value found.shapes) found.links.items) }
+        query.solver.precision held.old.edges (flat_shapes_of found.shapes) found.links.items) }
     ensures well_formed { IfOk result (λ found. AreFlatShapes found.shapes) }
     ensures redrawn { OnOk result (holding held.new ≡ record (holding held.old) { edges = redrawn_of query.solver.precision held.old.edges }) }
     ensures failed { OnErr result (holding held.new ≡ failed) }
@@ -70,7 +70,7 @@ fn hierarchy_of_redrawn<I: OverlayInt>(
     ensures answered { IfOk result (λ found. (before : List (Entry Count)) → IsHeld I.least I.greatest before →
         held.old.edges ≡ redrawn_of query.solver.precision before →
         IsHierarchy I.least I.greatest query.options (fill_rule_of query.fill_rule) (overlay_rule_of query.overlay_rule)
-        query.solver.precision before (flat_shapes_of I.value found.shapes) found.links.items) }
+        query.solver.precision before (flat_shapes_of found.shapes) found.links.items) }
     ensures well_formed { IfOk result (λ found. AreFlatShapes found.shapes) }
     ensures stays { OnOk result (holding held.new ≡ holding held.old) }
     ensures failed { OnErr result (holding held.new ≡ failed) }
@@ -96,15 +96,15 @@ fn hierarchy_of_arrangement<I: OverlayInt>(
     query: Query,
     buffer: &mut BooleanExtractionBuffer<I>,
 ) -> Result<FlatShapeHierarchy<I>, Fault>
-    requires in_range { AreWithin I.least I.greatest (entries_of I.value segments.now) }
-    requires arrangement { IsArrangement (entries_of I.value segments.now) }
+    requires in_range { AreWithin I.least I.greatest (entries_of segments.now) }
+    requires arrangement { IsArrangement (entries_of segments.now) }
     requires few { length segments.now < 2 ^ 31 }
-    ensures answer { IfOk result (λ found. flat_shapes_of I.value found.shapes ≡ answer_with (answering_of query.options)
-        (borders (fill_rule_of query.fill_rule) (overlay_rule_of query.overlay_rule) (entries_of I.value segments.now))) }
+    ensures answer { IfOk result (λ found. flat_shapes_of found.shapes ≡ answer_with (answering_of query.options)
+        (borders (fill_rule_of query.fill_rule) (overlay_rule_of query.overlay_rule) (entries_of segments.now))) }
     ensures links { IfOk result (λ found. found.links.items ≡ answer_links (answering_of query.options)
-        (borders (fill_rule_of query.fill_rule) (overlay_rule_of query.overlay_rule) (entries_of I.value segments.now))) }
+        (borders (fill_rule_of query.fill_rule) (overlay_rule_of query.overlay_rule) (entries_of segments.now))) }
     ensures well_formed { IfOk result (λ found. AreFlatShapes found.shapes) }
-    ensures refused { IfErr result (IsSweepRefused (entries_of I.value segments.now)) }
+    ensures refused { IfErr result (IsSweepRefused (entries_of segments.now)) }
 {
     let graph = graph_builder.build_boolean_overlay(
         query.fill_rule,

@@ -9,7 +9,6 @@ ghost use Rattle.std.specs.declared.cmp.Ordering.TheVariants.{Greater};
 ghost use Rattle.plane_base.specs.Plane.{Point, IsWithin, point_order};
 ghost use Rattle.plane_base.specs.Flat.{IsOneRangeOf, parts};
 ghost use Rattle.plane_base.specs.Regions.{is_filled};
-ghost use Rattle.plane_base.specs.Views.{point_of, points_of};
 ghost use Rattle.segment_arrangement.specs.RuleViews.{fill_rule_of};
 ghost use Rattle.contour_walk.specs.BindingLaws.{all_contours};
 ghost use Rattle.contour_walk.specs.ShapeViews.{shapes_of, is_clockwise, flat_of, IsFlat};
@@ -21,6 +20,7 @@ use plane_base::area::is_clockwise_ordered;
 use plane_base::fault::Fault;
 use plane_base::flat::FlatContoursBuffer;
 use plane_base::int::OverlayInt;
+use plane_base::laws::order_of_points;
 use plane_base::path::{IntPath, IntShape, IntShapes};
 use plane_base::point::IntPoint;
 use plane_base::resource::IntShapeResource;
@@ -40,18 +40,19 @@ pub(crate) fn has_each_once<I: OverlayInt>(
     alloc: Global,
     points: &[IntPoint<I>],
 ) -> Result<bool, Fault>
-    ensures is { IfOk result (λ once. IsTrue once ↔ HasEachOnce (points_of I.value points.now)) }
+    ensures is { IfOk result (λ once. IsTrue once ↔ HasEachOnce points.now) }
     ensures memory { IsOkUnless result Fault.Memory }
 {
     let mut sorted = Vec::from_slice(alloc, points)?;
+    order_of_points::<I>();
     sorted.sort_unstable();
     Ok(are_apart(&sorted))
 }
 
 // Whether sorted points differ.
 fn are_apart<I: OverlayInt>(sorted: &[IntPoint<I>]) -> bool
-    requires { AllPairs (λ p q. point_order p q ≢ Greater) (points_of I.value sorted.now) }
-    ensures { IsTrue result ↔ HasEachOnce (points_of I.value sorted.now) }
+    requires { AllPairs (λ p q. point_order p q ≢ Greater) sorted.now }
+    ensures { IsTrue result ↔ HasEachOnce sorted.now }
 {
     for i in 1..sorted.len() {
         if is_same_point(sorted[i - 1], sorted[i]) {
@@ -62,7 +63,7 @@ fn are_apart<I: OverlayInt>(sorted: &[IntPoint<I>]) -> bool
 }
 
 fn is_same_point<I: OverlayInt>(a: IntPoint<I>, b: IntPoint<I>) -> bool
-    ensures { result ≡ is_eq (point_order (point_of I.value a) (point_of I.value b)) }
+    ensures { result ≡ is_eq (point_order a b) }
 {
     a.cmp(&b).is_eq()
 }
@@ -84,8 +85,8 @@ pub(crate) fn contour_direction<I: OverlayInt>(
     fill_rule: FillRule,
     output_direction: ContourDirection,
 ) -> ContourFillDirection
-    requires { All (IsWithin I.least I.greatest) (points_of I.value points.now) }
-    ensures { result ≡ fill_direction (is_clockwise output_direction) (fill_rule_of fill_rule) (points_of I.value points.now) }
+    requires { All (IsWithin I.least I.greatest) points.now }
+    ensures { result ≡ fill_direction (is_clockwise output_direction) (fill_rule_of fill_rule) points.now }
 {
     let runs_clockwise = is_clockwise_ordered(points);
     if !fills_inside(fill_rule, runs_clockwise) {
@@ -125,9 +126,9 @@ pub(crate) fn fast_answer<I: OverlayInt>(
     fill_rule: FillRule,
     output_direction: ContourDirection,
 ) -> Result<Option<IntShapes<I>>, Fault>
-    requires { All (IsWithin I.least I.greatest) (points_of I.value points.now) }
-    ensures is { IfOk result (λ found. shapes_if_any I.value found ≡
-        fast_answer (is_clockwise output_direction) (fill_rule_of fill_rule) (points_of I.value points.now)) }
+    requires { All (IsWithin I.least I.greatest) points.now }
+    ensures is { IfOk result (λ found. shapes_if_any found ≡
+        fast_answer (is_clockwise output_direction) (fill_rule_of fill_rule) points.now) }
     ensures memory { IsOkUnless result Fault.Memory }
 {
     match contour_direction(points, fill_rule, output_direction) {
@@ -144,7 +145,7 @@ pub(crate) fn shape_of_copy<I: OverlayInt>(
     alloc: Global,
     points: &[IntPoint<I>],
 ) -> Result<IntShapes<I>, Fault>
-    ensures is { IfOk result (λ found. shapes_of I.value found.shapes.items ≡ (points_of I.value points.now ∷ []) ∷ []) }
+    ensures is { IfOk result (λ found. shapes_of found.shapes.items ≡ (points.now ∷ []) ∷ []) }
     ensures memory { IsOkUnless result Fault.Memory }
 {
     shape_of_one(alloc, Vec::from_slice(alloc, points)?)
@@ -155,7 +156,7 @@ fn shape_of_turned<I: OverlayInt>(
     alloc: Global,
     points: &[IntPoint<I>],
 ) -> Result<IntShapes<I>, Fault>
-    ensures is { IfOk result (λ found. shapes_of I.value found.shapes.items ≡ (reverse (points_of I.value points.now) ∷ []) ∷ []) }
+    ensures is { IfOk result (λ found. shapes_of found.shapes.items ≡ (reverse points.now ∷ []) ∷ []) }
     ensures memory { IsOkUnless result Fault.Memory }
 {
     let mut turned = Vec::from_slice(alloc, points)?;
@@ -168,7 +169,7 @@ fn shape_of_one<I: OverlayInt>(
     alloc: Global,
     points: Vec<IntPoint<I>>,
 ) -> Result<IntShapes<I>, Fault>
-    ensures is { IfOk result (λ found. shapes_of I.value found.shapes.items ≡ (points_of I.value points.items ∷ []) ∷ []) }
+    ensures is { IfOk result (λ found. shapes_of found.shapes.items ≡ (points.items ∷ []) ∷ []) }
     ensures memory { IsOkUnless result Fault.Memory }
 {
     let mut contours = Vec::new(alloc);
@@ -185,9 +186,9 @@ pub(crate) fn leave_fast_answer<I: OverlayInt>(
     output_direction: ContourDirection,
 )
     requires single { IsOneRangeOf (length buffer.old.points.items) buffer.old.ranges.items }
-    requires in_range { All (All (IsWithin I.least I.greatest)) (flat_of I.value buffer.old) }
-    ensures is { (points : List Point) → flat_of I.value buffer.old ≡ points ∷ [] →
-        flat_of I.value buffer.new ≡ all_contours (fast_shapes (is_clockwise output_direction) (fill_rule_of fill_rule) points) }
+    requires in_range { All (All (IsWithin I.least I.greatest)) (flat_of buffer.old) }
+    ensures is { (points : List Point) → flat_of buffer.old ≡ points ∷ [] →
+        flat_of buffer.new ≡ all_contours (fast_shapes (is_clockwise output_direction) (fill_rule_of fill_rule) points) }
     ensures well_formed { IsFlat buffer.new }
 {
     let fate = contour_direction(buffer.as_first_contour(), fill_rule, output_direction);

@@ -3,16 +3,15 @@
 
 ghost use Rattle.std.specs.Prelude.{◌≡◌, ◌≤ℤ◌, All, int_lt};
 ghost use Rattle.plane_base.specs.Plane.{Point};
-ghost use Rattle.plane_base.specs.Views.{point_of, points_of};
 ghost use Rattle.segment_split.specs.Groups.{LiesWithin};
 ghost use Rattle.polygon_overlay.specs.PointBoxes.{bounds_of};
 
-use plane_base::int::OverlayInt;
+use plane_base::int::{IntNumber, OverlayInt};
 use plane_base::point::IntPoint;
 
 /// From the least to the greatest coordinates of some points, both included.
 #[derive(Clone, Copy)]
-pub(crate) struct PointBox<I> {
+pub(crate) struct PointBox<I: IntNumber> {
     pub(crate) left: I,
     pub(crate) right: I,
     pub(crate) bottom: I,
@@ -33,7 +32,7 @@ impl<I: OverlayInt> PointBox<I> {
     /// With these points more.
     pub(crate) fn with_all(self, points: &[IntPoint<I>]) -> PointBox<I>
         ensures kept { (p : Point) → LiesWithin (bounds_of I.value self) p → LiesWithin (bounds_of I.value result) p }
-        ensures within { All (LiesWithin (bounds_of I.value result)) (points_of I.value points.now) }
+        ensures within { All (LiesWithin (bounds_of I.value result)) points.now }
     {
         let mut wider = self;
         for point in points {
@@ -45,7 +44,7 @@ impl<I: OverlayInt> PointBox<I> {
     /// With a point more.
     pub(crate) fn with(self, point: IntPoint<I>) -> PointBox<I>
         ensures kept { (p : Point) → LiesWithin (bounds_of I.value self) p → LiesWithin (bounds_of I.value result) p }
-        ensures within { LiesWithin (bounds_of I.value result) (point_of I.value point) }
+        ensures within { LiesWithin (bounds_of I.value result) point }
     {
         PointBox {
             left: lesser(self.left, point.x),

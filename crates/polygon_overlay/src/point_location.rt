@@ -6,7 +6,6 @@
 
 ghost use Rattle.std.specs.Prelude.{◌≡◌, ◌↔◌, Bool, List, [], ◌∷◌, IsTrue, IfOk, IsOkUnless, All};
 ghost use Rattle.plane_base.specs.Plane.{Point, RationalPoint, IsWithin};
-ghost use Rattle.plane_base.specs.Views.{point_of, points_of};
 ghost use Rattle.plane_base.specs.GivenViews.{contours_of};
 ghost use Rattle.segment_arrangement.specs.FanLaws.{whole};
 ghost use Rattle.contour_walk.specs.BindingLaws.{all_contours};
@@ -56,8 +55,8 @@ pub trait IntPointContainment<I: OverlayInt> {
     /// Whether a point lies on an edge, the edge's ends included.
     fn is_on_edge(&self, point: IntPoint<I>) -> bool
         requires in_range { All (All (IsWithin I.least I.greatest)) (contours self.now) }
-        requires point_in_range { IsWithin I.least I.greatest (point_of I.value point) }
-        ensures { result ≡ is_on_edge (contours self.now) (whole (point_of I.value point)) };
+        requires point_in_range { IsWithin I.least I.greatest point }
+        ensures { result ≡ is_on_edge (contours self.now) (whole point) };
 
     /// Whether each point is inside, in the order of the points. Nothing is promised of a point on an edge. Contours may meet in any way:
     /// where one isn't resolved parity tells all the same.
@@ -66,24 +65,24 @@ pub trait IntPointContainment<I: OverlayInt> {
     /// (p + n) log p, and a step for each point in the column of each edge. Refused with `Memory` alone.
     fn contains_points(&self, alloc: Global, points: &[IntPoint<I>]) -> Result<Vec<bool>, Fault>
         requires in_range { All (All (IsWithin I.least I.greatest)) (contours self.now) }
-        requires points_in_range { All (IsWithin I.least I.greatest) (points_of I.value points.now) }
-        ensures located { IfOk result (λ inside. AreLocated (contours self.now) (contains self.now) (points_of I.value points.now) inside.items) }
+        requires points_in_range { All (IsWithin I.least I.greatest) points.now }
+        ensures located { IfOk result (λ inside. AreLocated (contours self.now) (contains self.now) points.now inside.items) }
         ensures memory { IsOkUnless result Fault.Memory };
 }
 
 impl<I: OverlayInt> IntPointContainment<I> for IntContour<I> {
-    ghost contours = { λ contour. points_of I.value contour.points.items ∷ [] };
+    ghost contours = { λ contour. contour.points.items ∷ [] };
 
-    ghost contains = { λ contour. in_contour (points_of I.value contour.points.items) };
+    ghost contains = { λ contour. in_contour contour.points.items };
 
     fn is_resolved(&self) -> bool {
         is_contour_resolved(&self.points)
     }
 
     fn is_on_edge(&self, point: IntPoint<I>) -> bool
-        requires in_range { All (All (IsWithin I.least I.greatest)) (points_of I.value self.now.points.items ∷ []) }
-        requires point_in_range { IsWithin I.least I.greatest (point_of I.value point) }
-        ensures { result ≡ is_on_edge (points_of I.value self.now.points.items ∷ []) (whole (point_of I.value point)) }
+        requires in_range { All (All (IsWithin I.least I.greatest)) (self.now.points.items ∷ []) }
+        requires point_in_range { IsWithin I.least I.greatest point }
+        ensures { result ≡ is_on_edge (self.now.points.items ∷ []) (whole point) }
     {
         is_on_contour(&self.points, point)
     }
@@ -94,18 +93,18 @@ impl<I: OverlayInt> IntPointContainment<I> for IntContour<I> {
 }
 
 impl<I: OverlayInt> IntPointContainment<I> for IntShape<I> {
-    ghost contours = { λ shape. contours_of I.value shape.contours.items };
+    ghost contours = { λ shape. contours_of shape.contours.items };
 
-    ghost contains = { λ shape. in_shape (contours_of I.value shape.contours.items) };
+    ghost contains = { λ shape. in_shape (contours_of shape.contours.items) };
 
     fn is_resolved(&self) -> bool {
         are_contours_resolved(&self.contours)
     }
 
     fn is_on_edge(&self, point: IntPoint<I>) -> bool
-        requires in_range { All (All (IsWithin I.least I.greatest)) (contours_of I.value self.now.contours.items) }
-        requires point_in_range { IsWithin I.least I.greatest (point_of I.value point) }
-        ensures { result ≡ is_on_edge (contours_of I.value self.now.contours.items) (whole (point_of I.value point)) }
+        requires in_range { All (All (IsWithin I.least I.greatest)) (contours_of self.now.contours.items) }
+        requires point_in_range { IsWithin I.least I.greatest point }
+        ensures { result ≡ is_on_edge (contours_of self.now.contours.items) (whole point) }
     {
         is_on_contours(&self.contours, point)
     }
@@ -116,18 +115,18 @@ impl<I: OverlayInt> IntPointContainment<I> for IntShape<I> {
 }
 
 impl<I: OverlayInt> IntPointContainment<I> for IntShapes<I> {
-    ghost contours = { λ shapes. all_contours (shapes_of I.value shapes.shapes.items) };
+    ghost contours = { λ shapes. all_contours (shapes_of shapes.shapes.items) };
 
-    ghost contains = { λ shapes. in_shapes (shapes_of I.value shapes.shapes.items) };
+    ghost contains = { λ shapes. in_shapes (shapes_of shapes.shapes.items) };
 
     fn is_resolved(&self) -> bool {
         are_shapes_resolved(&self.shapes)
     }
 
     fn is_on_edge(&self, point: IntPoint<I>) -> bool
-        requires in_range { All (All (IsWithin I.least I.greatest)) (all_contours (shapes_of I.value self.now.shapes.items)) }
-        requires point_in_range { IsWithin I.least I.greatest (point_of I.value point) }
-        ensures { result ≡ is_on_edge (all_contours (shapes_of I.value self.now.shapes.items)) (whole (point_of I.value point)) }
+        requires in_range { All (All (IsWithin I.least I.greatest)) (all_contours (shapes_of self.now.shapes.items)) }
+        requires point_in_range { IsWithin I.least I.greatest point }
+        ensures { result ≡ is_on_edge (all_contours (shapes_of self.now.shapes.items)) (whole point) }
     {
         is_on_shapes(&self.shapes, point)
     }

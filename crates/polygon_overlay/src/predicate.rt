@@ -5,15 +5,13 @@
 //! Degenerate cases: edges that both fill, contact at corners alone, nothing filled. It takes constant time for each segment, and n log n for
 //! ends.
 
-ghost use Rattle.std.specs.Prelude.{◌≡◌, ℕ, Bool, true, false, not, ◌&&◌, ◌||◌, List, [], ◌∷◌, ◌++◌, OnOk, IsOkUnless};
+ghost use Rattle.std.specs.Prelude.{◌≡◌, ℕ, true, false, ◌&&◌, ◌||◌, List, [], ◌∷◌, ◌++◌, OnOk, IsOkUnless};
 ghost use Rattle.std.specs.List.Sorted.{IsSorted};
 ghost use Rattle.std.specs.declared.ops.ControlFlow.{ControlFlow};
-ghost use Rattle.plane_base.specs.Plane.{point_order};
-ghost use Rattle.plane_base.specs.Views.{points_of};
+ghost use Rattle.plane_base.specs.Plane.{Edge, point_order};
 ghost use Rattle.plane_base.specs.Counts.{Count};
 ghost use Rattle.plane_base.specs.declared.fault.Fault.{Fault};
 ghost use Rattle.plane_base.specs.declared.fault.Fault.TheVariants.{Memory};
-ghost use Rattle.plane_base.specs.declared.segment.XSegment.{XSegment};
 ghost use Rattle.segment_arrangement.specs.Fills.{has};
 ghost use Rattle.segment_arrangement.specs.Graphs.{Link};
 ghost use Rattle.polygon_overlay.specs.Predicates.{is_shared, is_common, is_inside, is_covered, is_subjects_own, is_clips_own, some, ends_where, share_point};
@@ -22,7 +20,7 @@ ghost use Rattle.polygon_overlay.specs.Telling.{none_seen, seen_with, relations_
 
 use crate::relate::Relations;
 use plane_base::fault::Fault;
-use plane_base::int::OverlayInt;
+use plane_base::int::{IntNumber, OverlayInt};
 use plane_base::laws::order_of_points;
 use plane_base::point::IntPoint;
 use segment_arrangement::fill::{
@@ -41,11 +39,11 @@ pub(crate) trait PredicateHandler<I: OverlayInt>: FillHandler<ShapeCountBoolean,
     ghost answers: { Self → List Link → Self.Output };
 
     // A link that it is told, and one that is to come, are answered alike.
-    ghost tells: { (old new : Self) (n : ℕ) (x : XSegment I) (c : Count) (datum : Unit {0}) (fill : ℕ) (flow : ControlFlow Self.Output (Unit {0})) →
-        Self.FillHandler.handles old n x c datum fill flow new → Tells answers old (link_told I.value x fill) flow new };
+    ghost tells: { (old new : Self) (n : ℕ) (x : Edge) (c : Count) (datum : Unit {0}) (fill : ℕ) (flow : ControlFlow Self.Output (Unit {0})) →
+        Self.FillHandler.handles old n x c datum fill flow new → Tells answers old (link_told x fill) flow new };
 
     // It refuses for want of memory alone.
-    ghost memory: { (h : Self) (n : ℕ) (x : XSegment I) (c : Count) (datum : Unit {0}) (fill : ℕ) (fault : Fault)
+    ghost memory: { (h : Self) (n : ℕ) (x : Edge) (c : Count) (datum : Unit {0}) (fill : ℕ) (fault : Fault)
         → Self.FillHandler.refuses h n x c datum fill fault → fault ≡ Memory };
 
     // At the end none is to come.
@@ -54,7 +52,7 @@ pub(crate) trait PredicateHandler<I: OverlayInt>: FillHandler<ShapeCountBoolean,
 
 // The ends of the segments that the subject alone fills on exactly one side, and of those that the clip does.
 #[derive(Drop)]
-pub(crate) struct PointCoincidenceChecker<I> {
+pub(crate) struct PointCoincidenceChecker<I: IntNumber> {
     subj_points: Vec<IntPoint<I>>,
     clip_points: Vec<IntPoint<I>>,
 }
@@ -76,10 +74,10 @@ impl<I: OverlayInt> PointCoincidenceChecker<I> {
         segment: &Segment<ShapeCountBoolean, I, ()>,
         fill: SegmentFill,
     ) -> Result<(), Fault>
-        ensures subjects { OnOk result (points_of I.value self.new.subj_points.items ≡ points_of I.value self.old.subj_points.items
-            ++ ends_where is_subjects_own (link_told I.value segment.now.x_segment fill ∷ [])) }
-        ensures clips { OnOk result (points_of I.value self.new.clip_points.items ≡ points_of I.value self.old.clip_points.items
-            ++ ends_where is_clips_own (link_told I.value segment.now.x_segment fill ∷ [])) }
+        ensures subjects { OnOk result (self.new.subj_points.items ≡ self.old.subj_points.items
+            ++ ends_where is_subjects_own (link_told segment.now.x_segment fill ∷ [])) }
+        ensures clips { OnOk result (self.new.clip_points.items ≡ self.old.clip_points.items
+            ++ ends_where is_clips_own (link_told segment.now.x_segment fill ∷ [])) }
         ensures memory { IsOkUnless result Memory }
     {
         if is_subjects_own(fill) {
@@ -95,7 +93,7 @@ impl<I: OverlayInt> PointCoincidenceChecker<I> {
 
     // Whether one of the subject's ends is one of the clip's.
     fn has_coincidence(self) -> bool
-        ensures { result ≡ share_point (points_of I.value self.subj_points.items) (points_of I.value self.clip_points.items) }
+        ensures { result ≡ share_point self.subj_points.items self.clip_points.items }
     {
         let mut subjects = self.subj_points;
         let mut clips = self.clip_points;
@@ -108,9 +106,9 @@ impl<I: OverlayInt> PointCoincidenceChecker<I> {
 
 // Whether two rising lists share a point: one merge.
 fn share_point<I: OverlayInt>(ps: &[IntPoint<I>], qs: &[IntPoint<I>]) -> bool
-    requires subjects { IsSorted point_order (points_of I.value ps.now) }
-    requires clips { IsSorted point_order (points_of I.value qs.now) }
-    ensures { result ≡ share_point (points_of I.value ps.now) (points_of I.value qs.now) }
+    requires subjects { IsSorted point_order ps.now }
+    requires clips { IsSorted point_order qs.now }
+    ensures { result ≡ share_point ps.now qs.now }
 {
     order_of_points::<I>();
     let mut i = 0;
@@ -165,7 +163,7 @@ fn is_clips_own(fill: SegmentFill) -> bool
 
 // Breaks off at the first segment that both fill.
 #[derive(Drop)]
-pub(crate) struct IntersectsHandler<I> {
+pub(crate) struct IntersectsHandler<I: IntNumber> {
     pub(crate) point_checker: PointCoincidenceChecker<I>,
 }
 
@@ -173,13 +171,13 @@ impl<I: OverlayInt> FillHandler<ShapeCountBoolean, I, ()> for IntersectsHandler<
     type Output = bool;
 
     ghost handles = { λ old n x c datum fill flow new.
-        Tells (λ h. intersects_with (points_of I.value h.point_checker.subj_points.items) (points_of I.value h.point_checker.clip_points.items))
-        old (link_told I.value x fill) flow new };
+        Tells (λ h. intersects_with h.point_checker.subj_points.items h.point_checker.clip_points.items)
+        old (link_told x fill) flow new };
 
     ghost refuses = { λ _ _ _ _ _ _ fault. fault ≡ Memory };
 
     ghost finishes = { λ h answer.
-        answer ≡ intersects_with (points_of I.value h.point_checker.subj_points.items) (points_of I.value h.point_checker.clip_points.items) [] };
+        answer ≡ intersects_with h.point_checker.subj_points.items h.point_checker.clip_points.items [] };
 
     fn handle(
         &mut self,
@@ -200,7 +198,7 @@ impl<I: OverlayInt> FillHandler<ShapeCountBoolean, I, ()> for IntersectsHandler<
 }
 
 impl<I: OverlayInt> PredicateHandler<I> for IntersectsHandler<I> {
-    ghost answers = { λ h. intersects_with (points_of I.value h.point_checker.subj_points.items) (points_of I.value h.point_checker.clip_points.items) };
+    ghost answers = { λ h. intersects_with h.point_checker.subj_points.items h.point_checker.clip_points.items };
 
     ghost tells = { λ old new n x c datum fill flow h. h };
 
@@ -216,7 +214,7 @@ pub(crate) struct InteriorsIntersectHandler;
 impl<I: OverlayInt> FillHandler<ShapeCountBoolean, I, ()> for InteriorsIntersectHandler {
     type Output = bool;
 
-    ghost handles = { λ old n x c datum fill flow new. Tells (λ h. some is_common) old (link_told I.value x fill) flow new };
+    ghost handles = { λ old n x c datum fill flow new. Tells (λ h. some is_common) old (link_told x fill) flow new };
 
     ghost refuses = { λ _ _ _ _ _ _ fault. fault ≡ Memory };
 
@@ -251,7 +249,7 @@ impl<I: OverlayInt> PredicateHandler<I> for InteriorsIntersectHandler {
 
 // Breaks off at the first segment that both fill on one side: then they don't merely touch.
 #[derive(Drop)]
-pub(crate) struct TouchesHandler<I> {
+pub(crate) struct TouchesHandler<I: IntNumber> {
     pub(crate) has_boundary_contact: bool,
     pub(crate) point_checker: PointCoincidenceChecker<I>,
 }
@@ -260,14 +258,14 @@ impl<I: OverlayInt> FillHandler<ShapeCountBoolean, I, ()> for TouchesHandler<I> 
     type Output = bool;
 
     ghost handles = { λ old n x c datum fill flow new.
-        Tells (λ h. touches_with h.has_boundary_contact (points_of I.value h.point_checker.subj_points.items)
-        (points_of I.value h.point_checker.clip_points.items)) old (link_told I.value x fill) flow new };
+        Tells (λ h. touches_with h.has_boundary_contact h.point_checker.subj_points.items
+        h.point_checker.clip_points.items) old (link_told x fill) flow new };
 
     ghost refuses = { λ _ _ _ _ _ _ fault. fault ≡ Memory };
 
     ghost finishes = { λ h answer.
-        answer ≡ touches_with h.has_boundary_contact (points_of I.value h.point_checker.subj_points.items)
-        (points_of I.value h.point_checker.clip_points.items) [] };
+        answer ≡ touches_with h.has_boundary_contact h.point_checker.subj_points.items
+        h.point_checker.clip_points.items [] };
 
     fn handle(
         &mut self,
@@ -289,8 +287,8 @@ impl<I: OverlayInt> FillHandler<ShapeCountBoolean, I, ()> for TouchesHandler<I> 
 }
 
 impl<I: OverlayInt> PredicateHandler<I> for TouchesHandler<I> {
-    ghost answers = { λ h. touches_with h.has_boundary_contact (points_of I.value h.point_checker.subj_points.items)
-        (points_of I.value h.point_checker.clip_points.items) };
+    ghost answers = { λ h. touches_with h.has_boundary_contact h.point_checker.subj_points.items
+        h.point_checker.clip_points.items };
 
     ghost tells = { λ old new n x c datum fill flow h. h };
 
@@ -301,7 +299,7 @@ impl<I: OverlayInt> PredicateHandler<I> for TouchesHandler<I> {
 
 // Breaks off at the first segment that both fill: then they meet in more than points.
 #[derive(Drop)]
-pub(crate) struct PointIntersectsHandler<I> {
+pub(crate) struct PointIntersectsHandler<I: IntNumber> {
     pub(crate) point_checker: PointCoincidenceChecker<I>,
 }
 
@@ -309,13 +307,13 @@ impl<I: OverlayInt> FillHandler<ShapeCountBoolean, I, ()> for PointIntersectsHan
     type Output = bool;
 
     ghost handles = { λ old n x c datum fill flow new.
-        Tells (λ h. point_intersects_with (points_of I.value h.point_checker.subj_points.items) (points_of I.value h.point_checker.clip_points.items))
-        old (link_told I.value x fill) flow new };
+        Tells (λ h. point_intersects_with h.point_checker.subj_points.items h.point_checker.clip_points.items)
+        old (link_told x fill) flow new };
 
     ghost refuses = { λ _ _ _ _ _ _ fault. fault ≡ Memory };
 
     ghost finishes = { λ h answer.
-        answer ≡ point_intersects_with (points_of I.value h.point_checker.subj_points.items) (points_of I.value h.point_checker.clip_points.items) [] };
+        answer ≡ point_intersects_with h.point_checker.subj_points.items h.point_checker.clip_points.items [] };
 
     fn handle(
         &mut self,
@@ -336,7 +334,7 @@ impl<I: OverlayInt> FillHandler<ShapeCountBoolean, I, ()> for PointIntersectsHan
 }
 
 impl<I: OverlayInt> PredicateHandler<I> for PointIntersectsHandler<I> {
-    ghost answers = { λ h. point_intersects_with (points_of I.value h.point_checker.subj_points.items) (points_of I.value h.point_checker.clip_points.items) };
+    ghost answers = { λ h. point_intersects_with h.point_checker.subj_points.items h.point_checker.clip_points.items };
 
     ghost tells = { λ old new n x c datum fill flow h. h };
 
@@ -354,7 +352,7 @@ pub(crate) struct WithinHandler {
 impl<I: OverlayInt> FillHandler<ShapeCountBoolean, I, ()> for WithinHandler {
     type Output = bool;
 
-    ghost handles = { λ old n x c datum fill flow new. Tells (λ h. within_with h.subj_present) old (link_told I.value x fill) flow new };
+    ghost handles = { λ old n x c datum fill flow new. Tells (λ h. within_with h.subj_present) old (link_told x fill) flow new };
 
     ghost refuses = { λ _ _ _ _ _ _ fault. fault ≡ Memory };
 
@@ -427,7 +425,7 @@ impl SeenFills {
 
 // Answers all predicates at once, so it never breaks off.
 #[derive(Drop)]
-pub(crate) struct RelationsHandler<I> {
+pub(crate) struct RelationsHandler<I: IntNumber> {
     pub(crate) seen: SeenFills,
     pub(crate) point_checker: PointCoincidenceChecker<I>,
 }
@@ -436,13 +434,13 @@ impl<I: OverlayInt> FillHandler<ShapeCountBoolean, I, ()> for RelationsHandler<I
     type Output = Relations;
 
     ghost handles = { λ old n x c datum fill flow new.
-        Tells (λ h. relations_with h.seen (points_of I.value h.point_checker.subj_points.items) (points_of I.value h.point_checker.clip_points.items))
-        old (link_told I.value x fill) flow new };
+        Tells (λ h. relations_with h.seen h.point_checker.subj_points.items h.point_checker.clip_points.items)
+        old (link_told x fill) flow new };
 
     ghost refuses = { λ _ _ _ _ _ _ fault. fault ≡ Memory };
 
     ghost finishes = { λ h answer.
-        answer ≡ relations_with h.seen (points_of I.value h.point_checker.subj_points.items) (points_of I.value h.point_checker.clip_points.items) [] };
+        answer ≡ relations_with h.seen h.point_checker.subj_points.items h.point_checker.clip_points.items [] };
 
     fn handle(
         &mut self,
@@ -477,7 +475,7 @@ impl<I: OverlayInt> FillHandler<ShapeCountBoolean, I, ()> for RelationsHandler<I
 }
 
 impl<I: OverlayInt> PredicateHandler<I> for RelationsHandler<I> {
-    ghost answers = { λ h. relations_with h.seen (points_of I.value h.point_checker.subj_points.items) (points_of I.value h.point_checker.clip_points.items) };
+    ghost answers = { λ h. relations_with h.seen h.point_checker.subj_points.items h.point_checker.clip_points.items };
 
     ghost tells = { λ old new n x c datum fill flow h. h };
 

@@ -69,7 +69,7 @@ pub(crate) fn find_shapes<I: OverlayInt, L: Ledger>(
     requires parts { blank.parts ≡ L.parts }
     requires two { blank.parts ≡ 2 }
     ensures answered { IfOk result (λ shapes. IsAnswered I.least I.greatest query.options (fill_rule_of query.fill_rule) (overlay_rule_of query.overlay_rule)
-        query.solver.precision held.old.edges (shapes_of I.value shapes.shapes.items)) }
+        query.solver.precision held.old.edges (shapes_of shapes.shapes.items)) }
     ensures redrawn { OnOk result (holding held.new ≡ record (holding held.old) { edges = redrawn_of query.solver.precision held.old.edges }) }
     ensures failed { OnErr result (holding held.new ≡ failed) }
     ensures held { IsHeld I.least I.greatest held.new.edges }
@@ -92,7 +92,7 @@ pub(crate) fn shapes_of_redrawn<I: OverlayInt>(
     ensures answered { IfOk result (λ shapes. (before : List (Entry Count)) → IsHeld I.least I.greatest before →
         held.old.edges ≡ redrawn_of query.solver.precision before →
         IsAnswered I.least I.greatest query.options (fill_rule_of query.fill_rule) (overlay_rule_of query.overlay_rule)
-        query.solver.precision before (shapes_of I.value shapes.shapes.items)) }
+        query.solver.precision before (shapes_of shapes.shapes.items)) }
     ensures stays { OnOk result (holding held.new ≡ holding held.old) }
     ensures failed { OnErr result (holding held.new ≡ failed) }
     ensures held { IsHeld I.least I.greatest held.new.edges }
@@ -182,7 +182,7 @@ pub(crate) fn make_graph<I: OverlayInt, L: Ledger>(
     requires name { blank.name ≡ L.name }
     requires parts { blank.parts ≡ L.parts }
     requires two { blank.parts ≡ 2 }
-    ensures links { OnOk result (map (overlay_link_of I.value) (links_kept_by graph_builder.new)
+    ensures links { OnOk result (map overlay_link_of (links_kept_by graph_builder.new)
         ≡ all_links (fill_rule_of fill_rule) (redrawn_of solver.now.precision held.old.edges)) }
     ensures arrangement { OnOk result (IsArrangement (redrawn_of solver.now.precision held.old.edges)) }
     ensures empty { IfOk result (λ is_empty. IsTrue is_empty ↔ (redrawn_of solver.now.precision held.old.edges ≡ [])) }
@@ -209,12 +209,12 @@ pub(crate) fn shapes_of_arrangement<I: OverlayInt>(
     query: Query,
     buffer: &mut BooleanExtractionBuffer<I>,
 ) -> Result<IntShapes<I>, Fault>
-    requires in_range { AreWithin I.least I.greatest (entries_of I.value segments.now) }
-    requires arrangement { IsArrangement (entries_of I.value segments.now) }
+    requires in_range { AreWithin I.least I.greatest (entries_of segments.now) }
+    requires arrangement { IsArrangement (entries_of segments.now) }
     requires few { length segments.now < 2 ^ 31 }
-    ensures answer { IfOk result (λ shapes. shapes_of I.value shapes.shapes.items ≡ answer_with (answering_of query.options)
-        (borders (fill_rule_of query.fill_rule) (overlay_rule_of query.overlay_rule) (entries_of I.value segments.now))) }
-    ensures refused { IfErr result (IsSweepRefused (entries_of I.value segments.now)) }
+    ensures answer { IfOk result (λ shapes. shapes_of shapes.shapes.items ≡ answer_with (answering_of query.options)
+        (borders (fill_rule_of query.fill_rule) (overlay_rule_of query.overlay_rule) (entries_of segments.now))) }
+    ensures refused { IfErr result (IsSweepRefused (entries_of segments.now)) }
 {
     let graph = graph_builder.build_boolean_overlay(
         query.fill_rule,

@@ -1,8 +1,7 @@
 //! Simplification by one call: a builder is made and asked, with its time.
 
-ghost use Rattle.std.specs.Prelude.{All, IfOk, IfErr, map};
+ghost use Rattle.std.specs.Prelude.{All, IfOk, IfErr};
 ghost use Rattle.plane_base.specs.Plane.{IsWithin};
-ghost use Rattle.plane_base.specs.Views.{points_of};
 ghost use Rattle.segment_arrangement.specs.RuleViews.{fill_rule_of};
 ghost use Rattle.contour_walk.specs.ShapeViews.{shapes_of};
 ghost use Rattle.polygon_overlay.specs.Builders.{default_precision};
@@ -28,11 +27,11 @@ pub trait Simplify<I: OverlayInt>: IntShapeResource<I> {
         options: IntOverlayOptions,
     ) -> Result<IntShapes<I>, Fault>
         requires ready { Self.is_ready self.now }
-        requires in_range { All (All (IsWithin I.least I.greatest)) (map (points_of I.value) (Self.paths self.now)) }
+        requires in_range { All (All (IsWithin I.least I.greatest)) (Self.paths self.now) }
         ensures simplified { IfOk result (λ shapes. IsSimplifiedAtOnce I.least I.greatest options (fill_rule_of fill_rule)
-            (map (points_of I.value) (Self.paths self.now)) (shapes_of I.value shapes.shapes.items)) }
+            (Self.paths self.now) (shapes_of shapes.shapes.items)) }
         ensures refused { IfErr result (IsNotSimplified options.preserve_input_collinear default_precision
-            (map (points_of I.value) (Self.paths self.now))) };
+            (Self.paths self.now)) };
 }
 
 impl<S: IntShapeResource<I>, I: OverlayInt> Simplify<I> for S {

@@ -1,8 +1,7 @@
 //! Overlays by one call: a builder is made of two sources and asked, with its time.
 
-ghost use Rattle.std.specs.Prelude.{◌≡◌, All, IfOk, IfErr, false, map};
+ghost use Rattle.std.specs.Prelude.{All, IfOk, IfErr};
 ghost use Rattle.plane_base.specs.Plane.{IsWithin};
-ghost use Rattle.plane_base.specs.Views.{points_of};
 ghost use Rattle.segment_arrangement.specs.RuleViews.{fill_rule_of, overlay_rule_of};
 ghost use Rattle.contour_walk.specs.ShapeViews.{shapes_of};
 ghost use Rattle.polygon_overlay.specs.Singles.{IsSingleOverlay, IsSingleRefused};
@@ -29,12 +28,12 @@ pub trait SingleIntOverlay<R: IntShapeResource<I>, I: OverlayInt>: IntShapeResou
     ) -> Result<IntShapes<I>, Fault>
         requires subj_ready { Self.is_ready self.now }
         requires clip_ready { R.is_ready source.now }
-        requires subj_in_range { All (All (IsWithin I.least I.greatest)) (map (points_of I.value) (Self.paths self.now)) }
-        requires clip_in_range { All (All (IsWithin I.least I.greatest)) (map (points_of I.value) (R.paths source.now)) }
+        requires subj_in_range { All (All (IsWithin I.least I.greatest)) (Self.paths self.now) }
+        requires clip_in_range { All (All (IsWithin I.least I.greatest)) (R.paths source.now) }
         ensures answered { IfOk result (λ shapes. IsSingleOverlay I.least I.greatest (fill_rule_of fill_rule) (overlay_rule_of overlay_rule)
-            (map (points_of I.value) (Self.paths self.now)) (map (points_of I.value) (R.paths source.now)) (shapes_of I.value shapes.shapes.items)) }
+            (Self.paths self.now) (R.paths source.now) (shapes_of shapes.shapes.items)) }
         ensures refused { IfErr result (IsSingleRefused
-            (map (points_of I.value) (Self.paths self.now)) (map (points_of I.value) (R.paths source.now))) };
+            (Self.paths self.now) (R.paths source.now)) };
 }
 
 impl<S: IntShapeResource<I>, R: IntShapeResource<I>, I: OverlayInt> SingleIntOverlay<R, I> for S {

@@ -17,7 +17,6 @@ ghost use Rattle.plane_base.specs.Flat.{parts};
 ghost use Rattle.plane_base.specs.PathViews.{paths_of_shape};
 ghost use Rattle.plane_base.specs.Plane.{Point, IsCoordinate};
 ghost use Rattle.plane_base.specs.Regions.{Positive, Subject};
-ghost use Rattle.plane_base.specs.Views.{point_of, points_of};
 ghost use Rattle.segment_split.specs.LineLaws.{is_rectilinear, AllRectilinear};
 ghost use Rattle.segment_arrangement.specs.RuleViews.{fill_rule_of};
 ghost use Rattle.contour_walk.specs.ShapeViews.{IsFlat, shapes_of, next_of};
@@ -41,7 +40,7 @@ use crate::sizing_laws::{
 use contour_walk::options::IntOverlayOptions;
 use plane_base::fault::Fault;
 use plane_base::flat::FlatContoursBuffer;
-use plane_base::int::OverlayInt;
+use plane_base::int::{IntNumber, OverlayInt};
 use plane_base::path::{IntContour, IntPath, IntShape, IntShapes};
 use plane_base::point::IntPoint;
 use plane_base::resource::IntShapeResource;
@@ -52,7 +51,7 @@ use std::alloc::Global;
 /// By how much the sides of a region move outward: left sides to the left, right sides to the right, bottoms down, tops up. Below 0 they move
 /// inward.
 #[derive(Clone, Copy, Debug, PartialEq, Eq)]
-pub struct Sizing<I> {
+pub struct Sizing<I: IntNumber> {
     pub left: I,
     pub right: I,
     pub bottom: I,
@@ -73,13 +72,13 @@ pub fn sized<I: OverlayInt, R: IntShapeResource<I>>(
     solver: Solver,
 ) -> Result<IntShapes<I>, Fault>
     requires ready { R.is_ready source.now }
-    requires in_range { AreInRange I.least I.greatest (contours_of I.value (R.paths source.now)) }
-    requires straight { AreRectilinear (contours_of I.value (R.paths source.now)) }
-    requires fits { Fits I.least I.greatest (amounts_of I.value by) (contours_of I.value (R.paths source.now)) }
+    requires in_range { AreInRange I.least I.greatest (contours_of (R.paths source.now)) }
+    requires straight { AreRectilinear (contours_of (R.paths source.now)) }
+    requires fits { Fits I.least I.greatest (amounts_of I.value by) (contours_of (R.paths source.now)) }
     ensures sized { IfOk result (λ shapes. AreSized I.least I.greatest (amounts_of I.value by) options (fill_rule_of fill_rule) solver.precision
-        (contours_of I.value (R.paths source.now)) (shapes_of I.value shapes.shapes.items)) }
+        (contours_of (R.paths source.now)) (shapes_of shapes.shapes.items)) }
     ensures refused { IfErr result (IsNotSized I.least I.greatest (amounts_of I.value by) options (fill_rule_of fill_rule) solver.precision
-        (contours_of I.value (R.paths source.now))) }
+        (contours_of (R.paths source.now))) }
 {
     sized_is_the_neighbourhood();
     regions_stay_in_the_box();
@@ -103,13 +102,13 @@ pub fn sized_in_turn<I: OverlayInt, R: IntShapeResource<I>>(
     solver: Solver,
 ) -> Result<IntShapes<I>, Fault>
     requires ready { R.is_ready source.now }
-    requires in_range { AreInRange I.least I.greatest (contours_of I.value (R.paths source.now)) }
-    requires straight { AreRectilinear (contours_of I.value (R.paths source.now)) }
-    requires fits { FitsInTurn I.least I.greatest (amounts_of I.value first) (amounts_of I.value second) (contours_of I.value (R.paths source.now)) }
+    requires in_range { AreInRange I.least I.greatest (contours_of (R.paths source.now)) }
+    requires straight { AreRectilinear (contours_of (R.paths source.now)) }
+    requires fits { FitsInTurn I.least I.greatest (amounts_of I.value first) (amounts_of I.value second) (contours_of (R.paths source.now)) }
     ensures sized { IfOk result (λ shapes. AreSizedInTurn I.least I.greatest (amounts_of I.value first) (amounts_of I.value second) options
-        (fill_rule_of fill_rule) solver.precision (contours_of I.value (R.paths source.now)) (shapes_of I.value shapes.shapes.items)) }
+        (fill_rule_of fill_rule) solver.precision (contours_of (R.paths source.now)) (shapes_of shapes.shapes.items)) }
     ensures refused { IfErr result (IsNotSizedInTurn I.least I.greatest (amounts_of I.value first) (amounts_of I.value second) options
-        (fill_rule_of fill_rule) solver.precision (contours_of I.value (R.paths source.now))) }
+        (fill_rule_of fill_rule) solver.precision (contours_of (R.paths source.now))) }
 {
     moved_fill_the_sized();
     regions_stay_in_the_box();
@@ -120,7 +119,7 @@ pub fn sized_in_turn<I: OverlayInt, R: IntShapeResource<I>>(
 /// Whether each step of each contour of a source is horizontal or vertical. It takes no memory.
 pub fn are_rectilinear<I: OverlayInt, R: IntShapeResource<I>>(source: &R) -> bool
     requires { R.is_ready source.now }
-    ensures { IsTrue result ↔ AreRectilinear (contours_of I.value (R.paths source.now)) }
+    ensures { IsTrue result ↔ AreRectilinear (contours_of (R.paths source.now)) }
 {
     for shape in 0..source.shape_count() {
         for index in 0..source.shape_len(shape) {
@@ -136,7 +135,7 @@ pub fn are_rectilinear<I: OverlayInt, R: IntShapeResource<I>>(source: &R) -> boo
 /// takes no memory.
 pub fn fits<I: OverlayInt, R: IntShapeResource<I>>(source: &R, by: Sizing<I>) -> bool
     requires { R.is_ready source.now }
-    ensures { IsTrue result ↔ Fits I.least I.greatest (amounts_of I.value by) (contours_of I.value (R.paths source.now)) }
+    ensures { IsTrue result ↔ Fits I.least I.greatest (amounts_of I.value by) (contours_of (R.paths source.now)) }
 {
     for shape in 0..source.shape_count() {
         for index in 0..source.shape_len(shape) {
@@ -156,7 +155,7 @@ pub fn fits_in_turn<I: OverlayInt, R: IntShapeResource<I>>(
     second: Sizing<I>,
 ) -> bool
     requires { R.is_ready source.now }
-    ensures { IsTrue result ↔ FitsInTurn I.least I.greatest (amounts_of I.value first) (amounts_of I.value second) (contours_of I.value (R.paths source.now)) }
+    ensures { IsTrue result ↔ FitsInTurn I.least I.greatest (amounts_of I.value first) (amounts_of I.value second) (contours_of (R.paths source.now)) }
 {
     for shape in 0..source.shape_count() {
         for index in 0..source.shape_len(shape) {
@@ -170,7 +169,7 @@ pub fn fits_in_turn<I: OverlayInt, R: IntShapeResource<I>>(
 
 // Whether each step of a contour is horizontal or vertical.
 fn is_rectilinear_contour<I: OverlayInt>(points: &[IntPoint<I>]) -> bool
-    ensures { IsTrue result ↔ AllRectilinear (contour_steps (points_of I.value points.now)) }
+    ensures { IsTrue result ↔ AllRectilinear (contour_steps points.now) }
 {
     for place in 0..points.len() {
         if !is_rectilinear(points[place], point_after(points, place)) {
@@ -181,7 +180,7 @@ fn is_rectilinear_contour<I: OverlayInt>(points: &[IntPoint<I>]) -> bool
 }
 
 fn is_rectilinear<I: OverlayInt>(from: IntPoint<I>, to: IntPoint<I>) -> bool
-    ensures { result ≡ is_rectilinear (record { a = point_of I.value from; b = point_of I.value to }) }
+    ensures { result ≡ is_rectilinear (record { a = from; b = to }) }
 {
     is_same(from.y, to.y) || is_same(from.x, to.x)
 }
@@ -194,7 +193,7 @@ fn is_same<I: OverlayInt>(a: I, b: I) -> bool
 
 // Whether all points stay in range.
 fn all_fit<I: OverlayInt>(points: &[IntPoint<I>], by: Sizing<I>) -> bool
-    ensures { IsTrue result ↔ All (StaysInRange I.least I.greatest (amounts_of I.value by)) (points_of I.value points.now) }
+    ensures { IsTrue result ↔ All (StaysInRange I.least I.greatest (amounts_of I.value by)) points.now }
 {
     for point in points {
         if !stays_in_range(*point, by) {
@@ -205,7 +204,7 @@ fn all_fit<I: OverlayInt>(points: &[IntPoint<I>], by: Sizing<I>) -> bool
 }
 
 fn stays_in_range<I: OverlayInt>(point: IntPoint<I>, by: Sizing<I>) -> bool
-    ensures { IsTrue result ↔ StaysInRange I.least I.greatest (amounts_of I.value by) (point_of I.value point) }
+    ensures { IsTrue result ↔ StaysInRange I.least I.greatest (amounts_of I.value by) point }
 {
     has_room(by.left, by.right, point.x) && has_room(by.bottom, by.top, point.y)
 }
@@ -216,7 +215,7 @@ fn all_fit_in_turn<I: OverlayInt>(
     first: Sizing<I>,
     second: Sizing<I>,
 ) -> bool
-    ensures { IsTrue result ↔ All (StaysInTurn I.least I.greatest (amounts_of I.value first) (amounts_of I.value second)) (points_of I.value points.now) }
+    ensures { IsTrue result ↔ All (StaysInTurn I.least I.greatest (amounts_of I.value first) (amounts_of I.value second)) points.now }
 {
     for point in points {
         if !stays_in_turn(*point, first, second) {
@@ -227,7 +226,7 @@ fn all_fit_in_turn<I: OverlayInt>(
 }
 
 fn stays_in_turn<I: OverlayInt>(point: IntPoint<I>, first: Sizing<I>, second: Sizing<I>) -> bool
-    ensures { IsTrue result ↔ StaysInTurn I.least I.greatest (amounts_of I.value first) (amounts_of I.value second) (point_of I.value point) }
+    ensures { IsTrue result ↔ StaysInTurn I.least I.greatest (amounts_of I.value first) (amounts_of I.value second) point }
 {
     has_room_in_turn(first.left, first.right, second.left, second.right, point.x)
         && has_room_in_turn(first.bottom, first.top, second.bottom, second.top, point.y)
@@ -274,11 +273,11 @@ pub(crate) fn region_of<I: OverlayInt, R: IntShapeResource<I>>(
     solver: Solver,
 ) -> Result<FlatContoursBuffer<I>, Fault>
     requires ready { R.is_ready source.now }
-    requires in_range { AreInRange I.least I.greatest (contours_of I.value (R.paths source.now)) }
+    requires in_range { AreInRange I.least I.greatest (contours_of (R.paths source.now)) }
     ensures is { IfOk result (λ region. IsRegionOf I.least I.greatest (fill_rule_of fill_rule) solver.precision
-        (contours_of I.value (R.paths source.now)) (contours_of I.value (parts region.points.items region.ranges.items))) }
+        (contours_of (R.paths source.now)) (contours_of (parts region.points.items region.ranges.items))) }
     ensures well_formed { IfOk result (λ region. IsFlat region) }
-    ensures refused { IfErr result (IsNotSimplified false solver.precision (contours_of I.value (R.paths source.now))) }
+    ensures refused { IfErr result (IsNotSimplified false solver.precision (contours_of (R.paths source.now))) }
 {
     holding_goes_on();
     sources_are_held();
@@ -298,12 +297,12 @@ pub(crate) fn moved_source<I: OverlayInt, R: IntShapeResource<I>>(
     solver: Solver,
 ) -> Result<IntShape<I>, Fault>
     requires ready { R.is_ready source.now }
-    requires in_range { AreInRange I.least I.greatest (contours_of I.value (R.paths source.now)) }
-    requires fits { Fits I.least I.greatest (amounts_of I.value by) (contours_of I.value (R.paths source.now)) }
+    requires in_range { AreInRange I.least I.greatest (contours_of (R.paths source.now)) }
+    requires fits { Fits I.least I.greatest (amounts_of I.value by) (contours_of (R.paths source.now)) }
     ensures is { IfOk result (λ shifted. AreMoved I.least I.greatest (amounts_of I.value by) (fill_rule_of fill_rule) solver.precision
-        (contours_of I.value (R.paths source.now)) (contours_of I.value (paths_of_shape shifted))) }
+        (contours_of (R.paths source.now)) (contours_of (paths_of_shape shifted))) }
     ensures refused { IfErr result (IsNotMoved I.least I.greatest (amounts_of I.value by) (fill_rule_of fill_rule) solver.precision
-        (contours_of I.value (R.paths source.now))) }
+        (contours_of (R.paths source.now))) }
 {
     regions_stay_in_the_box();
     let region = region_of(alloc, source, fill_rule, solver)?;
@@ -318,12 +317,12 @@ pub(crate) fn moved_region<I: OverlayInt>(
     solver: Solver,
 ) -> Result<IntShape<I>, Fault>
     requires well_formed { IsFlat region.now }
-    requires in_range { AreInRange I.least I.greatest (contours_of I.value (parts region.now.points.items region.now.ranges.items)) }
-    requires fits { Fits I.least I.greatest (amounts_of I.value by) (contours_of I.value (parts region.now.points.items region.now.ranges.items)) }
+    requires in_range { AreInRange I.least I.greatest (contours_of (parts region.now.points.items region.now.ranges.items)) }
+    requires fits { Fits I.least I.greatest (amounts_of I.value by) (contours_of (parts region.now.points.items region.now.ranges.items)) }
     ensures is { IfOk result (λ shifted. IsMovedTo I.least I.greatest (amounts_of I.value by) solver.precision
-        (contours_of I.value (parts region.now.points.items region.now.ranges.items)) (contours_of I.value (paths_of_shape shifted))) }
+        (contours_of (parts region.now.points.items region.now.ranges.items)) (contours_of (paths_of_shape shifted))) }
     ensures refused { IfErr result (IsNotSimplified false solver.precision
-        (map (moved (moved_across (I.value by.left) (I.value by.right))) (contours_of I.value (parts region.now.points.items region.now.ranges.items)))) }
+        (map (moved (moved_across (I.value by.left) (I.value by.right))) (contours_of (parts region.now.points.items region.now.ranges.items)))) }
 {
     regions_stay_in_the_box();
     let sides = moved(alloc, region, by, true)?;
@@ -338,11 +337,11 @@ fn shapes_of_shifted<I: OverlayInt>(
     options: IntOverlayOptions,
     solver: Solver,
 ) -> Result<IntShapes<I>, Fault>
-    requires { AreInRange I.least I.greatest (contours_of I.value (paths_of_shape shifted.now)) }
+    requires { AreInRange I.least I.greatest (contours_of (paths_of_shape shifted.now)) }
     ensures is { IfOk result (λ shapes. (held : List (Entry Count)) ×
-        HoldsAlone I.least I.greatest options.preserve_input_collinear (contours_of I.value (paths_of_shape shifted.now)) held ×
-        IsAnswered I.least I.greatest options Positive Subject solver.precision held (shapes_of I.value shapes.shapes.items)) }
-    ensures refused { IfErr result (IsNotSimplified options.preserve_input_collinear solver.precision (contours_of I.value (paths_of_shape shifted.now))) }
+        HoldsAlone I.least I.greatest options.preserve_input_collinear (contours_of (paths_of_shape shifted.now)) held ×
+        IsAnswered I.least I.greatest options Positive Subject solver.precision held (shapes_of shapes.shapes.items)) }
+    ensures refused { IfErr result (IsNotSimplified options.preserve_input_collinear solver.precision (contours_of (paths_of_shape shifted.now))) }
 {
     holding_goes_on();
     sources_are_held();
@@ -359,9 +358,9 @@ fn moved<I: OverlayInt>(
 ) -> Result<IntShape<I>, Fault>
     requires well_formed { IsFlat region.now }
     requires room { All (All (HasRoomAlong I.least I.greatest is_across (amounts_of I.value by)))
-        (contours_of I.value (parts region.now.points.items region.now.ranges.items)) }
-    ensures is { IfOk result (λ shape. contours_of I.value (paths_of_shape shape)
-        ≡ map (moved (moved_along is_across (amounts_of I.value by))) (contours_of I.value (parts region.now.points.items region.now.ranges.items))) }
+        (contours_of (parts region.now.points.items region.now.ranges.items)) }
+    ensures is { IfOk result (λ shape. contours_of (paths_of_shape shape)
+        ≡ map (moved (moved_along is_across (amounts_of I.value by))) (contours_of (parts region.now.points.items region.now.ranges.items))) }
     ensures memory { IsOkUnless result Fault.Memory }
 {
     let mut contours = Vec::with_capacity(alloc, region.ranges.len())?;
@@ -378,9 +377,9 @@ fn moved_contour<I: OverlayInt>(
     by: Sizing<I>,
     is_across: bool,
 ) -> Result<IntContour<I>, Fault>
-    requires { All (HasRoomAlong I.least I.greatest is_across (amounts_of I.value by)) (points_of I.value points.now) }
-    ensures is { IfOk result (λ contour. points_of I.value contour.points.items
-        ≡ moved (moved_along is_across (amounts_of I.value by)) (points_of I.value points.now)) }
+    requires { All (HasRoomAlong I.least I.greatest is_across (amounts_of I.value by)) points.now }
+    ensures is { IfOk result (λ contour. contour.points.items
+        ≡ moved (moved_along is_across (amounts_of I.value by)) points.now) }
     ensures memory { IsOkUnless result Fault.Memory }
 {
     let mut kept = Vec::with_capacity(alloc, points.len())?;
@@ -404,10 +403,10 @@ fn push_moved<I: OverlayInt>(
     from: IntPoint<I>,
     to: IntPoint<I>,
 ) -> Result<(), Fault>
-    requires from_has_room { HasRoomAlong I.least I.greatest is_across (amounts_of I.value by) (point_of I.value from) }
-    requires to_has_room { HasRoomAlong I.least I.greatest is_across (amounts_of I.value by) (point_of I.value to) }
-    ensures is { OnOk result (points_of I.value kept.new.items ≡ points_of I.value kept.old.items
-        ++ moved_along is_across (amounts_of I.value by) (record { a = point_of I.value from; b = point_of I.value to })) }
+    requires from_has_room { HasRoomAlong I.least I.greatest is_across (amounts_of I.value by) from }
+    requires to_has_room { HasRoomAlong I.least I.greatest is_across (amounts_of I.value by) to }
+    ensures is { OnOk result (kept.new.items ≡ kept.old.items
+        ++ moved_along is_across (amounts_of I.value by) (record { a = from; b = to })) }
     ensures memory { IsOkUnless result Fault.Memory }
 {
     if is_across {
@@ -423,10 +422,10 @@ fn push_across<I: OverlayInt>(
     from: IntPoint<I>,
     to: IntPoint<I>,
 ) -> Result<(), Fault>
-    requires from_has_room { HasRoom I.least I.greatest (I.value by.left) (I.value by.right) (I.value from.x) }
-    requires to_has_room { HasRoom I.least I.greatest (I.value by.left) (I.value by.right) (I.value to.x) }
-    ensures is { OnOk result (points_of I.value kept.new.items ≡ points_of I.value kept.old.items
-        ++ moved_across (I.value by.left) (I.value by.right) (record { a = point_of I.value from; b = point_of I.value to })) }
+    requires from_has_room { HasRoom I.least I.greatest (I.value by.left) (I.value by.right) from.x }
+    requires to_has_room { HasRoom I.least I.greatest (I.value by.left) (I.value by.right) to.x }
+    ensures is { OnOk result (kept.new.items ≡ kept.old.items
+        ++ moved_across (I.value by.left) (I.value by.right) (record { a = from; b = to })) }
     ensures memory { IsOkUnless result Fault.Memory }
 {
     if is_same(from.y, to.y) {
@@ -444,10 +443,10 @@ fn push_up<I: OverlayInt>(
     from: IntPoint<I>,
     to: IntPoint<I>,
 ) -> Result<(), Fault>
-    requires from_has_room { HasRoom I.least I.greatest (I.value by.bottom) (I.value by.top) (I.value from.y) }
-    requires to_has_room { HasRoom I.least I.greatest (I.value by.bottom) (I.value by.top) (I.value to.y) }
-    ensures is { OnOk result (points_of I.value kept.new.items ≡ points_of I.value kept.old.items
-        ++ moved_up (I.value by.bottom) (I.value by.top) (record { a = point_of I.value from; b = point_of I.value to })) }
+    requires from_has_room { HasRoom I.least I.greatest (I.value by.bottom) (I.value by.top) from.y }
+    requires to_has_room { HasRoom I.least I.greatest (I.value by.bottom) (I.value by.top) to.y }
+    ensures is { OnOk result (kept.new.items ≡ kept.old.items
+        ++ moved_up (I.value by.bottom) (I.value by.top) (record { a = from; b = to })) }
     ensures memory { IsOkUnless result Fault.Memory }
 {
     if is_same(from.x, to.x) {
@@ -474,8 +473,8 @@ fn outward<I: OverlayInt>(back: I, on: I, is_on: bool, number: I) -> I
 // The point after this one, that after the last is the first.
 fn point_after<I: OverlayInt>(points: &[IntPoint<I>], place: usize) -> IntPoint<I>
     requires { place < length points.now }
-    ensures is { (first : Point) (rest : List Point) → points_of I.value points.now ≡ first ∷ rest →
-        point_of I.value result ≡ next_of first (points_of I.value (drop (place + 1) points.now)) }
+    ensures is { (first : Point) (rest : List Point) → points.now ≡ first ∷ rest →
+        result ≡ next_of first (drop (place + 1) points.now) }
     ensures listed { (at : _) × (at < length points.now) × (result ≡ slice_index_or points.now at result) }
 {
     if place + 1 < points.len() {

@@ -7,18 +7,17 @@
 //! passes straight stay: what adds the contour to a builder takes them out. The time is linear.
 
 ghost use Rattle.std.specs.Prelude.{◌≡◌, IfOk, IsOkUnless};
-ghost use Rattle.plane_base.specs.Views.{point_of, points_of};
 ghost use Rattle.polygon_overlay.specs.Tiles.{clamped_number, clamped_point, IsClampedTo};
 
 use plane_base::fault::Fault;
-use plane_base::int::OverlayInt;
+use plane_base::int::{IntNumber, OverlayInt};
 use plane_base::path::{IntContour, IntPath};
 use plane_base::point::IntPoint;
 use std::alloc::Global;
 
 /// A box between whole coordinates.
 #[derive(Clone, Copy, Debug, PartialEq, Eq)]
-pub struct IntTile<I> {
+pub struct IntTile<I: IntNumber> {
     pub left: I,
     pub right: I,
     pub bottom: I,
@@ -30,7 +29,7 @@ impl<I: OverlayInt> IntTile<I> {
 
     /// The point of the tile that is nearest to a point, in x and in y.
     pub fn clamp(&self, point: IntPoint<I>) -> IntPoint<I>
-        ensures { point_of I.value result ≡ clamped_point (bounds_of I.value self.now) (point_of I.value point) }
+        ensures { result ≡ clamped_point (bounds_of I.value self.now) point }
     {
         IntPoint::new(
             nearest(self.left, self.right, point.x),
@@ -40,7 +39,7 @@ impl<I: OverlayInt> IntTile<I> {
 
     /// The contour with each point clamped: where its steps keep to the tile, it winds inside as the contour does, and nowhere else.
     pub fn clamped(&self, alloc: Global, points: &[IntPoint<I>]) -> Result<IntContour<I>, Fault>
-        ensures answered { IfOk result (λ c. IsClampedTo (bounds_of I.value self.now) (points_of I.value points.now) (points_of I.value c.points.items)) }
+        ensures answered { IfOk result (λ c. IsClampedTo (bounds_of I.value self.now) points.now c.points.items) }
         ensures memory { IsOkUnless result Fault.Memory }
     {
         let mut kept = Vec::with_capacity(alloc, points.len())?;

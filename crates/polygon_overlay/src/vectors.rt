@@ -39,11 +39,11 @@ pub(crate) fn find_separate_vectors<I: OverlayInt>(
     solver: &Solver,
     fill_rule: FillRule,
 ) -> Result<Vec<DataVectorEdge<I, ()>>, Fault>
-    requires in_range { AreWithin I.least I.greatest (entries_of I.value segments.now) }
-    requires arrangement { IsArrangement (entries_of I.value segments.now) }
+    requires in_range { AreWithin I.least I.greatest (entries_of segments.now) }
+    requires arrangement { IsArrangement (entries_of segments.now) }
     requires few { length segments.now < 2 ^ 31 }
-    ensures is { IfOk result (λ edges. map (vector_of I.value) edges.items ≡ all_vectors (fill_rule_of fill_rule) (entries_of I.value segments.now)) }
-    ensures refused { IfErr result (IsSweepRefused (entries_of I.value segments.now)) }
+    ensures is { IfOk result (λ edges. map vector_of edges.items ≡ all_vectors (fill_rule_of fill_rule) (entries_of segments.now)) }
+    ensures refused { IfErr result (IsSweepRefused (entries_of segments.now)) }
 {
     let graph = graph_builder.build_boolean_all(fill_rule, solver, segments)?;
     extract_separate_vectors(alloc, &graph)
@@ -62,7 +62,7 @@ pub(crate) fn find_vectors<I: OverlayInt, D: OverlayEdgeData<ShapeCountBoolean>,
     requires name { blank.name ≡ L.name }
     requires parts { blank.parts ≡ L.parts }
     requires two { blank.parts ≡ 2 }
-    ensures answered { IfOk result (λ edges. data_vectors_of I.value edges.items
+    ensures answered { IfOk result (λ edges. data_vectors_of edges.items
         ≡ boundary_vectors (fill_rule_of query.fill_rule) (overlay_rule_of query.overlay_rule) held.new.with_data) }
     ensures data { D.JOINS ≡ true → OnOk result (held.new.with_data ≡ redrawn_with_data boolean D.join query.solver.precision
         (normal_with_data boolean D.join held.old.with_data)) }
@@ -89,12 +89,12 @@ fn vectors_of_arrangement<I: OverlayInt, D: OverlayEdgeData<ShapeCountBoolean>>(
     segments: &[Segment<ShapeCountBoolean, I, D>],
     query: Query,
 ) -> Result<Vec<DataVectorEdge<I, D>>, Fault>
-    requires in_range { AreWithin I.least I.greatest (entries_of I.value segments.now) }
-    requires arrangement { IsArrangement (entries_of I.value segments.now) }
+    requires in_range { AreWithin I.least I.greatest (entries_of segments.now) }
+    requires arrangement { IsArrangement (entries_of segments.now) }
     requires few { length segments.now < 2 ^ 31 }
-    ensures is { IfOk result (λ edges. data_vectors_of I.value edges.items
-        ≡ boundary_vectors (fill_rule_of query.fill_rule) (overlay_rule_of query.overlay_rule) (data_entries_of I.value segments.now)) }
-    ensures refused { IfErr result (IsSweepRefused (entries_of I.value segments.now)) }
+    ensures is { IfOk result (λ edges. data_vectors_of edges.items
+        ≡ boundary_vectors (fill_rule_of query.fill_rule) (overlay_rule_of query.overlay_rule) (data_entries_of segments.now)) }
+    ensures refused { IfErr result (IsSweepRefused (entries_of segments.now)) }
 {
     let graph = graph_builder.build_boolean_overlay(
         query.fill_rule,

@@ -95,9 +95,9 @@ module _ (fill : FillRule) (clip : ClipRule) (es : List (Entry StringCount)) whe
 
 -- ---- links
 
-pub edges_seen : {I D : Type 0} (value : I → ℤ) (links : List (OverlayLink I D)) → map (λ l. l.edge) (map (overlay_link_of value) links) ≡ link_edges value links
+pub edges_seen : {I D : Type 0} (value : I → ℤ) (links : List (OverlayLink I D)) → map (λ l. l.edge) (map overlay_link_of links) ≡ link_edges links
 edges_seen value [] = refl
-edges_seen value (l ∷ ls) = ap (λ rest. link_edge_of value l ∷ rest) (edges_seen value ls)
+edges_seen value (l ∷ ls) = ap (λ rest. link_edge_of l ∷ rest) (edges_seen value ls)
 
 pub all_unmap : {X Y : Type 0} (P : Y → Type 0) (f : X → Y) (xs : List X) → All P (map f xs) → All (λ x. P (f x)) xs
 all_unmap P f xs h k d inside =
@@ -111,11 +111,11 @@ pairs_unmap R f xs h i j d low inside =
 
 -- The links that a clip keeps of an arrangement may be walked.
 module _ {I D : Type 0} (value : I → ℤ) (fill : FillRule) (clip : ClipRule) (es : List (Entry StringCount)) (links : List (OverlayLink I D))
-    (arranged : IsArrangement (subject_of es)) (is : map (overlay_link_of value) links ≡ clip_links fill clip es) where
+    (arranged : IsArrangement (subject_of es)) (is : map overlay_link_of links ≡ clip_links fill clip es) where
   abbrev alone : Entry StringCount → Entry Count
   alone e = record { edge = e.edge; count = subject_alone e.count }
 
-  same_edges : map (λ l. l.edge) (clip_links fill clip es) ≡ link_edges value links
+  same_edges : map (λ l. l.edge) (clip_links fill clip es) ≡ link_edges links
   same_edges = sym (ap (map (λ l. l.edge)) is) ∙ edges_seen value links
 
   directed : All (λ (l : Link). is_before l.edge.a l.edge.b ≡ true) (map (string_link_of fill es) es)
@@ -128,7 +128,7 @@ module _ {I D : Type 0} (value : I → ℤ) (fill : FillRule) (clip : ClipRule) 
       pairs_map (λ (l m : Link). edge_order l.edge m.edge ≡ Less) (string_link_of fill es) es
       (pairs_unmap (λ (e f : Entry Count). edge_order e.edge f.edge ≡ Less) alone es arranged.rising)
 
-  pub is_walkable : (lists : List (List ℕ)) → AreLists (map (link_edge_of value) links) lists → AreNumbered value links → IsWalkable value links lists
+  pub is_walkable : (lists : List (List ℕ)) → AreLists (map link_edge_of links) lists → AreNumbered links → IsWalkable links lists
   is_walkable lists joined numbers = record {
     directed =
         subst (All (λ s. is_before s.a s.b ≡ true)) same_edges

@@ -94,7 +94,7 @@ module _ {X : Type 0} (f : X → List Point) (xs : List X) (i : ℕ) (inside : i
 -- ---- what a builder holds when so many paths are added
 
 -- The paths before this one are added.
-abbrev pub AddsBefore : {I W : Type 0} {int order equality part wide wide_order wide_equality wide_part : _} → List (List Point) → ℕ → StringOverlay I W int order equality part wide wide_order wide_equality wide_part → StringOverlay I W int order equality part wide wide_order wide_equality wide_part → Type 0
+abbrev pub AddsBefore : {I W : Type 0} {int number order equality part wide wide_order wide_equality wide_part : _} → List (List Point) → ℕ → StringOverlay I W int number order equality part wide wide_order wide_equality wide_part → StringOverlay I W int number order equality part wide wide_order wide_equality wide_part → Type 0
 AddsBefore paths i old now = record {
   added : held_by now ≡ held_by old ++ steps (take i paths);
   ready : has_failed now ≡ false;
@@ -102,12 +102,12 @@ AddsBefore paths i old now = record {
   options : now.options ≡ old.options;
 }
 
-pub none_yet : {I W : Type 0} {int order equality part wide wide_order wide_equality wide_part : _} (paths : List (List Point)) (old : StringOverlay I W int order equality part wide wide_order wide_equality wide_part) → has_failed old ≡ false
+pub none_yet : {I W : Type 0} {int number order equality part wide wide_order wide_equality wide_part : _} (paths : List (List Point)) (old : StringOverlay I W int number order equality part wide wide_order wide_equality wide_part) → has_failed old ≡ false
     → AddsBefore paths 0 old old
 none_yet paths old ready = record { added = sym (append-nil (held_by old)); ready = ready; room = omega arith; options = refl }
 
-pub one_more : {I W : Type 0} {int order equality part wide wide_order wide_equality wide_part : _} (paths : List (List Point)) (i : ℕ) → i < length paths
-    → (old now new : StringOverlay I W int order equality part wide wide_order wide_equality wide_part) (points : List Point) (u : Unit {0}) → points ≡ get_or paths i []
+pub one_more : {I W : Type 0} {int number order equality part wide wide_order wide_equality wide_part : _} (paths : List (List Point)) (i : ℕ) → i < length paths
+    → (old now new : StringOverlay I W int number order equality part wide wide_order wide_equality wide_part) (points : List Point) (u : Unit {0}) → points ≡ get_or paths i []
     → AddsBefore paths i old now → AddsStringPath points now new (Ok u) → AddsBefore paths (i + 1) old new
 one_more paths i inside old now new points u here before adds = record {
   added = one_path_more paths i inside (held_by old) (held_by now) (held_by new) before.added
@@ -117,8 +117,8 @@ one_more paths i inside old now new points u here before adds = record {
   options = adds.options ∙ before.options;
 }
 
-pub one_refused : {I W : Type 0} {int order equality part wide wide_order wide_equality wide_part : _} (paths : List (List Point)) (i : ℕ) → i < length paths
-    → (old now new : StringOverlay I W int order equality part wide wide_order wide_equality wide_part) (points : List Point) (fault : Fault) → has_failed old ≡ false → points ≡ get_or paths i []
+pub one_refused : {I W : Type 0} {int number order equality part wide wide_order wide_equality wide_part : _} (paths : List (List Point)) (i : ℕ) → i < length paths
+    → (old now new : StringOverlay I W int number order equality part wide wide_order wide_equality wide_part) (points : List Point) (fault : Fault) → has_failed old ≡ false → points ≡ get_or paths i []
     → AddsBefore paths i old now → AddsStringPath points now new (Err fault) → AddsStringPaths paths old new (Err fault)
 one_refused paths i inside old now new points fault ready here before adds = record {
   added = tt;
@@ -133,8 +133,8 @@ one_refused paths i inside old now new points fault ready here before adds = rec
   options = adds.options ∙ before.options;
 }
 
-pub all_more : {I W : Type 0} {int order equality part wide wide_order wide_equality wide_part : _} (paths : List (List Point)) (i : ℕ) → take i paths ≡ paths
-    → (old now : StringOverlay I W int order equality part wide wide_order wide_equality wide_part) (u : Unit {0}) → has_failed old ≡ false → AddsBefore paths i old now → AddsStringPaths paths old now (Ok u)
+pub all_more : {I W : Type 0} {int number order equality part wide wide_order wide_equality wide_part : _} (paths : List (List Point)) (i : ℕ) → take i paths ≡ paths
+    → (old now : StringOverlay I W int number order equality part wide wide_order wide_equality wide_part) (u : Unit {0}) → has_failed old ≡ false → AddsBefore paths i old now → AddsStringPaths paths old now (Ok u)
 all_more paths i all old now u ready before = record {
   added = before.added ∙ ap (λ l. held_by old ++ steps l) all;
   refused = tt;
@@ -205,7 +205,7 @@ until_closed (p ∷ rest) room old new fault until = record {
   reason = until.reason;
 }
 
-pub closed_refused : {I W : Type 0} {int order equality part wide wide_order wide_equality wide_part : _} (points : List Point) (old new : StringOverlay I W int order equality part wide wide_order wide_equality wide_part) (fault : Fault)
+pub closed_refused : {I W : Type 0} {int number order equality part wide wide_order wide_equality wide_part : _} (points : List Point) (old new : StringOverlay I W int number order equality part wide wide_order wide_equality wide_part) (fault : Fault)
     → AddsStringPath points old new (Err fault) → AddsStringPath (closed points) old new (Err fault)
 closed_refused points old new fault adds = record {
   takes = record {
@@ -225,34 +225,30 @@ closed_refused points old new fault adds = record {
     by false until = until_closed points (room_of new) (held_by old) (held_by new) fault until
 
 -- no point is closed by no step
-pub closed_nothing : {X I W : Type 0} {int order equality part wide wide_order wide_equality wide_part : _} (f : X → Point) (xs : List X) → length xs ≡ 0
-    → (old new : StringOverlay I W int order equality part wide wide_order wide_equality wide_part) (r : Result (Unit {0}) Fault) → AddsStringPath (map f xs) old new r → AddsStringPath (closed (map f xs)) old new r
-closed_nothing f [] none old new r adds = adds
-closed_nothing f (x ∷ xs) none old new r adds = absurd (omega (arith, none))
+pub closed_nothing : {I W : Type 0} {int number order equality part wide wide_order wide_equality wide_part : _} (points : List Point) → length points ≡ 0
+    → (old new : StringOverlay I W int number order equality part wide wide_order wide_equality wide_part) (r : Result (Unit {0}) Fault) → AddsStringPath points old new r → AddsStringPath (closed points) old new r
+closed_nothing [] none old new r adds = adds
+closed_nothing (p ∷ rest) none old new r adds = absurd (omega (arith, none))
 
 -- the last point and the first
 closed_is : (ps : List Point) (d : Point) → 0 < length ps → closed ps ≡ ps ++ get_or ps 0 d ∷ []
 closed_is [] d some = absurd (omega (arith, some))
 closed_is (p ∷ rest) d some = refl
 
-module _ {X : Type 0} (f : X → Point) (xs : List X) (some : 0 < length xs) (last first : X) (at_end : last ≡ get_or xs (length xs - 1) last) (at_start : first ≡ get_or xs 0 first) where
+module _ (points : List Point) (some : 0 < length points) (last first : Point) (at_end : last ≡ get_or points (length points - 1) last) (at_start : first ≡ get_or points 0 first) where
   abbrev front : List Point
-  front = take (length xs - 1) (map f xs)
+  front = take (length points - 1) points
 
-  there : (i : ℕ) (x : X) → i < length xs → x ≡ get_or xs i x → f x ≡ get_or (map f xs) i (f x)
-  there i x inside at = ap f at ∙ sym (get_or-map f xs i x (f x) inside)
-
-  pub ends_last : map f xs ≡ front ++ f last ∷ []
+  pub ends_last : points ≡ front ++ last ∷ []
   ends_last =
-      let long = length-map xs f in
-      sym (take_all (length xs) (map f xs) (omega (arith, long)))
-      ∙ taken_to (map f xs) (length xs - 1) (length xs) (f last) (omega (arith, some)) (omega (arith, some, long)) (there (length xs - 1) last (omega (arith, some)) at_end)
+      sym (take_all (length points) points (omega arith))
+      ∙ taken_to points (length points - 1) (length points) last (omega (arith, some)) (omega (arith, some)) at_end
 
-  pub closes_first : closed (map f xs) ≡ front ++ f last ∷ f first ∷ []
+  pub closes_first : closed points ≡ front ++ last ∷ first ∷ []
   closes_first =
-      closed_is (map f xs) (f first) (omega (arith, some, length-map xs f))
-      ∙ (ap (λ p. map f xs ++ p ∷ []) (sym (there 0 first some at_start))
-      ∙ (ap (λ ps. ps ++ f first ∷ []) ends_last ∙ append_assoc front (f last ∷ []) (f first ∷ [])))
+      closed_is points first some
+      ∙ (ap (λ p. points ++ p ∷ []) (sym at_start)
+      ∙ (ap (λ ps. ps ++ first ∷ []) ends_last ∙ append_assoc front (last ∷ []) (first ∷ [])))
 
 -- what a path of two points parts into
 only_parts : (p q from to : Point) (before after : List Point) → p ∷ q ∷ [] ≡ before ++ from ∷ to ∷ after → (from ≡ p) × (to ≡ q)
@@ -262,8 +258,8 @@ only_parts p q from to (x ∷ xs) after e =
     absurd (omega (arith, long, length-append xs (from ∷ to ∷ after)))
 
 -- The step from the last point to the first is added behind the others, or refused.
-pub closed_by : {I W : Type 0} {int order equality part wide wide_order wide_equality wide_part : _} (points front : List Point) (last first : Point) → points ≡ front ++ last ∷ []
-    → closed points ≡ front ++ last ∷ first ∷ [] → (old now new : StringOverlay I W int order equality part wide wide_order wide_equality wide_part) (u : Unit {0}) (r : Result (Unit {0}) Fault)
+pub closed_by : {I W : Type 0} {int number order equality part wide wide_order wide_equality wide_part : _} (points front : List Point) (last first : Point) → points ≡ front ++ last ∷ []
+    → closed points ≡ front ++ last ∷ first ∷ [] → (old now new : StringOverlay I W int number order equality part wide wide_order wide_equality wide_part) (u : Unit {0}) (r : Result (Unit {0}) Fault)
     → AddsStringPath points old now (Ok u) → AddsStringPath (last ∷ first ∷ []) now new r → AddsStringPath (closed points) old new r
 closed_by points front last first ends closes old now new u r path step = record {
   takes = record {

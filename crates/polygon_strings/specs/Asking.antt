@@ -45,12 +45,12 @@ pub record LeavesRedrawn {T : Type 0} (precision : Precision) (old new : Holding
 
 -- A link for each edge of the map, with what both sides fill and which ways lines run along it, its ends in range, and the places of the links
 -- that meet at each node. None is lent just where the map has no edge.
-pub record LendsGraph {I W : Type 0} {int order equality part wide wide_order wide_equality wide_part : _} (value : I → ℤ) (least greatest : ℤ) (fill : FillRule) (es : List (Entry StringCount))
-    (found : Option (StringGraph I W int order equality part wide wide_order wide_equality wide_part)) : Type 0 where
-  pub links : IfSome found (λ graph. map (overlay_link_of value) (string_links_of graph) ≡ all_string_links fill es)
-  pub nodes : IfSome found (λ graph. AreLists (map (link_edge_of value) (string_links_of graph)) (lists_lent_by graph))
-  pub numbers : IfSome found (λ graph. AreNumbered value (string_links_of graph))
-  pub in_range : IfSome found (λ graph. All (λ l. IsEdgeWithin least greatest (link_edge_of value l)) (string_links_of graph))
+pub record LendsGraph {I W : Type 0} {int number order equality part wide wide_order wide_equality wide_part : _} (least greatest : ℤ) (fill : FillRule) (es : List (Entry StringCount))
+    (found : Option (StringGraph I W int number order equality part wide wide_order wide_equality wide_part)) : Type 0 where
+  pub links : IfSome found (λ graph. map overlay_link_of (string_links_of graph) ≡ all_string_links fill es)
+  pub nodes : IfSome found (λ graph. AreLists (map link_edge_of (string_links_of graph)) (lists_lent_by graph))
+  pub numbers : IfSome found (λ graph. AreNumbered (string_links_of graph))
+  pub in_range : IfSome found (λ graph. All (λ l. IsEdgeWithin least greatest (link_edge_of l)) (string_links_of graph))
   pub arrangement : IsArrangement (subject_of es)
   pub some : IfSome found (λ graph. es ≢ [])
   pub none : IfNone found (es ≡ [])

@@ -16,23 +16,23 @@ use Rattle.polygon_strings.specs.Builders.{one_shape, AddsPathsUntil, HoldsBoth,
 -- ---- what is seen of a builder
 
 -- what it holds, whether it has failed, and its room
-abbrev pub seen_of : {I W : Type 0} {int order equality part wide wide_order wide_equality wide_part : _} → StringOverlay I W int order equality part wide wide_order wide_equality wide_part → HeldEdges StringCount (Unit {0}) (Unit {0})
+abbrev pub seen_of : {I W : Type 0} {int number order equality part wide wide_order wide_equality wide_part : _} → StringOverlay I W int number order equality part wide wide_order wide_equality wide_part → HeldEdges StringCount (Unit {0}) (Unit {0})
 seen_of overlay = overlay.held
 
 -- what it holds, and whether it has failed
-abbrev pub holding_of : {I W : Type 0} {int order equality part wide wide_order wide_equality wide_part : _} → StringOverlay I W int order equality part wide wide_order wide_equality wide_part → Holding StringCount
+abbrev pub holding_of : {I W : Type 0} {int number order equality part wide wide_order wide_equality wide_part : _} → StringOverlay I W int number order equality part wide wide_order wide_equality wide_part → Holding StringCount
 holding_of overlay = holding (seen_of overlay)
 
 -- the edges that it holds
-abbrev pub held_by : {I W : Type 0} {int order equality part wide wide_order wide_equality wide_part : _} → StringOverlay I W int order equality part wide wide_order wide_equality wide_part → List (Entry StringCount)
+abbrev pub held_by : {I W : Type 0} {int number order equality part wide wide_order wide_equality wide_part : _} → StringOverlay I W int number order equality part wide wide_order wide_equality wide_part → List (Entry StringCount)
 held_by overlay = (seen_of overlay).edges
 
 -- whether a query was refused
-abbrev pub has_failed : {I W : Type 0} {int order equality part wide wide_order wide_equality wide_part : _} → StringOverlay I W int order equality part wide wide_order wide_equality wide_part → Bool
+abbrev pub has_failed : {I W : Type 0} {int number order equality part wide wide_order wide_equality wide_part : _} → StringOverlay I W int number order equality part wide wide_order wide_equality wide_part → Bool
 has_failed overlay = (seen_of overlay).has_failed
 
 -- for how many edges it has room, those that it holds among them
-abbrev pub room_of : {I W : Type 0} {int order equality part wide wide_order wide_equality wide_part : _} → StringOverlay I W int order equality part wide wide_order wide_equality wide_part → ℕ
+abbrev pub room_of : {I W : Type 0} {int number order equality part wide wide_order wide_equality wide_part : _} → StringOverlay I W int number order equality part wide wide_order wide_equality wide_part → ℕ
 room_of overlay = (seen_of overlay).room
 
 -- All points of contours or of paths are in range.
@@ -42,46 +42,46 @@ AreInRange least greatest paths = All (All (IsWithin least greatest)) paths
 -- ---- calls that make
 
 -- A new builder holds this, with these options, and has not failed.
-pub record IsMade {I W : Type 0} {int order equality part wide wide_order wide_equality wide_part : _} (its_options : IntOverlayOptions) (Holds : List (Entry StringCount) → Type 0)
-    (overlay : StringOverlay I W int order equality part wide wide_order wide_equality wide_part) : Type 0 where
+pub record IsMade {I W : Type 0} {int number order equality part wide wide_order wide_equality wide_part : _} (its_options : IntOverlayOptions) (Holds : List (Entry StringCount) → Type 0)
+    (overlay : StringOverlay I W int number order equality part wide wide_order wide_equality wide_part) : Type 0 where
   pub held : Holds (held_by overlay)
   pub ready : has_failed overlay ≡ false
   pub options : overlay.options ≡ its_options
 
 -- A builder that holds nothing is made, with room for so many edges, unless memory is refused.
-pub record MakesEmpty {I W : Type 0} {int order equality part wide wide_order wide_equality wide_part : _} (options : IntOverlayOptions) (capacity : ℕ)
-    (result : Result (StringOverlay I W int order equality part wide wide_order wide_equality wide_part) Fault) : Type 0 where
+pub record MakesEmpty {I W : Type 0} {int number order equality part wide wide_order wide_equality wide_part : _} (options : IntOverlayOptions) (capacity : ℕ)
+    (result : Result (StringOverlay I W int number order equality part wide wide_order wide_equality wide_part) Fault) : Type 0 where
   pub made : IfOk result (IsMade options (λ held. held ≡ []))
   pub refused : IfErr result (λ fault. fault ≡ Memory)
   pub room : IfOk result (λ overlay. capacity ≤ room_of overlay)
 
 -- A builder that holds the contours of a shape.
-pub record MakesShape {I W : Type 0} {int order equality part wide wide_order wide_equality wide_part : _} (options : IntOverlayOptions) (shape : List (List Point))
-    (result : Result (StringOverlay I W int order equality part wide wide_order wide_equality wide_part) Fault) : Type 0 where
+pub record MakesShape {I W : Type 0} {int number order equality part wide wide_order wide_equality wide_part : _} (options : IntOverlayOptions) (shape : List (List Point))
+    (result : Result (StringOverlay I W int number order equality part wide wide_order wide_equality wide_part) Fault) : Type 0 where
   pub made : IfOk result (IsMade options (AddsAll stringed one_shape false shape []))
   pub refused : IfErr result (IsNotMade shape [])
 
 -- A builder that holds the contours of a shape, and the steps of open strings.
-pub record MakesBoth {I W : Type 0} {int order equality part wide wide_order wide_equality wide_part : _} (options : IntOverlayOptions) (shape strings : List (List Point))
-    (result : Result (StringOverlay I W int order equality part wide wide_order wide_equality wide_part) Fault) : Type 0 where
+pub record MakesBoth {I W : Type 0} {int number order equality part wide wide_order wide_equality wide_part : _} (options : IntOverlayOptions) (shape strings : List (List Point))
+    (result : Result (StringOverlay I W int number order equality part wide wide_order wide_equality wide_part) Fault) : Type 0 where
   pub made : IfOk result (IsMade options (HoldsBoth shape strings))
   pub refused : IfErr result (IsNotMade shape strings)
 
 -- ---- calls that add contours of shapes, thinned
 
-pub record AddsShapeContour {I W : Type 0} {int order equality part wide wide_order wide_equality wide_part : _} (points : List Point) (old new : StringOverlay I W int order equality part wide wide_order wide_equality wide_part)
+pub record AddsShapeContour {I W : Type 0} {int number order equality part wide wide_order wide_equality wide_part : _} (points : List Point) (old new : StringOverlay I W int number order equality part wide wide_order wide_equality wide_part)
     (result : Result (Unit {0}) Fault) : Type 0 where
   pub takes : TakesContour stringed one_shape false points (seen_of old) (seen_of new) result
   pub options : new.options ≡ old.options
 
-pub record AddsShapeSource {I W : Type 0} {int order equality part wide wide_order wide_equality wide_part : _} (contours : List (List Point)) (old new : StringOverlay I W int order equality part wide wide_order wide_equality wide_part)
+pub record AddsShapeSource {I W : Type 0} {int number order equality part wide wide_order wide_equality wide_part : _} (contours : List (List Point)) (old new : StringOverlay I W int number order equality part wide wide_order wide_equality wide_part)
     (result : Result (Unit {0}) Fault) : Type 0 where
   pub takes : TakesSource stringed one_shape false contours (seen_of old) (seen_of new) result
   pub options : new.options ≡ old.options
 
 -- A contour of which something is given, of points that are seen in it. Memory may be refused before it is known.
-pub record AddsShapeGiven {I W X : Type 0} {int order equality part wide wide_order wide_equality wide_part : _} (IsGiven : X → Type 0) (points : X → List Point)
-    (old new : StringOverlay I W int order equality part wide wide_order wide_equality wide_part) (result : Result (Unit {0}) Fault) : Type 0 where
+pub record AddsShapeGiven {I W X : Type 0} {int number order equality part wide wide_order wide_equality wide_part : _} (IsGiven : X → Type 0) (points : X → List Point)
+    (old new : StringOverlay I W int number order equality part wide wide_order wide_equality wide_part) (result : Result (Unit {0}) Fault) : Type 0 where
   pub added : OnOk result ((path : X) × IsGiven path × Adds stringed one_shape false (points path) (held_by old) (held_by new))
   pub unchanged : OnErr result (held_by new ≡ held_by old)
   pub refused : IfErr result (IsRefusedBy (has_failed old) (λ fault. (fault ≡ Memory)
@@ -94,19 +94,19 @@ pub record AddsShapeGiven {I W X : Type 0} {int order equality part wide wide_or
 -- ---- calls that add strings
 
 -- The steps of a path, or those before one that was refused. A closed string is the path that comes back to its first point.
-pub record AddsStringPath {I W : Type 0} {int order equality part wide wide_order wide_equality wide_part : _} (points : List Point) (old new : StringOverlay I W int order equality part wide wide_order wide_equality wide_part)
+pub record AddsStringPath {I W : Type 0} {int number order equality part wide wide_order wide_equality wide_part : _} (points : List Point) (old new : StringOverlay I W int number order equality part wide wide_order wide_equality wide_part)
     (result : Result (Unit {0}) Fault) : Type 0 where
   pub takes : TakesPath stringed one_line points (seen_of old) (seen_of new) result
   pub options : new.options ≡ old.options
 
 -- The step of a line, from its first point to its second. A refusal of these two points changes nothing.
-pub record AddsStringLine {I W : Type 0} {int order equality part wide wide_order wide_equality wide_part : _} (points : List Point) (old new : StringOverlay I W int order equality part wide wide_order wide_equality wide_part)
+pub record AddsStringLine {I W : Type 0} {int number order equality part wide wide_order wide_equality wide_part : _} (points : List Point) (old new : StringOverlay I W int number order equality part wide wide_order wide_equality wide_part)
     (result : Result (Unit {0}) Fault) : Type 0 where
   pub adds : AddsStringPath points old new result
   pub unchanged : length points ≡ 2 → OnErr result (held_by new ≡ held_by old)
 
 -- The steps of paths one after another, or those before a step that was refused. A builder that has failed takes none.
-pub record AddsStringPaths {I W : Type 0} {int order equality part wide wide_order wide_equality wide_part : _} (paths : List (List Point)) (old new : StringOverlay I W int order equality part wide wide_order wide_equality wide_part)
+pub record AddsStringPaths {I W : Type 0} {int number order equality part wide wide_order wide_equality wide_part : _} (paths : List (List Point)) (old new : StringOverlay I W int number order equality part wide wide_order wide_equality wide_part)
     (result : Result (Unit {0}) Fault) : Type 0 where
   pub added : OnOk result (held_by new ≡ held_by old ++ flat_map (laid_path stringed one_line) paths)
   pub refused : IfErr result (IsRefusedBy (has_failed old) (AddsPathsUntil paths (room_of new) (held_by old) (held_by new)))

@@ -1,5 +1,5 @@
 -- What contracts see of clips under way: which steps along links no path has passed.
-use Rattle.std.specs.Prelude.{◌≡◌, ◌≢◌, ℕ, ◌<◌, ℤ, Bool, true, false, cond, List, [], ◌∷◌, ◌++◌, length, map, take, slice_index_or, Some, All, AllPairs}
+use Rattle.std.specs.Prelude.{◌≡◌, ◌≢◌, ℕ, ◌<◌, Bool, true, false, cond, List, [], ◌∷◌, ◌++◌, length, map, take, slice_index_or, Some, All, AllPairs}
 use Rattle.std.specs.declared.cmp.Ordering.TheVariants.{Less}
 use Rattle.plane_base.specs.Plane.{Point, Edge, is_before, edge_order}
 use Rattle.segment_arrangement.specs.Graphs.{Link, ends_of, nodes_of}
@@ -11,19 +11,19 @@ use Rattle.polygon_strings.specs.Clips.{turned, path_steps, first_of, last_of, N
 use Rattle.polygon_strings.specs.declared.string.clip_walk.StepsLeft.{StepsLeft}
 use Rattle.polygon_strings.specs.declared.string.clip_walk.SearchBegins.{SearchBegins}
 
-abbrev pub link_edges : {I D : Type 0} → (I → ℤ) → List (OverlayLink I D) → List Edge
-link_edges value links = map (link_edge_of value) links
+abbrev pub link_edges : {I D : Type 0} → List (OverlayLink I D) → List Edge
+link_edges links = map link_edge_of links
 
 -- the steps of lines along a link: from a to b where a line runs back, from b to a where one runs forward
 abbrev pub link_steps : Link → List Edge
 link_steps l = cond (has 8 l.fill) (l.edge ∷ []) [] ++ cond (has 4 l.fill) (turned l.edge ∷ []) []
 
 -- The links rise, each with its lesser end first, and the lists of places are those of their nodes.
-pub record IsWalkable {I D : Type 0} (value : I → ℤ) (links : List (OverlayLink I D)) (lists : List (List ℕ)) : Type 0 where
-  pub directed : All (λ s. is_before s.a s.b ≡ true) (link_edges value links)
-  pub rising : AllPairs (λ s t. edge_order s t ≡ Less) (link_edges value links)
-  pub joined : lists ≡ map (λ n. n.starts ++ n.ends) (nodes_of (link_edges value links))
-  pub numbers : AreNumbered value links
+pub record IsWalkable {I D : Type 0} (links : List (OverlayLink I D)) (lists : List (List ℕ)) : Type 0 where
+  pub directed : All (λ s. is_before s.a s.b ≡ true) (link_edges links)
+  pub rising : AllPairs (λ s t. edge_order s t ≡ Less) (link_edges links)
+  pub joined : lists ≡ map (λ n. n.starts ++ n.ends) (nodes_of (link_edges links))
+  pub numbers : AreNumbered links
 
 -- ---- what is left
 

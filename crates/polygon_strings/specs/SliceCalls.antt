@@ -1,5 +1,5 @@
 -- What the calls that slice answer.
-use Rattle.std.specs.Prelude.{◌≡◌, ◌⊎◌, ℕ, ℤ, Bool, false, List, map, All}
+use Rattle.std.specs.Prelude.{◌≡◌, ◌⊎◌, ℤ, false, List, map, All}
 use Rattle.plane_base.specs.Plane.{Point, IsWithin}
 use Rattle.plane_base.specs.Counts.{Entry}
 use Rattle.plane_base.specs.Regions.{FillRule}
@@ -17,10 +17,10 @@ use Rattle.polygon_strings.specs.Slices.{IsSlice}
 use Rattle.polygon_strings.specs.SliceLaws.{WindRoundSubject}
 
 -- The graph is that of all edges of a string map whose subject, read alone, is an arrangement.
-pub record IsGraphOf {I W : Type 0} {int order equality part wide wide_order wide_equality wide_part : _} (value : I → ℤ) (graph : StringGraph I W int order equality part wide wide_order wide_equality wide_part) (fill : FillRule)
+pub record IsGraphOf {I W : Type 0} {int number order equality part wide wide_order wide_equality wide_part : _} (graph : StringGraph I W int number order equality part wide wide_order wide_equality wide_part) (fill : FillRule)
     (es : List (Entry StringCount)) : Type 0 where
   pub arrangement : IsArrangement (subject_of es)
-  pub links : map (overlay_link_of value) (string_links_of graph) ≡ all_string_links fill es
+  pub links : map overlay_link_of (string_links_of graph) ≡ all_string_links fill es
 
 -- The shapes are a slice of a shape by open strings, with outlines that run counterclockwise and no least area: so they wind once round the
 -- subject of the redrawn map, and round nothing else. All their points are in range.

@@ -56,16 +56,16 @@ pub record GoesOnBy (output : Bool) (halves : List Border) (r s : Edge) : Type 0
   pub first : (p : Point) → Contains (points_round r.b halves) p → (p ≡ s.b) ⊎ IsMetFirst (not output) r.b r.a s.b p
 
 -- The halves lie apart. From each of their steps a walk goes on, and from no two by one.
-pub record IsSliceable {I : Type 0} (value : I → ℤ) (least greatest : ℤ) (output : Bool) (links : List (OverlayLink I (Unit {0}))) (lists : List (List ℕ)) : Type 0 where
-  pub in_range : All (λ l. IsEdgeWithin least greatest (link_edge_of value l)) links
-  pub walkable : IsWalkable value links lists
-  pub apart : AreApart (halves_along (map (overlay_link_of value) links))
+pub record IsSliceable {I : Type 0} (least greatest : ℤ) (output : Bool) (links : List (OverlayLink I (Unit {0}))) (lists : List (List ℕ)) : Type 0 where
+  pub in_range : All (λ l. IsEdgeWithin least greatest (link_edge_of l)) links
+  pub walkable : IsWalkable links lists
+  pub apart : AreApart (halves_along (map overlay_link_of links))
   pub some :
-      (r : Edge) → Contains (half_steps output (map (overlay_link_of value) links)) r →
-      (s : Edge) × GoesOnBy output (halves_along (map (overlay_link_of value) links)) r s
+      (r : Edge) → Contains (half_steps output (map overlay_link_of links)) r →
+      (s : Edge) × GoesOnBy output (halves_along (map overlay_link_of links)) r s
   pub once :
-      (q r s : Edge) → Contains (half_steps output (map (overlay_link_of value) links)) q → Contains (half_steps output (map (overlay_link_of value) links)) r →
-      GoesOnBy output (halves_along (map (overlay_link_of value) links)) q s → GoesOnBy output (halves_along (map (overlay_link_of value) links)) r s → q ≡ r
+      (q r s : Edge) → Contains (half_steps output (map overlay_link_of links)) q → Contains (half_steps output (map overlay_link_of links)) r →
+      GoesOnBy output (halves_along (map overlay_link_of links)) q s → GoesOnBy output (halves_along (map overlay_link_of links)) r s → q ≡ r
 
 -- ---- at a node
 

@@ -17,8 +17,7 @@ AllLieOn side c = (a b : Point) (others : List Point) → SameCycle c (a ∷ b �
 abbrev pub IsAfter : ℕ → ℕ → ℕ → Type 0
 IsAfter n i k = (k ≡ i + 1) × (k < n) ⊎ (i + 1 ≡ n) × (k ≡ 0)
 
--- On this side of the edge from the place i lie the points of all other places below n. Each element of the list
--- stands for a point.
-abbrev pub LieOnAt : {X : Type 0} → (X → Point) → Ordering → List X → X → ℕ → ℕ → Type 0
-LieOnAt f side xs d i n = (k j : ℕ) → IsAfter (length xs) i k → j < n → j ≢ i → j ≢ k
-    → LiesOn side (f (slice_index_or xs i d)) (f (slice_index_or xs k d)) (f (slice_index_or xs j d))
+-- On this side of the edge from the place i lie the points of all other places below n.
+abbrev pub LieOnAt : Ordering → List Point → Point → ℕ → ℕ → Type 0
+LieOnAt side xs d i n = (k j : ℕ) → IsAfter (length xs) i k → j < n → j ≢ i → j ≢ k
+    → LiesOn side (slice_index_or xs i d) (slice_index_or xs k d) (slice_index_or xs j d)

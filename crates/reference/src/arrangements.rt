@@ -36,10 +36,10 @@ pub fn arrangement_slowly<I: OverlayInt>(
     clips: &[IntPath<I>],
     solver: &Solver,
 ) -> Result<Option<Vec<BooleanSegment<I>>>, Fault>
-    ensures is { IfOk result (λ found. IfSome found (λ segments. entries_of I.value segments.items
-        ≡ redrawn boolean solver.now.precision (given (contours_of I.value subjects.now) (contours_of I.value clips.now)))) }
-    ensures arrangement { IfOk result (λ found. IfSome found (λ segments. IsArrangement (entries_of I.value segments.items))) }
-    ensures in_range { IfOk result (λ found. IfSome found (λ segments. AreWithin I.least I.greatest (entries_of I.value segments.items))) }
+    ensures is { IfOk result (λ found. IfSome found (λ segments. entries_of segments.items
+        ≡ redrawn boolean solver.now.precision (given (contours_of subjects.now) (contours_of clips.now)))) }
+    ensures arrangement { IfOk result (λ found. IfSome found (λ segments. IsArrangement (entries_of segments.items))) }
+    ensures in_range { IfOk result (λ found. IfSome found (λ segments. AreWithin I.least I.greatest (entries_of segments.items))) }
     ensures few { IfOk result (λ found. IfSome found (λ segments. length segments.items < 2 ^ 31)) }
 {
     given_is_a_balanced_map();
@@ -75,7 +75,7 @@ fn number_of(number: i128) -> Option<i32>
 
 // The segment of an edge, where its count is in range and its lesser end first.
 fn segment_of<I: OverlayInt>(edge: CountedEdge<I>) -> Option<BooleanSegment<I>>
-    ensures { IfSome result (λ s. entry_of I.value s ≡ counted_entry I.value edge) }
+    ensures { IfSome result (λ s. entry_of s ≡ counted_entry edge) }
 {
     let XSegment { a, b } = edge.edge;
     let subj = number_of(edge.count.subject)?;
@@ -96,7 +96,7 @@ fn segments_of<I: OverlayInt>(
     alloc: Global,
     edges: &[CountedEdge<I>],
 ) -> Result<Option<Vec<BooleanSegment<I>>>, Fault>
-    ensures { IfOk result (λ found. IfSome found (λ segments. entries_of I.value segments.items ≡ counted_entries I.value edges.now)) }
+    ensures { IfOk result (λ found. IfSome found (λ segments. entries_of segments.items ≡ counted_entries edges.now)) }
 {
     let mut segments = Vec::new(alloc);
     for edge in edges {
@@ -115,13 +115,13 @@ fn split<I: OverlayInt, L: Ledger>(
     solver: &Solver,
     blank: Blank,
 ) -> Result<bool, Fault>
-    requires in_range { AreWithin I.least I.greatest (entries_of I.value segments.old.items) }
-    requires counted { AreCounted boolean (entries_of I.value segments.old.items) }
+    requires in_range { AreWithin I.least I.greatest (entries_of segments.old.items) }
+    requires counted { AreCounted boolean (entries_of segments.old.items) }
     requires name { blank.name ≡ L.name }
     requires parts { blank.parts ≡ L.parts }
     requires two { blank.parts ≡ 2 }
-    ensures redrawn { OnOk result (entries_of I.value segments.new.items
-        ≡ redrawn boolean solver.now.precision (normal boolean (entries_of I.value segments.old.items))) }
+    ensures redrawn { OnOk result (entries_of segments.new.items
+        ≡ redrawn boolean solver.now.precision (normal boolean (entries_of segments.old.items))) }
     ensures few { OnOk result (length segments.new.items < 2 ^ 31) }
 {
     let mut steps = Steps::<L>::new(blank);

@@ -3,8 +3,6 @@
 ghost use Rattle.std.specs.Prelude.{◌≡◌, ◌+◌, not, All, IfOk, OnOk, IfSome, IsOkUnless, [], ◌∷◌, ◌++◌, filter};
 ghost use Rattle.plane_base.specs.Plane.{IsWithin};
 ghost use Rattle.plane_base.specs.Segments.{IsEdgeWithin};
-ghost use Rattle.plane_base.specs.Views.{points_of};
-ghost use Rattle.plane_base.specs.SegmentViews.{edge_of};
 ghost use Rattle.contour_walk.specs.Walks.{contour_from, is_one_of, is_same, left_by, walks};
 ghost use Rattle.contour_walk.specs.WalkViews.{border_of, borders_of, AreWithin};
 ghost use Rattle.contour_walk.specs.ShapeViews.{contour_of, walks_of, contour_if_any, ContoursAreWithin, edges_of, first_walk};
@@ -24,10 +22,10 @@ pub fn walks<I: OverlayInt>(
     output: bool,
     links: &[Border<I>],
 ) -> Result<Vec<Contour<I>>, Fault>
-    requires { AreWithin I.least I.greatest (borders_of I.value links.now) }
-    ensures is { IfOk result (λ contours. walks_of I.value contours.items ≡
-        walks output (borders_of I.value links.now)) }
-    ensures in_range { IfOk result (λ contours. ContoursAreWithin I.least I.greatest (walks_of I.value contours.items)) }
+    requires { AreWithin I.least I.greatest (borders_of links.now) }
+    ensures is { IfOk result (λ contours. walks_of contours.items ≡
+        walks output (borders_of links.now)) }
+    ensures in_range { IfOk result (λ contours. ContoursAreWithin I.least I.greatest (walks_of contours.items)) }
     ensures memory { IsOkUnless result Fault.Memory }
 {
     let mut left = Vec::from_slice(alloc, links)?;
@@ -48,17 +46,18 @@ fn first_walk<I: OverlayInt>(
     output: bool,
     links: &[Border<I>],
 ) -> Result<Option<Contour<I>>, Fault>
-    requires { AreWithin I.least I.greatest (borders_of I.value links.now) }
-    ensures is { IfOk result (λ contour. contour_if_any I.value contour ≡
-        first_walk output (borders_of I.value links.now)) }
+    requires { AreWithin I.least I.greatest (borders_of links.now) }
+    ensures is { IfOk result (λ contour. contour_if_any contour ≡
+        first_walk output (borders_of links.now)) }
     ensures in_range { IfOk result (λ contour. IfSome contour (λ c.
-        All (IsWithin I.least I.greatest) (points_of I.value c.points.items))) }
+        All (IsWithin I.least I.greatest) c.points.items)) }
     ensures memory { IsOkUnless result Fault.Memory }
 {
     if links.is_empty() {
         return Ok(None);
     }
-    let Some(top) = top_link(links[0].edge.a, links) else {
+    let first = &links[0];
+    let Some(top) = top_link(first.edge.a, links) else {
         return Ok(None);
     };
     Ok(Some(contour_from(alloc, output, links, top)?))
@@ -71,11 +70,11 @@ pub fn contour_from<I: OverlayInt>(
     links: &[Border<I>],
     link: Border<I>,
 ) -> Result<Contour<I>, Fault>
-    requires links_in_range { AreWithin I.least I.greatest (borders_of I.value links.now) }
-    requires link_in_range { IsEdgeWithin I.least I.greatest (edge_of I.value link.edge) }
-    ensures is { IfOk result (λ c. contour_of I.value c ≡
-        contour_from output (borders_of I.value links.now) (border_of I.value link)) }
-    ensures in_range { IfOk result (λ c. All (IsWithin I.least I.greatest) (points_of I.value c.points.items)) }
+    requires links_in_range { AreWithin I.least I.greatest (borders_of links.now) }
+    requires link_in_range { IsEdgeWithin I.least I.greatest link.edge }
+    ensures is { IfOk result (λ c. contour_of c ≡
+        contour_from output (borders_of links.now) (border_of link)) }
+    ensures in_range { IfOk result (λ c. All (IsWithin I.least I.greatest) c.points.items) }
     ensures memory { IsOkUnless result Fault.Memory }
 {
     let XSegment { a, b } = link.edge;
@@ -100,10 +99,10 @@ pub fn left_by<I: OverlayInt>(
     points: &[IntPoint<I>],
     links: &[Border<I>],
 ) -> Result<Vec<Border<I>>, Fault>
-    requires { AreWithin I.least I.greatest (borders_of I.value links.now) }
-    ensures is { IfOk result (λ left. borders_of I.value left.items ≡
-        left_by (points_of I.value points.now) (borders_of I.value links.now)) }
-    ensures in_range { IfOk result (λ left. AreWithin I.least I.greatest (borders_of I.value left.items)) }
+    requires { AreWithin I.least I.greatest (borders_of links.now) }
+    ensures is { IfOk result (λ left. borders_of left.items ≡
+        left_by points.now (borders_of links.now)) }
+    ensures in_range { IfOk result (λ left. AreWithin I.least I.greatest (borders_of left.items)) }
     ensures memory { IsOkUnless result Fault.Memory }
 {
     let edges = contour_edges(alloc, points)?;
@@ -120,8 +119,8 @@ fn keep_unless_passed<I: OverlayInt>(
     link: Border<I>,
     edges: &[XSegment<I>],
 ) -> Result<(), Fault>
-    ensures is { OnOk result (borders_of I.value left.new.items ≡ borders_of I.value left.old.items ++
-        filter (λ l. not (is_one_of (edges_of I.value edges.now) l.edge)) (border_of I.value link ∷ [])) }
+    ensures is { OnOk result (borders_of left.new.items ≡ borders_of left.old.items ++
+        filter (λ l. not (is_one_of (edges_of edges.now) l.edge)) (border_of link ∷ [])) }
     ensures memory { IsOkUnless result Fault.Memory }
 {
     if is_one_of(edges, link.edge) {
@@ -132,7 +131,7 @@ fn keep_unless_passed<I: OverlayInt>(
 }
 
 fn is_one_of<I: OverlayInt>(edges: &[XSegment<I>], edge: XSegment<I>) -> bool
-    ensures { result ≡ is_one_of (edges_of I.value edges.now) (edge_of I.value edge) }
+    ensures { result ≡ is_one_of (edges_of edges.now) edge }
 {
     for i in 0..edges.len() {
         if is_same_edge(edges[i], edge) {

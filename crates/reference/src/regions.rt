@@ -5,7 +5,6 @@ ghost use Rattle.plane_base.specs.Regions.{region};
 ghost use Rattle.plane_base.specs.Segments.{IsEdgeWithin};
 ghost use Rattle.plane_base.specs.Counts.{Count, Entry};
 ghost use Rattle.reference.specs.MapViews.{count_of, entries_of, IsCountWithin};
-ghost use Rattle.plane_base.specs.SegmentViews.{edge_of};
 ghost use Rattle.segment_arrangement.specs.EdgeSides.{lower_side, bit, fill_bits};
 ghost use Rattle.segment_arrangement.specs.RuleViews.{fill_rule_of, overlay_rule_of};
 
@@ -30,10 +29,10 @@ pub fn is_in_region(fill: FillRule, rule: OverlayRule, windings: EdgeCount) -> b
 /// where a count lies farther from 0 than 2^62.
 pub fn lower_side_slowly<I: OverlayInt>(edges: &[CountedEdge<I>], at: usize) -> Option<EdgeCount>
     requires within { at < length edges.now }
-    requires in_range { All (λ e. IsEdgeWithin I.least I.greatest e.edge) (entries_of I.value edges.now) }
-    ensures is { (e : Entry Count) → slice_get (entries_of I.value edges.now) at ≡ Some e →
-        IfSome result (λ side. count_of side ≡ lower_side (entries_of I.value edges.now) e.edge) }
-    ensures none { IfNone result (All (λ e. IsCountWithin (2 ^ 62) e.count) (entries_of I.value edges.now) → ⊥) }
+    requires in_range { All (λ e. IsEdgeWithin I.least I.greatest e.edge) (entries_of edges.now) }
+    ensures is { (e : Entry Count) → slice_get (entries_of edges.now) at ≡ Some e →
+        IfSome result (λ side. count_of side ≡ lower_side (entries_of edges.now) e.edge) }
+    ensures none { IfNone result (All (λ e. IsCountWithin (2 ^ 62) e.count) (entries_of edges.now) → ⊥) }
 {
     let (x, y) = sum_of_ends(edges[at].edge);
     winding_at(edges, x, y, 2)
@@ -41,9 +40,9 @@ pub fn lower_side_slowly<I: OverlayInt>(edges: &[CountedEdge<I>], at: usize) -> 
 
 // The sums of the coordinates of an edge's ends.
 fn sum_of_ends<I: OverlayInt>(edge: XSegment<I>) -> (i64, i64)
-    requires { IsEdgeWithin I.least I.greatest (edge_of I.value edge) }
-    ensures x { result.0 ≡ I.value edge.a.x +ℤ I.value edge.b.x }
-    ensures y { result.1 ≡ I.value edge.a.y +ℤ I.value edge.b.y }
+    requires { IsEdgeWithin I.least I.greatest edge }
+    ensures x { result.0 ≡ edge.a.x +ℤ edge.b.x }
+    ensures y { result.1 ≡ edge.a.y +ℤ edge.b.y }
     ensures x_small { (neg_ℤ (pos (2 ^ 37)) ≤ℤ result.0) × (result.0 ≤ℤ pos (2 ^ 37)) }
     ensures y_small { (neg_ℤ (pos (2 ^ 37)) ≤ℤ result.1) × (result.1 ≤ℤ pos (2 ^ 37)) }
 {

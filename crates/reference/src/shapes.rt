@@ -2,7 +2,6 @@
 
 ghost use Rattle.std.specs.Prelude.{◌≡◌, List, ◌++◌, ◌<◌, All, IfOk, OnOk, IsOkUnless, length, map};
 ghost use Rattle.plane_base.specs.Plane.{IsWithin};
-ghost use Rattle.plane_base.specs.Views.{points_of};
 ghost use Rattle.plane_base.specs.GivenViews.{contours_of};
 ghost use Rattle.contour_walk.specs.Walks.{Border};
 ghost use Rattle.contour_walk.specs.Shapes.{finished, is_owned_by, answer};
@@ -28,9 +27,9 @@ pub fn answer_slowly<I: OverlayInt>(
     keep_all: bool,
     links: &[Border<I>],
 ) -> Result<IntShapes<I>, Fault>
-    requires { AreWithin I.least I.greatest (borders_of I.value links.now) }
-    ensures is { IfOk result (λ shapes. shapes_of I.value shapes.shapes.items ≡
-        answer (is_clockwise output) keep_all (borders_of I.value links.now)) }
+    requires { AreWithin I.least I.greatest (borders_of links.now) }
+    ensures is { IfOk result (λ shapes. shapes_of shapes.shapes.items ≡
+        answer (is_clockwise output) keep_all (borders_of links.now)) }
     ensures memory { IsOkUnless result Fault.Memory }
 {
     let contours = walks(alloc, is_clockwise(output), links)?;
@@ -51,13 +50,13 @@ fn add_shape<I: OverlayInt>(
     number: usize,
     shapes: &mut Vec<IntShape<I>>,
 ) -> Result<(), Fault>
-    requires in_range { ContoursAreWithin I.least I.greatest (walks_of I.value contours.now) }
+    requires in_range { ContoursAreWithin I.least I.greatest (walks_of contours.now) }
     requires within { number < length contours.now }
     requires all_owned { length owners.now ≡ length contours.now }
     ensures is { (links : List _) →
-        owners.now ≡ owners_from links (walks_of I.value contours.now) 0 (walks_of I.value contours.now) →
-        OnOk result (shapes_of I.value shapes.new.items ≡ shapes_of I.value shapes.old.items ++
-        map (map (finished keep_all)) (shape_of links (walks_of I.value contours.now) number)) }
+        owners.now ≡ owners_from links (walks_of contours.now) 0 (walks_of contours.now) →
+        OnOk result (shapes_of shapes.new.items ≡ shapes_of shapes.old.items ++
+        map (map (finished keep_all)) (shape_of links (walks_of contours.now) number)) }
     ensures memory { IsOkUnless result Fault.Memory }
 {
     let outline = &contours[number];
@@ -83,13 +82,13 @@ fn add_hole<I: OverlayInt>(
     hole: usize,
     paths: &mut Vec<IntPath<I>>,
 ) -> Result<(), Fault>
-    requires in_range { ContoursAreWithin I.least I.greatest (walks_of I.value contours.now) }
+    requires in_range { ContoursAreWithin I.least I.greatest (walks_of contours.now) }
     requires within { hole < length contours.now }
     requires all_owned { length owners.now ≡ length contours.now }
     ensures is { (links : List _) →
-        owners.now ≡ owners_from links (walks_of I.value contours.now) 0 (walks_of I.value contours.now) →
-        OnOk result (contours_of I.value paths.new.items ≡ contours_of I.value paths.old.items ++
-        map (finished keep_all) (hole_in links (walks_of I.value contours.now) outline hole)) }
+        owners.now ≡ owners_from links (walks_of contours.now) 0 (walks_of contours.now) →
+        OnOk result (contours_of paths.new.items ≡ contours_of paths.old.items ++
+        map (finished keep_all) (hole_in links (walks_of contours.now) outline hole)) }
     ensures memory { IsOkUnless result Fault.Memory }
 {
     let contour = &contours[hole];
@@ -118,9 +117,9 @@ pub fn finished<I: OverlayInt>(
     keep_all: bool,
     points: &[IntPoint<I>],
 ) -> Result<IntPath<I>, Fault>
-    requires { All (IsWithin I.least I.greatest) (points_of I.value points.now) }
-    ensures is { IfOk result (λ path. points_of I.value path.points.items ≡
-        finished keep_all (points_of I.value points.now)) }
+    requires { All (IsWithin I.least I.greatest) points.now }
+    ensures is { IfOk result (λ path. path.points.items ≡
+        finished keep_all points.now) }
     ensures memory { IsOkUnless result Fault.Memory }
 {
     if keep_all {

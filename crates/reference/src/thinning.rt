@@ -3,7 +3,6 @@
 ghost use Rattle.std.specs.Prelude.{◌≡◌, ◌↔◌, ◌<◌, pos, IsTrue, All, IfOk, IfSome, IfNone, IsOkUnless, length, remove};
 ghost use Rattle.plane_base.specs.Plane.{IsWithin, turn};
 ghost use Rattle.plane_base.specs.Thinning.{IsThinned, TakesOut, IsBare};
-ghost use Rattle.plane_base.specs.Views.{point_of, points_of};
 
 use plane_base::fault::Fault;
 use plane_base::int::OverlayInt;
@@ -18,8 +17,8 @@ pub fn thin_slowly<I: OverlayInt>(
     alloc: Global,
     points: &[IntPoint<I>],
 ) -> Result<IntPath<I>, Fault>
-    requires { All (IsWithin I.least I.greatest) (points_of I.value points.now) }
-    ensures thinned { IfOk result (λ path. IsThinned (points_of I.value points.now) (points_of I.value path.points.items)) }
+    requires { All (IsWithin I.least I.greatest) points.now }
+    ensures thinned { IfOk result (λ path. IsThinned points.now path.points.items) }
     ensures memory { IsOkUnless result Fault.Memory }
 {
     let mut left = Vec::from_slice(alloc, points)?;
@@ -36,10 +35,10 @@ pub fn thin_slowly<I: OverlayInt>(
 
 // Where the first point stands that lies on a line with its two neighbours, if one does.
 fn first_straight<I: OverlayInt>(points: &[IntPoint<I>]) -> Option<usize>
-    requires { All (IsWithin I.least I.greatest) (points_of I.value points.now) }
+    requires { All (IsWithin I.least I.greatest) points.now }
     ensures within { IfSome result (λ place. place < length points.now) }
-    ensures straight { IfSome result (λ place. TakesOut (points_of I.value points.now) (points_of I.value (remove points.now place))) }
-    ensures bare { IfNone result (IsBare (points_of I.value points.now)) }
+    ensures straight { IfSome result (λ place. TakesOut points.now (remove points.now place)) }
+    ensures bare { IfNone result (IsBare points.now) }
 {
     let n = points.len();
     if n < 3 {
@@ -61,10 +60,10 @@ fn first_straight<I: OverlayInt>(points: &[IntPoint<I>]) -> Option<usize>
 
 // Whether the three points lie on one line.
 fn is_straight<I: OverlayInt>(a: IntPoint<I>, b: IntPoint<I>, c: IntPoint<I>) -> bool
-    requires a_in_range { IsWithin I.least I.greatest (point_of I.value a) }
-    requires b_in_range { IsWithin I.least I.greatest (point_of I.value b) }
-    requires c_in_range { IsWithin I.least I.greatest (point_of I.value c) }
-    ensures { IsTrue result ↔ (turn (point_of I.value a) (point_of I.value b) (point_of I.value c) ≡ pos 0) }
+    requires a_in_range { IsWithin I.least I.greatest a }
+    requires b_in_range { IsWithin I.least I.greatest b }
+    requires c_in_range { IsWithin I.least I.greatest c }
+    ensures { IsTrue result ↔ (turn a b c ≡ pos 0) }
 {
     orientation(a, b, c).is_eq()
 }

@@ -2,7 +2,6 @@
 
 ghost use Rattle.std.specs.Prelude.{◌≡◌, All, IfSome};
 ghost use Rattle.plane_base.specs.Plane.{IsWithin};
-ghost use Rattle.plane_base.specs.Views.{point_of, points_of};
 ghost use Rattle.contour_walk.specs.Turning.{met_first, first_by_turn};
 ghost use Rattle.contour_walk.specs.WalkViews.{point_if_any};
 
@@ -17,12 +16,12 @@ pub fn first_by_turn<I: OverlayInt>(
     from: IntPoint<I>,
     points: &[IntPoint<I>],
 ) -> Option<IntPoint<I>>
-    requires center_in_range { IsWithin I.least I.greatest (point_of I.value center) }
-    requires from_in_range { IsWithin I.least I.greatest (point_of I.value from) }
-    requires points_in_range { All (IsWithin I.least I.greatest) (points_of I.value points.now) }
-    ensures is { point_if_any I.value result ≡
-        first_by_turn clockwise (point_of I.value center) (point_of I.value from) (points_of I.value points.now) }
-    ensures in_range { IfSome result (λ p. IsWithin I.least I.greatest (point_of I.value p)) }
+    requires center_in_range { IsWithin I.least I.greatest center }
+    requires from_in_range { IsWithin I.least I.greatest from }
+    requires points_in_range { All (IsWithin I.least I.greatest) points.now }
+    ensures is { point_if_any result ≡
+        first_by_turn clockwise center from points.now }
+    ensures in_range { IfSome result (λ p. IsWithin I.least I.greatest p) }
 {
     let n = points.len();
     let mut first = None;
@@ -40,14 +39,14 @@ pub(crate) fn met_first<I: OverlayInt>(
     point: IntPoint<I>,
     other: Option<IntPoint<I>>,
 ) -> IntPoint<I>
-    requires center_in_range { IsWithin I.least I.greatest (point_of I.value center) }
-    requires from_in_range { IsWithin I.least I.greatest (point_of I.value from) }
-    requires point_in_range { IsWithin I.least I.greatest (point_of I.value point) }
-    requires other_in_range { IfSome other (λ p. IsWithin I.least I.greatest (point_of I.value p)) }
-    ensures is { point_of I.value result ≡
-        met_first clockwise (point_of I.value center) (point_of I.value from)
-        (point_of I.value point) (point_if_any I.value other) }
-    ensures in_range { IsWithin I.least I.greatest (point_of I.value result) }
+    requires center_in_range { IsWithin I.least I.greatest center }
+    requires from_in_range { IsWithin I.least I.greatest from }
+    requires point_in_range { IsWithin I.least I.greatest point }
+    requires other_in_range { IfSome other (λ p. IsWithin I.least I.greatest p) }
+    ensures is { result ≡
+        met_first clockwise center from
+        point (point_if_any other) }
+    ensures in_range { IsWithin I.least I.greatest result }
 {
     match other {
         None => point,

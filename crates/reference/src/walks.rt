@@ -4,8 +4,6 @@
 ghost use Rattle.std.specs.Prelude.{◌≡◌, ◌↔◌, IsTrue, ◌++◌, ◌∷◌, [], pos, int_lt, All, IfOk, OnOk, IfSome, IsOkUnless};
 ghost use Rattle.plane_base.specs.Plane.{IsWithin, turn};
 ghost use Rattle.plane_base.specs.Segments.{IsEdgeWithin};
-ghost use Rattle.plane_base.specs.Views.{point_of, points_of};
-ghost use Rattle.plane_base.specs.SegmentViews.{edge_of};
 ghost use Rattle.contour_walk.specs.Walks.{same_point, same_edge, touches, far_end, without, next_point, upper, top_link, walked, walk_from};
 ghost use Rattle.contour_walk.specs.WalkViews.{point_if_any, border_of, borders_of, border_if_any, next_with, top_beside, AreWithin};
 
@@ -22,7 +20,7 @@ use std::cmp::Ordering;
 
 /// Whether each coordinate of each link lies in its type's range.
 pub fn all_links_in_range<I: OverlayInt>(links: &[Border<I>]) -> bool
-    ensures { IsTrue result ↔ AreWithin I.least I.greatest (borders_of I.value links.now) }
+    ensures { IsTrue result ↔ AreWithin I.least I.greatest (borders_of links.now) }
 {
     for link in links {
         if !is_link_in_range(*link) {
@@ -34,7 +32,7 @@ pub fn all_links_in_range<I: OverlayInt>(links: &[Border<I>]) -> bool
 
 // Whether both ends lie in their type's range.
 fn is_link_in_range<I: OverlayInt>(link: Border<I>) -> bool
-    ensures { IsTrue result ↔ IsEdgeWithin I.least I.greatest (border_of I.value link).edge }
+    ensures { IsTrue result ↔ IsEdgeWithin I.least I.greatest (border_of link).edge }
 {
     let XSegment { a, b } = link.edge;
     is_in_range(a) && is_in_range(b)
@@ -48,12 +46,12 @@ pub fn next_point<I: OverlayInt>(
     v: IntPoint<I>,
     from: IntPoint<I>,
 ) -> Option<IntPoint<I>>
-    requires links_in_range { AreWithin I.least I.greatest (borders_of I.value links.now) }
-    requires v_in_range { IsWithin I.least I.greatest (point_of I.value v) }
-    requires from_in_range { IsWithin I.least I.greatest (point_of I.value from) }
-    ensures is { point_if_any I.value result ≡
-        next_point clockwise (borders_of I.value links.now) (point_of I.value v) (point_of I.value from) }
-    ensures in_range { IfSome result (λ p. IsWithin I.least I.greatest (point_of I.value p)) }
+    requires links_in_range { AreWithin I.least I.greatest (borders_of links.now) }
+    requires v_in_range { IsWithin I.least I.greatest v }
+    requires from_in_range { IsWithin I.least I.greatest from }
+    ensures is { point_if_any result ≡
+        next_point clockwise (borders_of links.now) v from }
+    ensures in_range { IfSome result (λ p. IsWithin I.least I.greatest p) }
 {
     let n = links.len();
     let mut first = None;
@@ -71,13 +69,13 @@ fn met_first_with<I: OverlayInt>(
     from: IntPoint<I>,
     first: Option<IntPoint<I>>,
 ) -> Option<IntPoint<I>>
-    requires link_in_range { IsEdgeWithin I.least I.greatest (edge_of I.value link.edge) }
-    requires v_in_range { IsWithin I.least I.greatest (point_of I.value v) }
-    requires from_in_range { IsWithin I.least I.greatest (point_of I.value from) }
-    requires first_in_range { IfSome first (λ p. IsWithin I.least I.greatest (point_of I.value p)) }
-    ensures is { point_if_any I.value result ≡
-        next_with clockwise (border_of I.value link) (point_of I.value v) (point_of I.value from) (point_if_any I.value first) }
-    ensures in_range { IfSome result (λ p. IsWithin I.least I.greatest (point_of I.value p)) }
+    requires link_in_range { IsEdgeWithin I.least I.greatest link.edge }
+    requires v_in_range { IsWithin I.least I.greatest v }
+    requires from_in_range { IsWithin I.least I.greatest from }
+    requires first_in_range { IfSome first (λ p. IsWithin I.least I.greatest p) }
+    ensures is { point_if_any result ≡
+        next_with clockwise (border_of link) v from (point_if_any first) }
+    ensures in_range { IfSome result (λ p. IsWithin I.least I.greatest p) }
 {
     if !touches(v, link.edge) {
         return first;
@@ -86,15 +84,15 @@ fn met_first_with<I: OverlayInt>(
 }
 
 fn touches<I: OverlayInt>(v: IntPoint<I>, edge: XSegment<I>) -> bool
-    ensures { result ≡ touches (point_of I.value v) (edge_of I.value edge) }
+    ensures { result ≡ touches v edge }
 {
     is_same_point(edge.a, v) || is_same_point(edge.b, v)
 }
 
 fn far_end<I: OverlayInt>(v: IntPoint<I>, edge: XSegment<I>) -> IntPoint<I>
-    requires { IsEdgeWithin I.least I.greatest (edge_of I.value edge) }
-    ensures is { point_of I.value result ≡ far_end (point_of I.value v) (edge_of I.value edge) }
-    ensures in_range { IsWithin I.least I.greatest (point_of I.value result) }
+    requires { IsEdgeWithin I.least I.greatest edge }
+    ensures is { result ≡ far_end v edge }
+    ensures in_range { IsWithin I.least I.greatest result }
 {
     if is_same_point(edge.a, v) {
         edge.b
@@ -105,9 +103,9 @@ fn far_end<I: OverlayInt>(v: IntPoint<I>, edge: XSegment<I>) -> IntPoint<I>
 
 /// The link that starts at the point and has no other such link to its left.
 pub fn top_link<I: OverlayInt>(v: IntPoint<I>, links: &[Border<I>]) -> Option<Border<I>>
-    requires { AreWithin I.least I.greatest (borders_of I.value links.now) }
-    ensures is { border_if_any I.value result ≡ top_link (point_of I.value v) (borders_of I.value links.now) }
-    ensures in_range { IfSome result (λ l. IsEdgeWithin I.least I.greatest (edge_of I.value l.edge)) }
+    requires { AreWithin I.least I.greatest (borders_of links.now) }
+    ensures is { border_if_any result ≡ top_link v (borders_of links.now) }
+    ensures in_range { IfSome result (λ l. IsEdgeWithin I.least I.greatest l.edge) }
 {
     let n = links.len();
     let mut top = None;
@@ -123,11 +121,11 @@ fn top_with<I: OverlayInt>(
     link: Border<I>,
     top: Option<Border<I>>,
 ) -> Option<Border<I>>
-    requires link_in_range { IsEdgeWithin I.least I.greatest (edge_of I.value link.edge) }
-    requires top_in_range { IfSome top (λ l. IsEdgeWithin I.least I.greatest (edge_of I.value l.edge)) }
-    ensures is { border_if_any I.value result ≡
-        top_beside (point_of I.value v) (border_of I.value link) (border_if_any I.value top) }
-    ensures in_range { IfSome result (λ l. IsEdgeWithin I.least I.greatest (edge_of I.value l.edge)) }
+    requires link_in_range { IsEdgeWithin I.least I.greatest link.edge }
+    requires top_in_range { IfSome top (λ l. IsEdgeWithin I.least I.greatest l.edge) }
+    ensures is { border_if_any result ≡
+        top_beside v (border_of link) (border_if_any top) }
+    ensures in_range { IfSome result (λ l. IsEdgeWithin I.least I.greatest l.edge) }
 {
     if !starts_at(v, &link) {
         return top;
@@ -136,17 +134,17 @@ fn top_with<I: OverlayInt>(
 }
 
 fn starts_at<I: OverlayInt>(v: IntPoint<I>, link: &Border<I>) -> bool
-    ensures { result ≡ same_point (point_of I.value link.now.edge.a) (point_of I.value v) }
+    ensures { result ≡ same_point link.now.edge.a v }
 {
     is_same_point(link.edge.a, v)
 }
 
 // Of two links from one point that to the left of the other.
 fn upper<I: OverlayInt>(link: Border<I>, other: Option<Border<I>>) -> Border<I>
-    requires link_in_range { IsEdgeWithin I.least I.greatest (edge_of I.value link.edge) }
-    requires other_in_range { IfSome other (λ l. IsEdgeWithin I.least I.greatest (edge_of I.value l.edge)) }
-    ensures is { border_of I.value result ≡ upper (border_of I.value link) (border_if_any I.value other) }
-    ensures in_range { IsEdgeWithin I.least I.greatest (edge_of I.value result.edge) }
+    requires link_in_range { IsEdgeWithin I.least I.greatest link.edge }
+    requires other_in_range { IfSome other (λ l. IsEdgeWithin I.least I.greatest l.edge) }
+    ensures is { border_of result ≡ upper (border_of link) (border_if_any other) }
+    ensures in_range { IsEdgeWithin I.least I.greatest result.edge }
 {
     match other {
         None => link,
@@ -156,10 +154,10 @@ fn upper<I: OverlayInt>(link: Border<I>, other: Option<Border<I>>) -> Border<I>
 
 // Whether a link ends to the left of another from the same point.
 fn is_upper<I: OverlayInt>(one: &Border<I>, other: &Border<I>) -> bool
-    requires one_in_range { IsEdgeWithin I.least I.greatest (edge_of I.value one.now.edge) }
-    requires other_in_range { IsEdgeWithin I.least I.greatest (edge_of I.value other.now.edge) }
+    requires one_in_range { IsEdgeWithin I.least I.greatest one.now.edge }
+    requires other_in_range { IsEdgeWithin I.least I.greatest other.now.edge }
     ensures { result ≡
-        int_lt (pos 0) (turn (edge_of I.value other.now.edge).a (edge_of I.value other.now.edge).b (point_of I.value one.now.edge.b)) }
+        int_lt (pos 0) (turn other.now.edge.a other.now.edge.b one.now.edge.b) }
 {
     orientation(other.edge.a, other.edge.b, one.edge.b) == Ordering::Greater
 }
@@ -170,10 +168,10 @@ pub fn without<I: OverlayInt>(
     links: &[Border<I>],
     edge: XSegment<I>,
 ) -> Result<Vec<Border<I>>, Fault>
-    requires { AreWithin I.least I.greatest (borders_of I.value links.now) }
-    ensures is { IfOk result (λ left. borders_of I.value left.items ≡
-        without (edge_of I.value edge) (borders_of I.value links.now)) }
-    ensures in_range { IfOk result (λ left. AreWithin I.least I.greatest (borders_of I.value left.items)) }
+    requires { AreWithin I.least I.greatest (borders_of links.now) }
+    ensures is { IfOk result (λ left. borders_of left.items ≡
+        without edge (borders_of links.now)) }
+    ensures in_range { IfOk result (λ left. AreWithin I.least I.greatest (borders_of left.items)) }
     ensures memory { IsOkUnless result Fault.Memory }
 {
     let mut left = Vec::new(alloc);
@@ -189,8 +187,8 @@ fn keep_unless<I: OverlayInt>(
     link: Border<I>,
     edge: XSegment<I>,
 ) -> Result<(), Fault>
-    ensures is { OnOk result (borders_of I.value left.new.items ≡ borders_of I.value left.old.items ++
-        without (edge_of I.value edge) (border_of I.value link ∷ [])) }
+    ensures is { OnOk result (borders_of left.new.items ≡ borders_of left.old.items ++
+        without edge (border_of link ∷ [])) }
     ensures memory { IsOkUnless result Fault.Memory }
 {
     if is_edge(&link, edge) {
@@ -201,7 +199,7 @@ fn keep_unless<I: OverlayInt>(
 }
 
 fn is_edge<I: OverlayInt>(link: &Border<I>, edge: XSegment<I>) -> bool
-    ensures { result ≡ same_edge (edge_of I.value link.now.edge) (edge_of I.value edge) }
+    ensures { result ≡ same_edge link.now.edge edge }
 {
     is_same_edge(link.edge, edge)
 }
@@ -214,12 +212,12 @@ pub fn walk_from<I: OverlayInt>(
     first: IntPoint<I>,
     second: IntPoint<I>,
 ) -> Result<Vec<IntPoint<I>>, Fault>
-    requires links_in_range { AreWithin I.least I.greatest (borders_of I.value links.now) }
-    requires first_in_range { IsWithin I.least I.greatest (point_of I.value first) }
-    requires second_in_range { IsWithin I.least I.greatest (point_of I.value second) }
-    ensures is { IfOk result (λ points. points_of I.value points.items ≡
-        walk_from clockwise (borders_of I.value links.now) (point_of I.value first) (point_of I.value second)) }
-    ensures in_range { IfOk result (λ points. All (IsWithin I.least I.greatest) (points_of I.value points.items)) }
+    requires links_in_range { AreWithin I.least I.greatest (borders_of links.now) }
+    requires first_in_range { IsWithin I.least I.greatest first }
+    requires second_in_range { IsWithin I.least I.greatest second }
+    ensures is { IfOk result (λ points. points.items ≡
+        walk_from clockwise (borders_of links.now) first second) }
+    ensures in_range { IfOk result (λ points. All (IsWithin I.least I.greatest) points.items) }
     ensures memory { IsOkUnless result Fault.Memory }
 {
     let left = without(alloc, links, between(first, second))?;
@@ -252,14 +250,14 @@ fn walk_on<I: OverlayInt>(
     from: IntPoint<I>,
     points: &mut Vec<IntPoint<I>>,
 ) -> Result<(), Fault>
-    requires links_in_range { AreWithin I.least I.greatest (borders_of I.value links.items) }
-    requires v_in_range { IsWithin I.least I.greatest (point_of I.value v) }
-    requires from_in_range { IsWithin I.least I.greatest (point_of I.value from) }
-    requires points_in_range { All (IsWithin I.least I.greatest) (points_of I.value points.old.items) }
-    ensures is { OnOk result (points_of I.value points.new.items ≡ points_of I.value points.old.items ++
-        walked clockwise (edge_of I.value last) steps
-        (borders_of I.value links.items) (point_of I.value v) (point_of I.value from)) }
-    ensures in_range { OnOk result (All (IsWithin I.least I.greatest) (points_of I.value points.new.items)) }
+    requires links_in_range { AreWithin I.least I.greatest (borders_of links.items) }
+    requires v_in_range { IsWithin I.least I.greatest v }
+    requires from_in_range { IsWithin I.least I.greatest from }
+    requires points_in_range { All (IsWithin I.least I.greatest) points.old.items }
+    ensures is { OnOk result (points.new.items ≡ points.old.items ++
+        walked clockwise last steps
+        (borders_of links.items) v from) }
+    ensures in_range { OnOk result (All (IsWithin I.least I.greatest) points.new.items) }
     ensures memory { IsOkUnless result Fault.Memory }
 {
     let alloc = *points.allocator();

@@ -6,8 +6,6 @@ ghost use Rattle.plane_base.specs.Plane.{IsWithin, point_order, scaled, numerato
 ghost use Rattle.plane_base.specs.Segments.{IsEdgeWithin};
 ghost use Rattle.plane_base.specs.Counts.{boolean};
 ghost use Rattle.plane_base.specs.Windings.{winding, contour_winding, IsOff};
-ghost use Rattle.plane_base.specs.Views.{point_of, points_of};
-ghost use Rattle.plane_base.specs.SegmentViews.{edge_of};
 ghost use Rattle.plane_base.specs.GivenViews.{contours_of};
 ghost use Rattle.reference.specs.MapViews.{count_of, entries_of, IsCountWithin};
 
@@ -21,8 +19,8 @@ use plane_base::segment::XSegment;
 
 /// How often contours wind round the point (x / q, y / q): what each of their steps adds, summed.
 pub fn contour_winding_at<I: OverlayInt>(contours: &[IntPath<I>], x: i64, y: i64, q: u32) -> i128
-    requires { All (All (IsWithin I.least I.greatest)) (contours_of I.value contours.now) }
-    ensures { result ≡ contour_winding (contours_of I.value contours.now) (record { x = x; y = y; q = q }) }
+    requires { All (All (IsWithin I.least I.greatest)) (contours_of contours.now) }
+    ensures { result ≡ contour_winding (contours_of contours.now) (record { x = x; y = y; q = q }) }
 {
     let mut sum = 0;
     for contour in contours {
@@ -33,8 +31,8 @@ pub fn contour_winding_at<I: OverlayInt>(contours: &[IntPath<I>], x: i64, y: i64
 
 // How often a contour winds round the point.
 fn winding_of_contour<I: OverlayInt>(points: &[IntPoint<I>], x: i64, y: i64, q: u32) -> i128
-    requires { All (IsWithin I.least I.greatest) (points_of I.value points.now) }
-    ensures is { result ≡ contour_winding (points_of I.value points.now ∷ []) (record { x = x; y = y; q = q }) }
+    requires { All (IsWithin I.least I.greatest) points.now }
+    ensures is { result ≡ contour_winding (points.now ∷ []) (record { x = x; y = y; q = q }) }
     ensures above { neg_ℤ (pos (length points.now)) ≤ℤ result }
     ensures below { result ≤ℤ pos (length points.now) }
 {
@@ -56,10 +54,10 @@ pub fn winding_at<I: OverlayInt>(
     y: i64,
     q: u32,
 ) -> Option<EdgeCount>
-    requires { All (λ e. IsEdgeWithin I.least I.greatest e.edge) (entries_of I.value edges.now) }
-    ensures is { IfSome result (λ count. count_of count ≡ winding (entries_of I.value edges.now) (record { x = x; y = y; q = q })) }
-    ensures small { IfSome result (λ _. All (λ e. IsCountWithin (2 ^ 62) e.count) (entries_of I.value edges.now)) }
-    ensures none { IfNone result (All (λ e. IsCountWithin (2 ^ 62) e.count) (entries_of I.value edges.now) → ⊥) }
+    requires { All (λ e. IsEdgeWithin I.least I.greatest e.edge) (entries_of edges.now) }
+    ensures is { IfSome result (λ count. count_of count ≡ winding (entries_of edges.now) (record { x = x; y = y; q = q })) }
+    ensures small { IfSome result (λ _. All (λ e. IsCountWithin (2 ^ 62) e.count) (entries_of edges.now)) }
+    ensures none { IfNone result (All (λ e. IsCountWithin (2 ^ 62) e.count) (entries_of edges.now) → ⊥) }
 {
     let mut sum = EdgeCount {
         subject: 0,
@@ -90,10 +88,10 @@ fn count_below<I: OverlayInt>(
     y: i64,
     q: u32,
 ) -> EdgeCount
-    requires { IsEdgeWithin I.least I.greatest (edge_of I.value edge) }
+    requires { IsEdgeWithin I.least I.greatest edge }
     ensures subject { result.subject
-        ≡ cond (is_below (point_of I.value edge.a) (point_of I.value edge.b) (record { x = x; y = y; q = q })) count.subject (pos 0) }
-    ensures clip { result.clip ≡ cond (is_below (point_of I.value edge.a) (point_of I.value edge.b) (record { x = x; y = y; q = q })) count.clip (pos 0) }
+        ≡ cond (is_below edge.a edge.b (record { x = x; y = y; q = q })) count.subject (pos 0) }
+    ensures clip { result.clip ≡ cond (is_below edge.a edge.b (record { x = x; y = y; q = q })) count.clip (pos 0) }
 {
     if passes_below(edge.a, edge.b, x, y, q) {
         return count;
@@ -117,8 +115,8 @@ fn summed(sum: EdgeCount, count: EdgeCount) -> EdgeCount
 
 /// Whether the point (x / q, y / q) lies on no edge of a map.
 pub fn is_off<I: OverlayInt>(edges: &[CountedEdge<I>], x: i64, y: i64, q: u32) -> bool
-    requires { All (λ e. IsEdgeWithin I.least I.greatest e.edge) (entries_of I.value edges.now) }
-    ensures { IsTrue result ↔ IsOff (entries_of I.value edges.now) (record { x = x; y = y; q = q }) }
+    requires { All (λ e. IsEdgeWithin I.least I.greatest e.edge) (entries_of edges.now) }
+    ensures { IsTrue result ↔ IsOff (entries_of edges.now) (record { x = x; y = y; q = q }) }
 {
     for edge in edges {
         if is_on(edge.edge, x, y, q) {
@@ -130,8 +128,8 @@ pub fn is_off<I: OverlayInt>(edges: &[CountedEdge<I>], x: i64, y: i64, q: u32) -
 
 // Whether the point lies on an edge, its ends included.
 fn is_on<I: OverlayInt>(edge: XSegment<I>, x: i64, y: i64, q: u32) -> bool
-    requires { IsEdgeWithin I.least I.greatest (edge_of I.value edge) }
-    ensures { result ≡ lies_on (edge_of I.value edge) (record { x = x; y = y; q = q }) }
+    requires { IsEdgeWithin I.least I.greatest edge }
+    ensures { result ≡ lies_on edge (record { x = x; y = y; q = q }) }
 {
     if side_of(edge.a, edge.b, x, y, q) != 0 {
         return false;
@@ -144,8 +142,8 @@ fn is_on<I: OverlayInt>(edge: XSegment<I>, x: i64, y: i64, q: u32) -> bool
 
 // Whether the point is `a`, or comes after it.
 fn is_from<I: OverlayInt>(a: IntPoint<I>, x: i64, y: i64, q: u32) -> bool
-    requires { IsWithin I.least I.greatest (point_of I.value a) }
-    ensures { result ≡ is_le (point_order (scaled q (point_of I.value a)) (numerators (record { x = x; y = y; q = q }))) }
+    requires { IsWithin I.least I.greatest a }
+    ensures { result ≡ is_le (point_order (scaled q a) (numerators (record { x = x; y = y; q = q }))) }
 {
     let along = distance(x, q, a.x);
     if along != 0 {
@@ -156,8 +154,8 @@ fn is_from<I: OverlayInt>(a: IntPoint<I>, x: i64, y: i64, q: u32) -> bool
 
 // Whether the point is `b`, or comes before it.
 fn is_up_to<I: OverlayInt>(b: IntPoint<I>, x: i64, y: i64, q: u32) -> bool
-    requires { IsWithin I.least I.greatest (point_of I.value b) }
-    ensures { result ≡ is_le (point_order (numerators (record { x = x; y = y; q = q })) (scaled q (point_of I.value b))) }
+    requires { IsWithin I.least I.greatest b }
+    ensures { result ≡ is_le (point_order (numerators (record { x = x; y = y; q = q })) (scaled q b)) }
 {
     let along = distance(x, q, b.x);
     if along != 0 {
@@ -168,7 +166,7 @@ fn is_up_to<I: OverlayInt>(b: IntPoint<I>, x: i64, y: i64, q: u32) -> bool
 
 /// Whether each coordinate of each edge lies in its type's range.
 pub fn all_edges_in_range<I: OverlayInt>(edges: &[CountedEdge<I>]) -> bool
-    ensures { IsTrue result ↔ All (λ e. IsEdgeWithin I.least I.greatest e.edge) (entries_of I.value edges.now) }
+    ensures { IsTrue result ↔ All (λ e. IsEdgeWithin I.least I.greatest e.edge) (entries_of edges.now) }
 {
     for edge in edges {
         if !is_edge_in_range(edge.edge) {
@@ -180,16 +178,16 @@ pub fn all_edges_in_range<I: OverlayInt>(edges: &[CountedEdge<I>]) -> bool
 
 // Whether both ends lie in their type's range.
 fn is_edge_in_range<I: OverlayInt>(edge: XSegment<I>) -> bool
-    ensures { IsTrue result ↔ IsEdgeWithin I.least I.greatest (edge_of I.value edge) }
+    ensures { IsTrue result ↔ IsEdgeWithin I.least I.greatest edge }
 {
     is_in_range(edge.a) && is_in_range(edge.b)
 }
 
 // What a step adds to the winding.
 fn winding_of_step<I: OverlayInt>(from: IntPoint<I>, to: IntPoint<I>, x: i64, y: i64, q: u32) -> i64
-    requires from_in_range { IsWithin I.least I.greatest (point_of I.value from) }
-    requires to_in_range { IsWithin I.least I.greatest (point_of I.value to) }
-    ensures is { result ≡ step_winding (point_of I.value from) (point_of I.value to) (record { x = x; y = y; q = q }) }
+    requires from_in_range { IsWithin I.least I.greatest from }
+    requires to_in_range { IsWithin I.least I.greatest to }
+    ensures is { result ≡ step_winding from to (record { x = x; y = y; q = q }) }
     ensures above { negsuc 0 ≤ℤ result }
     ensures below { result ≤ℤ pos 1 }
 {
@@ -204,9 +202,9 @@ fn winding_of_step<I: OverlayInt>(from: IntPoint<I>, to: IntPoint<I>, x: i64, y:
 
 // Whether the way from `a` to `b`, rightward, passes strictly below the point (x / q, y / q).
 fn passes_below<I: OverlayInt>(a: IntPoint<I>, b: IntPoint<I>, x: i64, y: i64, q: u32) -> bool
-    requires a_in_range { IsWithin I.least I.greatest (point_of I.value a) }
-    requires b_in_range { IsWithin I.least I.greatest (point_of I.value b) }
-    ensures { result ≡ is_below (point_of I.value a) (point_of I.value b) (record { x = x; y = y; q = q }) }
+    requires a_in_range { IsWithin I.least I.greatest a }
+    requires b_in_range { IsWithin I.least I.greatest b }
+    ensures { result ≡ is_below a b (record { x = x; y = y; q = q }) }
 {
     if distance(x, q, a.x) < 0 {
         return false;
@@ -219,9 +217,9 @@ fn passes_below<I: OverlayInt>(a: IntPoint<I>, b: IntPoint<I>, x: i64, y: i64, q
 
 // Above 0 where the point lies left of the way from `a` to `b`.
 fn side_of<I: OverlayInt>(a: IntPoint<I>, b: IntPoint<I>, x: i64, y: i64, q: u32) -> i128
-    requires a_in_range { IsWithin I.least I.greatest (point_of I.value a) }
-    requires b_in_range { IsWithin I.least I.greatest (point_of I.value b) }
-    ensures { result ≡ side (point_of I.value a) (point_of I.value b) (record { x = x; y = y; q = q }) }
+    requires a_in_range { IsWithin I.least I.greatest a }
+    requires b_in_range { IsWithin I.least I.greatest b }
+    ensures { result ≡ side a b (record { x = x; y = y; q = q }) }
 {
     wide_product(difference(b.x, a.x), distance(y, q, a.y))
         - wide_product(difference(b.y, a.y), distance(x, q, a.x))

@@ -1,12 +1,12 @@
 -- Rules that fill alike give the same links.
-use Rattle.std.proofs.Common.{◌≡◌, ℕ, ◌+◌, ◌*◌, ◌+ℤ◌, ℤ, pos, negsuc, Bool, true, false, cond, ◌&&◌, int_lt, int_le, List, [], ◌∷◌, map, filter, refl, sym, ap, ap₂, ◌∙◌, arith}
+use Rattle.std.proofs.Common.{◌≡◌, ◌+◌, ◌*◌, ◌+ℤ◌, ℤ, pos, Bool, true, false, cond, ◌&&◌, int_lt, int_le, List, [], ◌∷◌, map, filter, refl, ap, ap₂, ◌∙◌, arith}
 use Rattle.std.proofs.lemmas.Int.{ints}
 use Rattle.plane_base.specs.Counts.{Count, Entry}
-use Rattle.plane_base.specs.Regions.{FillRule, AtLeast, Positive, OverlayRule, is_filled, holds, region}
+use Rattle.plane_base.specs.Regions.{FillRule, OverlayRule, holds, region}
 use Rattle.segment_split.specs.Strings.{StringCount, mask_of}
-use Rattle.segment_arrangement.specs.EdgeSides.{bit, lower_side, upper_side, fill_bits, fill_of, differ, is_boundary, boundary}
-use Rattle.segment_arrangement.specs.Graphs.{Link, link_of, all_links, boundary_links}
-use Rattle.segment_arrangement.specs.Strings.{subject_of, string_fill, string_link_of, all_string_links}
+use Rattle.segment_arrangement.specs.EdgeSides.{bit, lower_side, upper_side, fill_bits, differ, is_boundary, boundary}
+use Rattle.segment_arrangement.specs.Graphs.{Link, link_of}
+use Rattle.segment_arrangement.specs.Strings.{subject_of, string_fill, string_link_of}
 use Rattle.segment_arrangement.specs.RuleLaws.{FillAlike, OnceIsPositive, AlikeRulesLinkAlike}
 
 pub once_is_positive : OnceIsPositive

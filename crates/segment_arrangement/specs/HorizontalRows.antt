@@ -4,7 +4,6 @@ use Rattle.std.specs.Prelude.{List, take, drop, length, slice_index_or, AllPairs
 use Rattle.i_tree.specs.Steps.{Counts, CountsExactly}
 use Rattle.plane_base.specs.Plane.{Edge}
 use Rattle.plane_base.specs.Counts.{Count, Entry}
-use Rattle.plane_base.specs.Views.{point_of}
 use Rattle.segment_split.specs.PlaceSet.{is_member, members}
 use Rattle.segment_arrangement.specs.EdgeSides.{lower_side, upper_side}
 use Rattle.segment_arrangement.specs.declared.rectilinear_sides.HorizontalEnd.{HorizontalEnd}
@@ -53,16 +52,16 @@ pub record HoldEnds {I : Type 0} (value : I → ℤ) (es : List (Entry Count)) (
 -- ---- a vertical edge
 
 -- the second end of a vertical edge of the map, with what lies to the right of that edge
-pub record IsVerticalEnd {I : Type 0} (value : I → ℤ) (es : List (Entry Count)) (end : VerticalEnd I) : Type 0 where
+pub record IsVerticalEnd {I : Type 0} (es : List (Entry Count)) (end : VerticalEnd I) : Type 0 where
   pub of : Entry Count
   pub here : Contains es of
   pub vertical : of.edge.a.x ≡ of.edge.b.x
-  pub point : of.edge.b ≡ point_of value end.point
+  pub point : of.edge.b ≡ end.point
   pub right : end.right ≡ lower_side es of.edge
 
-abbrev pub HoldsVertical : {I : Type 0} → (I → ℤ) → List (Entry Count) → Option (VerticalEnd I) → Type 0
-HoldsVertical value es None = Unit {0}
-HoldsVertical value es (Some end) = IsVerticalEnd value es end
+abbrev pub HoldsVertical : {I : Type 0} → List (Entry Count) → Option (VerticalEnd I) → Type 0
+HoldsVertical es None = Unit {0}
+HoldsVertical es (Some end) = IsVerticalEnd es end
 
 -- ---- the search for what lies below a point
 

@@ -31,12 +31,11 @@ pub use Rattle.plane_base.specs.Regions
 pub use Rattle.plane_base.specs.Segments
 pub use Rattle.plane_base.specs.Views
 pub use Rattle.plane_base.specs.declared.fault.Fault
-pub use Rattle.plane_base.specs.declared.point.IntPoint
 -- of segments, counts and solvers
 pub use Rattle.segment_split.specs.SegmentViews
 pub use Rattle.segment_split.specs.Groups
 pub use Rattle.segment_split.specs.Strings as StringCounts
-pub use Rattle.segment_split.specs.declared.segment.Segment
+pub use Rattle.segment_split.specs.SegmentParts
 pub use Rattle.segment_split.specs.declared.count.ShapeCountBoolean
 pub use Rattle.segment_split.specs.declared.count.ShapeCountString
 pub use Rattle.segment_split.specs.declared.solver.Precision

@@ -1,22 +1,21 @@
 -- What contracts see of links and nodes.
-use Rattle.std.specs.Prelude.{◌≡◌, ◌↔◌, ℕ, ◌<◌, ℤ, Bool, true, false, List, map, length, slice_index_or, All}
+use Rattle.std.specs.Prelude.{◌≡◌, ◌↔◌, ℕ, ◌<◌, Bool, true, false, List, map, length, slice_index_or, All}
 use Rattle.plane_base.specs.Plane.{Point, Edge}
-use Rattle.plane_base.specs.Views.{point_of}
 use Rattle.plane_base.specs.declared.segment.IdPoint.{IdPoint}
 use Rattle.segment_arrangement.specs.Graphs.{Link, ends_of, AreLists}
 use Rattle.segment_arrangement.specs.declared.link.OverlayLink.{OverlayLink}
 use Rattle.segment_arrangement.specs.declared.node.OverlayNode.{OverlayNode}
 use Rattle.segment_arrangement.specs.declared.node.OverlayNode.TheVariants.{Bridge, Cross}
 
-abbrev pub link_edge_of : {I D : Type 0} → (I → ℤ) → OverlayLink I D → Edge
-link_edge_of value l = record { a = point_of value l.a.point; b = point_of value l.b.point }
+abbrev pub link_edge_of : {I D : Type 0} → OverlayLink I D → Edge
+link_edge_of l = record { a = l.a.point; b = l.b.point }
 
-abbrev pub overlay_link_of : {I D : Type 0} → (I → ℤ) → OverlayLink I D → Link
-overlay_link_of value l = record { edge = link_edge_of value l; fill = l.fill }
+abbrev pub overlay_link_of : {I D : Type 0} → OverlayLink I D → Link
+overlay_link_of l = record { edge = link_edge_of l; fill = l.fill }
 
 -- a link without the numbers of its nodes
-abbrev pub link_parts : {I D : Type 0} → (I → ℤ) → OverlayLink I D → Link × D
-link_parts value l = (overlay_link_of value l, l.datum)
+abbrev pub link_parts : {I D : Type 0} → OverlayLink I D → Link × D
+link_parts l = (overlay_link_of l, l.datum)
 
 -- ---- nodes
 
@@ -40,10 +39,10 @@ pub record AreNodes (edges : List Edge) (nodes : List OverlayNode) : Type 0 wher
   pub bridges : All IsBridgeOfTwo nodes
 
 -- the number is that of the node at the end's point
-abbrev pub IsNumbered : {I : Type 0} → (I → ℤ) → List Point → IdPoint I → Type 0
-IsNumbered value points p = (p.id < length points) × ((d : Point) → slice_index_or points p.id d ≡ point_of value p.point)
+abbrev pub IsNumbered : {I : Type 0} → List Point → IdPoint I → Type 0
+IsNumbered points p = (p.id < length points) × ((d : Point) → slice_index_or points p.id d ≡ p.point)
 
 -- both ends of each link have the numbers of their nodes
-abbrev pub AreNumbered : {I D : Type 0} → (I → ℤ) → List (OverlayLink I D) → Type 0
-AreNumbered value links =
-    let points = ends_of (map (link_edge_of value) links) in All (λ l. IsNumbered value points l.a × IsNumbered value points l.b) links
+abbrev pub AreNumbered : {I D : Type 0} → List (OverlayLink I D) → Type 0
+AreNumbered links =
+    let points = ends_of (map link_edge_of links) in All (λ l. IsNumbered points l.a × IsNumbered points l.b) links

@@ -9,9 +9,7 @@ use Rattle.plane_base.specs.Counts.{Count, Entry, boolean}
 use Rattle.plane_base.specs.Regions.{FillRule}
 use Rattle.plane_base.specs.Segments.{order_against}
 use Rattle.segment_arrangement.specs.EdgeSides.{lower_side, upper_side}
-use Rattle.plane_base.specs.SegmentViews.{edge_of}
-use Rattle.plane_base.specs.declared.segment.XSegment.{XSegment}
-use Rattle.segment_split.specs.declared.segment.Segment.{Segment}
+use Rattle.segment_split.specs.SegmentParts.{Segment}
 use Rattle.segment_arrangement.specs.declared.fan.FanItem.{FanItem}
 use Rattle.segment_arrangement.specs.declared.sweep.SegmentSides.{SegmentSides}
 
@@ -24,17 +22,17 @@ abbrev pub sides_at : {C : Type 0} → (C → Count) → (FillRule → Count →
 sides_at sides filled rule lower count i = sides_between sides filled rule (lower i) (count i)
 
 -- what a fan keeps of the segment at a place
-pub record IsItemOf {I W : Type 0} {int order equality part wide wide_order wide_equality wide_part : _} (value : I → ℤ) (place : ℕ) (s : XSegment I)
-    (item : FanItem I W int order equality part wide wide_order wide_equality wide_part) : Type 0 where
+pub record IsItemOf {I W : Type 0} {int number order equality part wide wide_order wide_equality wide_part : _} (place : ℕ) (s : Edge)
+    (item : FanItem I W int number order equality part wide wide_order wide_equality wide_part) : Type 0 where
   pub index : item.index ≡ place
-  pub width : item.width ≡ value s.b.x -ℤ value s.a.x
-  pub climb : item.climb ≡ value s.b.y -ℤ value s.a.y
+  pub width : item.width ≡ s.b.x -ℤ s.a.x
+  pub climb : item.climb ≡ s.b.y -ℤ s.a.y
 
 -- the sides of a segment of a map
 abbrev pub sides_of_segment :
-    {C I D : Type 0} {order equality part : _} → (C → Count) → (FillRule → Count → C → ℕ) → (I → ℤ) → FillRule → List (Entry Count)
-    → Segment C I D order equality part → SegmentSides
-sides_of_segment sides filled value rule es s = sides_between sides filled rule (lower_side es (edge_of value s.x_segment)) s.count
+    {C D : Type 0} → (C → Count) → (FillRule → Count → C → ℕ) → FillRule → List (Entry Count)
+    → Segment C D → SegmentSides
+sides_of_segment sides filled rule es s = sides_between sides filled rule (lower_side es s.x_segment) s.count
 
 -- the live entries are these edges, each with what lies above it
 pub record HoldsUppers {K : Type 0} (edge : K → Edge) (es list : List (Entry Count)) (live : List (K × Count)) : Type 0 where

@@ -50,12 +50,12 @@ pub struct GraphBuilder<I: OverlayInt, D> {
     nodes: Vec<OverlayNode>,
     string_links: Vec<OverlayLink<I, ()>>,
     string_nodes: Vec<Vec<usize>>,
-    pub ghost joined: { AreNodes (map (link_edge_of I.value) links.items) nodes.items } by { Prim.hlevel props },
-    pub ghost numbered: { AreNumbered I.value links.items } by { Prim.hlevel props },
-    pub ghost in_range: { All (λ l. IsEdgeWithin I.least I.greatest (link_edge_of I.value l)) links.items } by { Prim.hlevel props },
-    pub ghost strings_joined: { AreLists (map (link_edge_of I.value) string_links.items) (map (λ n. n.items) string_nodes.items) } by { Prim.hlevel props },
-    pub ghost strings_numbered: { AreNumbered I.value string_links.items } by { Prim.hlevel props },
-    pub ghost strings_in_range: { All (λ l. IsEdgeWithin I.least I.greatest (link_edge_of I.value l)) string_links.items } by { Prim.hlevel props },
+    pub ghost joined: { AreNodes (map link_edge_of links.items) nodes.items } by { Prim.hlevel props },
+    pub ghost numbered: { AreNumbered links.items } by { Prim.hlevel props },
+    pub ghost in_range: { All (λ l. IsEdgeWithin I.least I.greatest (link_edge_of l)) links.items } by { Prim.hlevel props },
+    pub ghost strings_joined: { AreLists (map link_edge_of string_links.items) (map (λ n. n.items) string_nodes.items) } by { Prim.hlevel props },
+    pub ghost strings_numbered: { AreNumbered string_links.items } by { Prim.hlevel props },
+    pub ghost strings_in_range: { All (λ l. IsEdgeWithin I.least I.greatest (link_edge_of l)) string_links.items } by { Prim.hlevel props },
 }
 
 impl<I: OverlayInt, D: Copy> GraphBuilder<I, D> {
@@ -88,16 +88,16 @@ impl<I: OverlayInt, D: Copy> GraphBuilder<I, D> {
         solver: &Solver,
         segments: &[Segment<ShapeCountBoolean, I, D>],
     ) -> Result<OverlayGraph<'_, I, D>, Fault>
-        requires in_range { AreWithin I.least I.greatest (entries_of I.value segments.now) }
-        requires arrangement { IsArrangement (entries_of I.value segments.now) }
+        requires in_range { AreWithin I.least I.greatest (entries_of segments.now) }
+        requires arrangement { IsArrangement (entries_of segments.now) }
         requires few { length segments.now < 2 ^ 31 }
-        ensures links { IfOk result (λ graph. map (overlay_link_of I.value) (links_of graph)
-            ≡ all_links (fill_rule_of fill_rule) (entries_of I.value segments.now)) }
+        ensures links { IfOk result (λ graph. map overlay_link_of (links_of graph)
+            ≡ all_links (fill_rule_of fill_rule) (entries_of segments.now)) }
         ensures carried { IfOk result (λ graph. map (λ l. l.datum) (links_of graph) ≡ map (λ s. s.datum) segments.now) }
-        ensures nodes { IfOk result (λ graph. AreNodes (map (link_edge_of I.value) (links_of graph)) (nodes_lent_by graph)) }
-        ensures numbers { IfOk result (λ graph. AreNumbered I.value (links_of graph)) }
-        ensures err { IfErr result (IsRefusal (entries_of I.value segments.now)) }
-        ensures* after { sem 𝓛 (Rests (the_row I.row D.row I.Wide.row I.OverlayInt.own I.Ord.own I.PartialEq.own I.PartialOrd.own
+        ensures nodes { IfOk result (λ graph. AreNodes (map link_edge_of (links_of graph)) (nodes_lent_by graph)) }
+        ensures numbers { IfOk result (λ graph. AreNumbered (links_of graph)) }
+        ensures err { IfErr result (IsRefusal (entries_of segments.now)) }
+        ensures* after { sem 𝓛 (Rests (the_row I.row D.row I.Wide.row I.OverlayInt.own I.IntNumber.own I.Ord.own I.PartialEq.own I.PartialOrd.own
             I.Wide.WideIntNumber.own I.Wide.Ord.own I.Wide.PartialEq.own I.Wide.PartialOrd.own
             I.Clone.own I.Eq.own I.Expiration.own I.Wide.Clone.own I.Wide.Eq.own) self.entry (λ new. OnErr result (links_kept_by new ≡ []))) }
     {
@@ -113,18 +113,18 @@ impl<I: OverlayInt, D: Copy> GraphBuilder<I, D> {
         solver: &Solver,
         segments: &[Segment<ShapeCountBoolean, I, D>],
     ) -> Result<OverlayGraph<'_, I, D>, Fault>
-        requires in_range { AreWithin I.least I.greatest (entries_of I.value segments.now) }
-        requires arrangement { IsArrangement (entries_of I.value segments.now) }
+        requires in_range { AreWithin I.least I.greatest (entries_of segments.now) }
+        requires arrangement { IsArrangement (entries_of segments.now) }
         requires few { length segments.now < 2 ^ 31 }
-        ensures links { IfOk result (λ graph. map (overlay_link_of I.value) (links_of graph)
-            ≡ boundary_links (fill_rule_of fill_rule) (overlay_rule_of overlay_rule) (entries_of I.value segments.now)) }
+        ensures links { IfOk result (λ graph. map overlay_link_of (links_of graph)
+            ≡ boundary_links (fill_rule_of fill_rule) (overlay_rule_of overlay_rule) (entries_of segments.now)) }
         ensures carried { IfOk result (λ graph. map (λ l. l.datum) (links_of graph)
-            ≡ map (λ s. s.datum) (bounding I.value (fill_rule_of fill_rule) (overlay_rule_of overlay_rule) segments.now)) }
-        ensures nodes { IfOk result (λ graph. AreNodes (map (link_edge_of I.value) (links_of graph)) (nodes_lent_by graph)) }
+            ≡ map (λ s. s.datum) (bounding (fill_rule_of fill_rule) (overlay_rule_of overlay_rule) segments.now)) }
+        ensures nodes { IfOk result (λ graph. AreNodes (map link_edge_of (links_of graph)) (nodes_lent_by graph)) }
         ensures even { IfOk result (λ graph. All (λ n. length (places_of n) % 2 ≡ 0) (nodes_lent_by graph)) }
-        ensures numbers { IfOk result (λ graph. AreNumbered I.value (links_of graph)) }
-        ensures err { IfErr result (IsRefusal (entries_of I.value segments.now)) }
-        ensures* after { sem 𝓛 (Rests (the_row I.row D.row I.Wide.row I.OverlayInt.own I.Ord.own I.PartialEq.own I.PartialOrd.own
+        ensures numbers { IfOk result (λ graph. AreNumbered (links_of graph)) }
+        ensures err { IfErr result (IsRefusal (entries_of segments.now)) }
+        ensures* after { sem 𝓛 (Rests (the_row I.row D.row I.Wide.row I.OverlayInt.own I.IntNumber.own I.Ord.own I.PartialEq.own I.PartialOrd.own
             I.Wide.WideIntNumber.own I.Wide.Ord.own I.Wide.PartialEq.own I.Wide.PartialOrd.own
             I.Clone.own I.Eq.own I.Expiration.own I.Wide.Clone.own I.Wide.Eq.own) self.entry (λ new. OnErr result (links_kept_by new ≡ []))) }
     {
@@ -162,14 +162,14 @@ impl<I: OverlayInt, D: Copy> GraphBuilder<I, D> {
         solver: &Solver,
         segments: &[Segment<ShapeCountBoolean, I, D>],
     ) -> Result<(), Fault>
-        requires in_range { AreWithin I.least I.greatest (entries_of I.value segments.now) }
-        requires arrangement { IsArrangement (entries_of I.value segments.now) }
+        requires in_range { AreWithin I.least I.greatest (entries_of segments.now) }
+        requires arrangement { IsArrangement (entries_of segments.now) }
         requires few { length segments.now < 2 ^ 31 }
-        ensures links { OnOk result (map (overlay_link_of I.value) (links_kept_by self.new)
-            ≡ all_links (fill_rule_of fill_rule) (entries_of I.value segments.now)) }
+        ensures links { OnOk result (map overlay_link_of (links_kept_by self.new)
+            ≡ all_links (fill_rule_of fill_rule) (entries_of segments.now)) }
         ensures carried { OnOk result (map (λ l. l.datum) (links_kept_by self.new) ≡ map (λ s. s.datum) segments.now) }
         ensures nothing { OnErr result (links_kept_by self.new ≡ []) }
-        ensures err { IfErr result (IsRefusal (entries_of I.value segments.now)) }
+        ensures err { IfErr result (IsRefusal (entries_of segments.now)) }
     {
         self.collect::<ShapeCountBoolean, AllFilter>(fill_rule, solver, segments)
     }
@@ -189,16 +189,16 @@ impl<I: OverlayInt, D: Copy> GraphBuilder<I, D> {
         solver: &Solver,
         segments: &[Segment<C, I, D>],
     ) -> Result<OverlayGraph<'_, I, D>, Fault>
-        requires in_range { AreWithin I.least I.greatest (all_seen C.sides I.value segments.now) }
-        requires arrangement { IsArrangement (all_seen C.sides I.value segments.now) }
+        requires in_range { AreWithin I.least I.greatest (all_seen C.sides segments.now) }
+        requires arrangement { IsArrangement (all_seen C.sides segments.now) }
         requires few { length segments.now < 2 ^ 31 }
-        ensures parts { IfOk result (λ graph. map (link_parts I.value) (links_of graph)
-            ≡ passing_parts I.value (fill_told C.filled I.value (fill_rule_of fill_rule) (all_seen C.sides I.value segments.now))
+        ensures parts { IfOk result (λ graph. map link_parts (links_of graph)
+            ≡ passing_parts (fill_told C.filled (fill_rule_of fill_rule) (all_seen C.sides segments.now))
             F.includes segments.now) }
-        ensures nodes { IfOk result (λ graph. AreNodes (map (link_edge_of I.value) (links_of graph)) (nodes_lent_by graph)) }
-        ensures numbers { IfOk result (λ graph. AreNumbered I.value (links_of graph)) }
-        ensures err { IfErr result (IsRefusal (all_seen C.sides I.value segments.now)) }
-        ensures* after { sem 𝓛 (Rests (the_row I.row D.row I.Wide.row I.OverlayInt.own I.Ord.own I.PartialEq.own I.PartialOrd.own
+        ensures nodes { IfOk result (λ graph. AreNodes (map link_edge_of (links_of graph)) (nodes_lent_by graph)) }
+        ensures numbers { IfOk result (λ graph. AreNumbered (links_of graph)) }
+        ensures err { IfErr result (IsRefusal (all_seen C.sides segments.now)) }
+        ensures* after { sem 𝓛 (Rests (the_row I.row D.row I.Wide.row I.OverlayInt.own I.IntNumber.own I.Ord.own I.PartialEq.own I.PartialOrd.own
             I.Wide.WideIntNumber.own I.Wide.Ord.own I.Wide.PartialEq.own I.Wide.PartialOrd.own
             I.Clone.own I.Eq.own I.Expiration.own I.Wide.Clone.own I.Wide.Eq.own) self.entry (λ new. OnErr result (links_kept_by new ≡ []))) }
     {
@@ -213,14 +213,14 @@ impl<I: OverlayInt, D: Copy> GraphBuilder<I, D> {
         solver: &Solver,
         segments: &[Segment<C, I, D>],
     ) -> Result<(), Fault>
-        requires in_range { AreWithin I.least I.greatest (all_seen C.sides I.value segments.now) }
-        requires arrangement { IsArrangement (all_seen C.sides I.value segments.now) }
+        requires in_range { AreWithin I.least I.greatest (all_seen C.sides segments.now) }
+        requires arrangement { IsArrangement (all_seen C.sides segments.now) }
         requires few { length segments.now < 2 ^ 31 }
-        ensures parts { OnOk result (map (link_parts I.value) (links_kept_by self.new)
-            ≡ passing_parts I.value (fill_told C.filled I.value (fill_rule_of fill_rule) (all_seen C.sides I.value segments.now))
+        ensures parts { OnOk result (map link_parts (links_kept_by self.new)
+            ≡ passing_parts (fill_told C.filled (fill_rule_of fill_rule) (all_seen C.sides segments.now))
             F.includes segments.now) }
         ensures nothing { OnErr result (links_kept_by self.new ≡ []) }
-        ensures err { IfErr result (IsRefusal (all_seen C.sides I.value segments.now)) }
+        ensures err { IfErr result (IsRefusal (all_seen C.sides segments.now)) }
     {
         let storage = mem::replace(&mut self.links, Vec::new(self.alloc));
         self.links = make_graph::<C, F, I, D, OverlayNode>(
@@ -247,18 +247,18 @@ fn make_graph<C: FilledCount, F: InclusionFilterStrategy, I: OverlayInt, D: Copy
     storage: Vec<OverlayLink<I, D>>,
     nodes: &mut Vec<K>,
 ) -> Result<Vec<OverlayLink<I, D>>, Fault>
-    requires in_range { AreWithin I.least I.greatest (all_seen C.sides I.value segments.now) }
-    requires arrangement { IsArrangement (all_seen C.sides I.value segments.now) }
+    requires in_range { AreWithin I.least I.greatest (all_seen C.sides segments.now) }
+    requires arrangement { IsArrangement (all_seen C.sides segments.now) }
     requires few { length segments.now < 2 ^ 31 }
-    ensures parts { IfOk result (λ links. map (link_parts I.value) links.items
-        ≡ passing_parts I.value (fill_told C.filled I.value (fill_rule_of fill_rule) (all_seen C.sides I.value segments.now))
+    ensures parts { IfOk result (λ links. map link_parts links.items
+        ≡ passing_parts (fill_told C.filled (fill_rule_of fill_rule) (all_seen C.sides segments.now))
         F.includes segments.now) }
-    ensures places { IfOk result (λ links. AreLists (map (link_edge_of I.value) links.items) (map K.places nodes.new.items)) }
+    ensures places { IfOk result (λ links. AreLists (map link_edge_of links.items) (map K.places nodes.new.items)) }
     ensures forms { OnOk result (All K.suits nodes.new.items) }
-    ensures numbers { IfOk result (λ links. AreNumbered I.value links.items) }
-    ensures in_range { IfOk result (λ links. All (λ l. IsEdgeWithin I.least I.greatest (link_edge_of I.value l)) links.items) }
+    ensures numbers { IfOk result (λ links. AreNumbered links.items) }
+    ensures in_range { IfOk result (λ links. All (λ l. IsEdgeWithin I.least I.greatest (link_edge_of l)) links.items) }
     ensures nothing { OnErr result (nodes.new.items ≡ []) }
-    ensures err { IfErr result (IsRefusal (all_seen C.sides I.value segments.now)) }
+    ensures err { IfErr result (IsRefusal (all_seen C.sides segments.now)) }
 {
     nodes.clear();
     let mut links = collect_links::<C, F, I, D, Brand>(

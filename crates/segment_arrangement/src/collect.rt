@@ -21,7 +21,7 @@ use crate::link::OverlayLink;
 use crate::sweep::SweepRunner;
 use i_tree::Steps;
 use plane_base::fault::Fault;
-use plane_base::int::OverlayInt;
+use plane_base::int::{IntNumber, OverlayInt};
 use plane_base::segment::IdPoint;
 use segment_split::segment::Segment;
 use segment_split::solver::Solver;
@@ -42,7 +42,7 @@ impl InclusionFilterStrategy for AllFilter {
 
 // Makes a link of each segment whose fill passes the filter.
 #[derive(Drop)]
-struct LinkCollector<F, I, D> {
+struct LinkCollector<F, I: IntNumber, D> {
     links: Vec<OverlayLink<I, D>>,
     filter: PhantomData<F>,
 }
@@ -102,16 +102,16 @@ pub(crate) fn collect_links<
     mut links: Vec<OverlayLink<I, D>>,
     blank: Blank,
 ) -> Result<Vec<OverlayLink<I, D>>, Fault>
-    requires in_range { AreWithin I.least I.greatest (all_seen C.sides I.value segments.now) }
-    requires arrangement { IsArrangement (all_seen C.sides I.value segments.now) }
+    requires in_range { AreWithin I.least I.greatest (all_seen C.sides segments.now) }
+    requires arrangement { IsArrangement (all_seen C.sides segments.now) }
     requires few { length segments.now < 2 ^ 31 }
     requires name { blank.name ≡ L.name }
     requires parts { blank.parts ≡ L.parts }
     requires two { blank.parts ≡ 2 }
-    ensures ok { IfOk result (λ links. map (link_parts I.value) links.items
-        ≡ passing_parts I.value (fill_told C.filled I.value (fill_rule_of rule) (all_seen C.sides I.value segments.now))
+    ensures ok { IfOk result (λ links. map link_parts links.items
+        ≡ passing_parts (fill_told C.filled (fill_rule_of rule) (all_seen C.sides segments.now))
         F.includes segments.now) }
-    ensures err { IfErr result (IsRefusal (all_seen C.sides I.value segments.now)) }
+    ensures err { IfErr result (IsRefusal (all_seen C.sides segments.now)) }
 {
     links.clear();
     links.reserve(segments.len())?;

@@ -19,15 +19,17 @@ pub(crate) fn are_few_live<C, I: OverlayInt, D>(segments: &[Segment<C, I, D>]) -
     if number <= FEW {
         return true;
     }
-    let least = segments[0].x_segment.a.x.to_i64();
-    let span = segments[number - 1].x_segment.a.x.to_i64().abs_diff(least);
+    let first = &segments[0];
+    let last = &segments[number - 1];
+    let least = first.x_segment.a.x.to_i64();
+    let span = last.x_segment.a.x.to_i64().abs_diff(least);
     let shift = 55u32.saturating_sub(span.leading_zeros());
     let mut starts = [0usize; COLUMNS];
     let mut ends = [0usize; COLUMNS];
     for i in 0..number {
-        let segment = &segments[i].x_segment;
-        let first = column_of(segment.a.x.to_i64().abs_diff(least) >> shift);
-        let last = column_of(segment.b.x.to_i64().abs_diff(least) >> shift);
+        let segment = &segments[i];
+        let first = column_of(segment.x_segment.a.x.to_i64().abs_diff(least) >> shift);
+        let last = column_of(segment.x_segment.b.x.to_i64().abs_diff(least) >> shift);
         starts[first] = starts[first].saturating_add(1);
         ends[last] = ends[last].saturating_add(1);
     }

@@ -9,7 +9,6 @@ ghost use Rattle.std.specs.Prelude.{◌≡◌, ◌↔◌, ℕ, ◌<◌, ◌≤�
 ghost use Rattle.std.specs.Ordering.{nat_cmp};
 ghost use Rattle.std.proofs.Common.{rules};
 ghost use Rattle.plane_base.specs.Plane.{IsCoordinate};
-ghost use Rattle.plane_base.specs.Views.{point_of};
 ghost use Rattle.segment_arrangement.specs.LinkEnds.{coordinate_at, point_at, end_at, HasRoomFor};
 
 use plane_base::int::OverlayInt;
@@ -28,9 +27,9 @@ pub(crate) trait EndNumber: Copy + Ord {
 
     // The number of an end of the link at a place.
     fn of_end<I: OverlayInt>(point: IntPoint<I>, is_last: bool, place: usize) -> Self
-        requires within { HasRoomFor half (point_of I.value point) }
+        requires within { HasRoomFor half point }
         requires few { place < room }
-        ensures { end_at half room (Self.number result) ≡ record { point = point_of I.value point; is_last = is_last; place = place } };
+        ensures { end_at half room (Self.number result) ≡ record { point = point; is_last = is_last; place = place } };
 
     // Whether the ends of two numbers lie at one point.
     fn lies_with(self, other: Self) -> bool
@@ -108,9 +107,9 @@ impl EndNumber for u128 {
 
 // The number of a point, of 40 bits.
 fn number_of_point<I: OverlayInt>(point: IntPoint<I>) -> u64
-    requires { HasRoomFor (2 ^ 19) (point_of I.value point) }
+    requires { HasRoomFor (2 ^ 19) point }
     ensures below { result < 2 ^ 40 }
-    ensures point { point_at (2 ^ 19) result ≡ point_of I.value point }
+    ensures point { point_at (2 ^ 19) result ≡ point }
 {
     number_of_coordinate(point.x) * 1048576 + number_of_coordinate(point.y)
 }
@@ -126,9 +125,9 @@ fn number_of_coordinate<I: OverlayInt>(coordinate: I) -> u64
 
 // The number of a point, of 82 bits.
 fn wide_number_of_point<I: OverlayInt>(point: IntPoint<I>) -> u128
-    requires { HasRoomFor (2 ^ 40) (point_of I.value point) }
+    requires { HasRoomFor (2 ^ 40) point }
     ensures below { result < 2 ^ 82 }
-    ensures point { point_at (2 ^ 40) result ≡ point_of I.value point }
+    ensures point { point_at (2 ^ 40) result ≡ point }
 {
     u128::from(wide_number_of_coordinate(point.x)) * 2_199_023_255_552
         + u128::from(wide_number_of_coordinate(point.y))

@@ -5,7 +5,6 @@ ghost use Rattle.std.specs.Prelude.{◌≡◌, ◌-ℤ◌, ◌*ℤ◌, pos, true
 ghost use Rattle.std.specs.List.Sorted.{IsSortedBy};
 ghost use Rattle.std.specs.Ordering.{int_cmp};
 ghost use Rattle.plane_base.specs.Plane.{is_before, IsWithin};
-ghost use Rattle.plane_base.specs.Views.{point_of};
 ghost use Rattle.segment_arrangement.specs.Sweeps.{IsForward, turns_left};
 
 use plane_base::int::{OverlayInt, WideIntNumber};
@@ -35,12 +34,12 @@ impl<I: OverlayInt> Copy for FanItem<I> {}
 impl<I: OverlayInt> FanItem<I> {
     /// The segment at a place of the list, by its ends.
     pub(crate) fn new(index: usize, a: IntPoint<I>, b: IntPoint<I>) -> FanItem<I>
-        requires a_in_range { IsWithin I.least I.greatest (point_of I.value a) }
-        requires b_in_range { IsWithin I.least I.greatest (point_of I.value b) }
-        requires directed { is_before (point_of I.value a) (point_of I.value b) ≡ true }
+        requires a_in_range { IsWithin I.least I.greatest a }
+        requires b_in_range { IsWithin I.least I.greatest b }
+        requires directed { is_before a b ≡ true }
         ensures index { result.index ≡ index }
-        ensures width { result.width ≡ I.value b.x -ℤ I.value a.x }
-        ensures climb { result.climb ≡ I.value b.y -ℤ I.value a.y }
+        ensures width { result.width ≡ b.x -ℤ a.x }
+        ensures climb { result.climb ≡ b.y -ℤ a.y }
     {
         FanItem {
             index,

@@ -5,7 +5,6 @@
 
 ghost use Rattle.std.specs.Prelude.{◌≡◌, ◌≢◌, ℕ, ◌<◌, ◌≤◌, ◌⊎◌, List, false, length, slice_index_or, filter, All, OnOk, IfErr};
 ghost use Rattle.plane_base.specs.Segments.{IsEdgeWithin};
-ghost use Rattle.plane_base.specs.SegmentViews.{edge_of};
 ghost use Rattle.plane_base.specs.Counts.{Entry, Count as Windings};
 ghost use Rattle.plane_base.specs.Plane.{Point};
 ghost use Rattle.plane_base.specs.Windings.{winding};
@@ -47,10 +46,12 @@ pub(crate) fn end_of_fan<I: OverlayInt, C, D>(segments: &[Segment<C, I, D>], fro
         (slice_index_or segments.now result d).x_segment.a ≢ (slice_index_or segments.now from d).x_segment.a }
 {
     equality_of_segments::<I>();
-    let start = segments[from].x_segment.a;
+    let first = &segments[from];
+    let start = first.x_segment.a;
     let mut to = from + 1;
     while to < segments.len() {
-        if segments[to].x_segment.a != start {
+        let segment = &segments[to];
+        if segment.x_segment.a != start {
             return to;
         }
         to += 1;
@@ -63,16 +64,16 @@ pub(crate) fn collect_fan<I: OverlayInt, C, D>(
     segments: &[Segment<C, I, D>],
     fan: &mut Vec<FanItem<I>>,
 ) -> Result<(), Fault>
-    requires within { All (λ s. IsEdgeWithin I.least I.greatest (edge_of I.value s.x_segment)) segments.now }
+    requires within { All (λ s. IsEdgeWithin I.least I.greatest s.x_segment) segments.now }
     ensures ok { OnOk result (length fan.new.items ≡ length segments.now) }
     ensures items { OnOk result ((i : ℕ) (d : _) (t : _) → i < length segments.now →
-        IsItemOf I.value i (slice_index_or segments.now i d).x_segment (slice_index_or fan.new.items i t)) }
+        IsItemOf i (slice_index_or segments.now i d).x_segment (slice_index_or fan.new.items i t)) }
     ensures err { IfErr result (λ fault. fault ≡ Memory) }
 {
     fan.clear();
     for index in 0..segments.len() {
-        let segment = segments[index].x_segment;
-        fan.push(FanItem::new(index, segment.a, segment.b))?;
+        let segment = &segments[index];
+        fan.push(FanItem::new(index, segment.x_segment.a, segment.x_segment.b))?;
     }
     Ok(())
 }
@@ -87,16 +88,16 @@ pub(crate) fn find_sides<C: FilledCount, I: OverlayInt, D>(
 ) -> Result<(), Fault>
     requires one_each { length fan.old ≡ length segments.now }
     requires items { (i : ℕ) (d : _) (t : _) → i < length segments.now →
-        IsItemOf I.value i (slice_index_or segments.now i d).x_segment (slice_index_or fan.old i t) }
+        IsItemOf i (slice_index_or segments.now i d).x_segment (slice_index_or fan.old i t) }
     requires room { length sides.old ≡ length segments.now }
     ensures len { length sides.new ≡ length segments.now }
     ensures ok { OnOk result ((es : List (Entry Windings)) (v : Point) (i : ℕ) (d : _) (e : _) →
-        IsArrangement es → filter (starts_at v) es ≡ all_seen C.sides I.value segments.now → below ≡ winding es (whole v) → i < length segments.now →
+        IsArrangement es → filter (starts_at v) es ≡ all_seen C.sides segments.now → below ≡ winding es (whole v) → i < length segments.now →
         slice_index_or sides.new i e
-        ≡ sides_of_segment C.sides C.filled I.value (fill_rule_of rule) es (slice_index_or segments.now i d)) }
+        ≡ sides_of_segment C.sides C.filled (fill_rule_of rule) es (slice_index_or segments.now i d)) }
     ensures err { IfErr result (λ fault. (fault ≡ Count) × ((es : List (Entry Windings)) (v : Point) (d : _) →
-        IsArrangement es → filter (starts_at v) es ≡ all_seen C.sides I.value segments.now → below ≡ winding es (whole v) →
-        (i : ℕ) × (i < length segments.now) × (count_fits (upper_side es (seen_of C.sides I.value (slice_index_or segments.now i d))) ≡ false))) }
+        IsArrangement es → filter (starts_at v) es ≡ all_seen C.sides segments.now → below ≡ winding es (whole v) →
+        (i : ℕ) × (i < length segments.now) × (count_fits (upper_side es (seen_of C.sides (slice_index_or segments.now i d))) ≡ false))) }
 {
     sort_by_angle(fan);
     hand_up(rule, segments, below, fan, sides)
@@ -110,19 +111,20 @@ pub(crate) fn sides_of_fan<C: FilledCount, I: OverlayInt, D>(
     fan: &mut Vec<FanItem<I>>,
     sides: &mut Vec<SegmentSides>,
 ) -> Result<(), Fault>
-    requires within { All (λ s. IsEdgeWithin I.least I.greatest (edge_of I.value s.x_segment)) segments.now }
+    requires within { All (λ s. IsEdgeWithin I.least I.greatest s.x_segment) segments.now }
     ensures len { OnOk result (length sides.new.items ≡ length segments.now) }
     ensures ok { OnOk result ((es : List (Entry Windings)) (v : Point) (i : ℕ) (d : _) (e : _) →
-        IsArrangement es → filter (starts_at v) es ≡ all_seen C.sides I.value segments.now → below ≡ winding es (whole v) → i < length segments.now →
+        IsArrangement es → filter (starts_at v) es ≡ all_seen C.sides segments.now → below ≡ winding es (whole v) → i < length segments.now →
         slice_index_or sides.new.items i e
-        ≡ sides_of_segment C.sides C.filled I.value (fill_rule_of rule) es (slice_index_or segments.now i d)) }
+        ≡ sides_of_segment C.sides C.filled (fill_rule_of rule) es (slice_index_or segments.now i d)) }
     ensures err { IfErr result (λ fault. (fault ≡ Memory) ⊎ ((fault ≡ Count) × ((es : List (Entry Windings)) (v : Point) (d : _) →
-        IsArrangement es → filter (starts_at v) es ≡ all_seen C.sides I.value segments.now → below ≡ winding es (whole v) →
-        (i : ℕ) × (i < length segments.now) × (count_fits (upper_side es (seen_of C.sides I.value (slice_index_or segments.now i d))) ≡ false)))) }
+        IsArrangement es → filter (starts_at v) es ≡ all_seen C.sides segments.now → below ≡ winding es (whole v) →
+        (i : ℕ) × (i < length segments.now) × (count_fits (upper_side es (seen_of C.sides (slice_index_or segments.now i d))) ≡ false)))) }
 {
     sides.clear();
     if segments.len() == 1 {
-        sides.push(sides_of(rule, below, segments[0].count)?)?;
+        let only = &segments[0];
+        sides.push(sides_of(rule, below, only.count)?)?;
         return Ok(());
     }
     collect_fan(segments, fan)?;

@@ -36,9 +36,9 @@ pub enum VisitState {
 pub struct OverlayGraph<'a, I: OverlayInt, D> {
     links: &'a [OverlayLink<I, D>],
     nodes: &'a [OverlayNode],
-    pub ghost joined: { AreNodes (map (link_edge_of I.value) links.now) nodes.now } by { Prim.hlevel props },
-    pub ghost numbered: { AreNumbered I.value links.now } by { Prim.hlevel props },
-    pub ghost in_range: { All (λ l. IsEdgeWithin I.least I.greatest (link_edge_of I.value l)) links.now } by { Prim.hlevel props },
+    pub ghost joined: { AreNodes (map link_edge_of links.now) nodes.now } by { Prim.hlevel props },
+    pub ghost numbered: { AreNumbered links.now } by { Prim.hlevel props },
+    pub ghost in_range: { All (λ l. IsEdgeWithin I.least I.greatest (link_edge_of l)) links.now } by { Prim.hlevel props },
 }
 
 impl<'a, I: OverlayInt, D: Copy> Clone for OverlayGraph<'a, I, D> {
@@ -56,9 +56,9 @@ impl<'a, I: OverlayInt, D> OverlayGraph<'a, I, D> {
 
     // The graph of these links and nodes.
     pub(crate) fn new(links: &'a [OverlayLink<I, D>], nodes: &'a [OverlayNode]) -> Self
-        requires joined { AreNodes (map (link_edge_of I.value) links.now) nodes.now }
-        requires numbered { AreNumbered I.value links.now }
-        requires in_range { All (λ l. IsEdgeWithin I.least I.greatest (link_edge_of I.value l)) links.now }
+        requires joined { AreNodes (map link_edge_of links.now) nodes.now }
+        requires numbered { AreNumbered links.now }
+        requires in_range { All (λ l. IsEdgeWithin I.least I.greatest (link_edge_of l)) links.now }
         ensures links { links_of result ≡ links.now }
         ensures nodes { nodes_lent_by result ≡ nodes.now }
     {

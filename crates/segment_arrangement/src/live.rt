@@ -8,7 +8,6 @@ ghost use Rattle.std.specs.Prelude.{◌≡◌, ◌+◌, ◌<◌, ◌^◌, List, 
 ghost use Rattle.i_tree.specs.LiveList.{live_at, IsNotBefore, IsAdvanced};
 ghost use Rattle.i_tree.specs.Steps.{CountsAtMost};
 ghost use Rattle.plane_base.specs.Plane.{IsWithin};
-ghost use Rattle.plane_base.specs.Views.{point_of};
 ghost use Rattle.plane_base.specs.SegmentViews.{edge_of};
 ghost use Rattle.plane_base.specs.Counts.{Entry, Count as Windings};
 ghost use Rattle.plane_base.specs.Windings.{winding};
@@ -40,16 +39,16 @@ pub(crate) fn below_start<
     K: KeyExpCollection<VSegment<I>, I, ShapeCountBoolean>,
     L: Ledger,
 >(live: &mut K, start: IntPoint<I>, steps: &mut Steps<L>) -> Sought<ShapeCountBoolean, K::Place>
-    requires in_time { IsNotBefore I.cmp start.x (K.live_list live.old) }
-    requires in_range { IsWithin I.least I.greatest (point_of I.value start) }
-    ensures answer { (es list : List (Entry Windings)) (e : Entry Windings) → IsArrangement es → IsLiveList es (point_of I.value start) list →
-        HoldsUppers (edge_of I.value) es list (live_at I.cmp ⟦<VSegment<I> as ExpiredKey<I>>⟧.expires start.x (K.live_list live.old).entries) →
-        Contains es e → e.edge.a ≡ point_of I.value start → result.value ≡ winding es (whole (point_of I.value start)) }
-    ensures place { (es list : List (Entry Windings)) (e : Entry Windings) → IsArrangement es → IsLiveList es (point_of I.value start) list →
-        HoldsUppers (edge_of I.value) es list (live_at I.cmp ⟦<VSegment<I> as ExpiredKey<I>>⟧.expires start.x (K.live_list live.old).entries) →
-        Contains es e → e.edge.a ≡ point_of I.value start →
-        IsPlaceAt (edge_of I.value) (point_of I.value start) (K.before_place live.new result.place) (K.after_place live.new result.place) }
-    ensures kept { IsAdvanced I.cmp ⟦<VSegment<I> as ExpiredKey<I>>⟧.expires start.x (K.live_list live.old) (K.live_list live.new) }
+    requires in_time { IsNotBefore I.cmp (I.of_value start.x) (K.live_list live.old) }
+    requires in_range { IsWithin I.least I.greatest start }
+    ensures answer { (es list : List (Entry Windings)) (e : Entry Windings) → IsArrangement es → IsLiveList es start list →
+        HoldsUppers edge_of es list (live_at I.cmp ⟦<VSegment<I> as ExpiredKey<I>>⟧.expires (I.of_value start.x) (K.live_list live.old).entries) →
+        Contains es e → e.edge.a ≡ start → result.value ≡ winding es (whole start) }
+    ensures place { (es list : List (Entry Windings)) (e : Entry Windings) → IsArrangement es → IsLiveList es start list →
+        HoldsUppers edge_of es list (live_at I.cmp ⟦<VSegment<I> as ExpiredKey<I>>⟧.expires (I.of_value start.x) (K.live_list live.old).entries) →
+        Contains es e → e.edge.a ≡ start →
+        IsPlaceAt edge_of start (K.before_place live.new result.place) (K.after_place live.new result.place) }
+    ensures kept { IsAdvanced I.cmp ⟦<VSegment<I> as ExpiredKey<I>>⟧.expires (I.of_value start.x) (K.live_list live.old) (K.live_list live.new) }
     ensures cost { CountsAtMost steps.old steps.new (K.most_comparisons (K.live_list live.old).stored) }
 {
     answers_are_greatest::<VSegment<I>, ShapeCountBoolean>();
@@ -77,28 +76,29 @@ pub(crate) fn make_live<
     live: &mut K,
     steps: &mut Steps<L>,
 ) -> Result<K::Place, Fault>
-    requires in_range { AreWithin I.least I.greatest (all_seen C.sides I.value segments.now) }
-    requires arrangement { IsArrangement (all_seen C.sides I.value segments.now) }
+    requires in_range { AreWithin I.least I.greatest (all_seen C.sides segments.now) }
+    requires arrangement { IsArrangement (all_seen C.sides segments.now) }
     requires few { length segments.now < 2 ^ 31 }
     requires within { at < length segments.now }
     requires upper { (d : _) →
-        top ≡ upper_side (all_seen C.sides I.value segments.now) (seen_of C.sides I.value (slice_index_or segments.now at d)) }
-    requires swept { IsSwept I.value I.cmp ⟦<VSegment<I> as ExpiredKey<I>>⟧.expires (edge_of I.value)
-        (all_seen C.sides I.value segments.now) at (K.live_list live.old) }
-    requires now { (d : _) → (K.live_list live.old).latest_time ≡ Some (slice_index_or segments.now at d).x_segment.a.x }
-    requires place { (d : _) → IsPlaceAt (edge_of I.value) (point_of I.value (slice_index_or segments.now at d).x_segment.a)
+        top ≡ upper_side (all_seen C.sides segments.now) (seen_of C.sides (slice_index_or segments.now at d)) }
+    requires swept { IsSwept I.value I.cmp ⟦<VSegment<I> as ExpiredKey<I>>⟧.expires edge_of
+        (all_seen C.sides segments.now) at (K.live_list live.old) }
+    requires now { (d : _) → (K.live_list live.old).latest_time ≡ Some (I.of_value (slice_index_or segments.now at d).x_segment.a.x) }
+    requires place { (d : _) → IsPlaceAt edge_of (slice_index_or segments.now at d).x_segment.a
         (K.before_place live.old place) (K.after_place live.old place) }
-    ensures ok { OnOk result (IsSwept I.value I.cmp ⟦<VSegment<I> as ExpiredKey<I>>⟧.expires (edge_of I.value)
-        (all_seen C.sides I.value segments.now) (at + 1) (K.live_list live.new)) }
+    ensures ok { OnOk result (IsSwept I.value I.cmp ⟦<VSegment<I> as ExpiredKey<I>>⟧.expires edge_of
+        (all_seen C.sides segments.now) (at + 1) (K.live_list live.new)) }
     ensures now { OnOk result ((K.live_list live.new).latest_time ≡ (K.live_list live.old).latest_time) }
-    ensures place { IfOk result (λ next. (d : _) → IsPlaceAt (edge_of I.value) (point_of I.value (slice_index_or segments.now at d).x_segment.a)
+    ensures place { IfOk result (λ next. (d : _) → IsPlaceAt edge_of (slice_index_or segments.now at d).x_segment.a
         (K.before_place live.new next) (K.after_place live.new next)) }
     ensures err { IfErr result (λ fault. fault ≡ Memory) }
-    ensures cost { MakesCalls steps.old steps.new (slanted (take at (all_seen C.sides I.value segments.now)))
-        (slanted (take (at + 1) (all_seen C.sides I.value segments.now))) (K.most_comparisons (length segments.now)) }
+    ensures cost { MakesCalls steps.old steps.new (slanted (take at (all_seen C.sides segments.now)))
+        (slanted (take (at + 1) (all_seen C.sides segments.now))) (K.most_comparisons (length segments.now)) }
 {
     entries_are_new_or_old::<VSegment<I>, I, ShapeCountBoolean>();
-    let segment = segments[at].x_segment;
+    let segment = &segments[at];
+    let segment = segment.x_segment;
     if segment.a.x < segment.b.x {
         let next = live.insert_at(
             place,

@@ -11,7 +11,6 @@ ghost use Rattle.std.specs.declared.cmp.Ordering.TheVariants.{Greater};
 ghost use Rattle.plane_base.specs.Plane.{point_order, IsCoordinate};
 ghost use Rattle.plane_base.specs.declared.fault.Fault.TheVariants.{Memory};
 ghost use Rattle.plane_base.specs.Segments.{IsEdgeWithin};
-ghost use Rattle.plane_base.specs.Views.{point_of};
 ghost use Rattle.segment_arrangement.specs.Graphs.{AreLists};
 ghost use Rattle.segment_arrangement.specs.LinkEnds.{ends_of_kind, IsNextPoint, IsRunAt, HasRoomFor, HasRoomForEnds};
 ghost use Rattle.segment_arrangement.specs.LinkViews.{link_edge_of, link_parts, places_of, IsBridgeOfTwo, AreNumbered};
@@ -20,7 +19,7 @@ ghost use Rattle.segment_arrangement.specs.LinkEndViews.{end_of, with_number, Is
 use crate::ends::EndNumber;
 use crate::link::OverlayLink;
 use plane_base::fault::Fault;
-use plane_base::int::OverlayInt;
+use plane_base::int::{IntNumber, OverlayInt};
 use plane_base::point::IntPoint;
 use std::alloc::Global;
 use std::cmp::Ordering;
@@ -100,13 +99,13 @@ pub(crate) fn join_links<I: OverlayInt, D, K: GraphNode>(
     links: &mut [OverlayLink<I, D>],
     nodes: &mut Vec<K>,
 ) -> Result<(), Fault>
-    requires within { All (λ l. IsEdgeWithin I.least I.greatest (link_edge_of I.value l)) links.old }
-    requires by_start { AllPairs (λ s t. point_order s.a t.a ≢ Greater) (map (link_edge_of I.value) links.old) }
+    requires within { All (λ l. IsEdgeWithin I.least I.greatest (link_edge_of l)) links.old }
+    requires by_start { AllPairs (λ s t. point_order s.a t.a ≢ Greater) (map link_edge_of links.old) }
     requires few { length links.old < 2 ^ 31 }
-    ensures kept { map (link_parts I.value) links.new ≡ map (link_parts I.value) links.old }
-    ensures places { OnOk result (AreLists (map (link_edge_of I.value) links.new) (map K.places nodes.new.items)) }
+    ensures kept { map link_parts links.new ≡ map link_parts links.old }
+    ensures places { OnOk result (AreLists (map link_edge_of links.new) (map K.places nodes.new.items)) }
     ensures forms { OnOk result (All K.suits nodes.new.items) }
-    ensures numbers { OnOk result (AreNumbered I.value links.new) }
+    ensures numbers { OnOk result (AreNumbered links.new) }
     ensures nothing { OnErr result (nodes.new.items ≡ []) }
     ensures memory { IsOkUnless result Memory }
 {
@@ -123,16 +122,16 @@ pub(crate) fn join_links<I: OverlayInt, D, K: GraphNode>(
 
 // Whether numbers of 64 bits have room for the ends of the links.
 fn have_narrow_ends<I: OverlayInt, D>(links: &[OverlayLink<I, D>]) -> bool
-    requires within { All (λ l. IsEdgeWithin I.least I.greatest (link_edge_of I.value l)) links.now }
+    requires within { All (λ l. IsEdgeWithin I.least I.greatest (link_edge_of l)) links.now }
     ensures few { IsTrue result → length links.now ≤ 2 ^ 23 }
-    ensures within { IsTrue result → All (λ l. HasRoomForEnds (2 ^ 19) (link_edge_of I.value l)) links.now }
+    ensures within { IsTrue result → All (λ l. HasRoomForEnds (2 ^ 19) (link_edge_of l)) links.now }
 {
     links.len() <= 1 << 23 && (I::IS_NARROW || lie_near(links))
 }
 
 // Whether all coordinates of the links have 20 bits.
 fn lie_near<I: OverlayInt, D>(links: &[OverlayLink<I, D>]) -> bool
-    ensures { IsTrue result → All (λ l. HasRoomForEnds (2 ^ 19) (link_edge_of I.value l)) links.now }
+    ensures { IsTrue result → All (λ l. HasRoomForEnds (2 ^ 19) (link_edge_of l)) links.now }
 {
     for link in links {
         if !is_near(link.a.point) || !is_near(link.b.point) {
@@ -143,7 +142,7 @@ fn lie_near<I: OverlayInt, D>(links: &[OverlayLink<I, D>]) -> bool
 }
 
 fn is_near<I: OverlayInt>(point: IntPoint<I>) -> bool
-    ensures { IsTrue result → HasRoomFor (2 ^ 19) (point_of I.value point) }
+    ensures { IsTrue result → HasRoomFor (2 ^ 19) point }
 {
     is_narrow(point.x) && is_narrow(point.y)
 }
@@ -162,13 +161,13 @@ fn join_ends<I: OverlayInt, D, K: GraphNode, N: EndNumber>(
     links: &mut [OverlayLink<I, D>],
     nodes: &mut Vec<K>,
 ) -> Result<(), Fault>
-    requires within { All (λ l. HasRoomForEnds N.half (link_edge_of I.value l)) links.old }
-    requires by_start { AllPairs (λ s t. point_order s.a t.a ≢ Greater) (map (link_edge_of I.value) links.old) }
+    requires within { All (λ l. HasRoomForEnds N.half (link_edge_of l)) links.old }
+    requires by_start { AllPairs (λ s t. point_order s.a t.a ≢ Greater) (map link_edge_of links.old) }
     requires few { length links.old ≤ N.room }
-    ensures kept { map (link_parts I.value) links.new ≡ map (link_parts I.value) links.old }
-    ensures places { OnOk result (AreLists (map (link_edge_of I.value) links.new) (map K.places nodes.new.items)) }
+    ensures kept { map link_parts links.new ≡ map link_parts links.old }
+    ensures places { OnOk result (AreLists (map link_edge_of links.new) (map K.places nodes.new.items)) }
     ensures forms { OnOk result (All K.suits nodes.new.items) }
-    ensures numbers { OnOk result (AreNumbered I.value links.new) }
+    ensures numbers { OnOk result (AreNumbered links.new) }
     ensures memory { IsOkUnless result Memory }
 {
     let mut ends = collect_ends::<I, D, N>(alloc, links)?;
@@ -196,9 +195,9 @@ fn collect_ends<I: OverlayInt, D, N: EndNumber>(
     alloc: Global,
     links: &[OverlayLink<I, D>],
 ) -> Result<Vec<N>, Fault>
-    requires within { All (λ l. HasRoomForEnds N.half (link_edge_of I.value l)) links.now }
+    requires within { All (λ l. HasRoomForEnds N.half (link_edge_of l)) links.now }
     requires few { length links.now ≤ N.room }
-    ensures ok { IfOk result (λ ends. map (end_of N.half N.room N.number) ends.items ≡ ends_of_kind true 0 (map (link_edge_of I.value) links.now)) }
+    ensures ok { IfOk result (λ ends. map (end_of N.half N.room N.number) ends.items ≡ ends_of_kind true 0 (map link_edge_of links.now)) }
     ensures memory { IsOkUnless result Memory }
 {
     let mut ends = Vec::with_capacity(alloc, links.len())?;
@@ -216,10 +215,10 @@ fn next_end<I: OverlayInt, D, N: EndNumber>(
     ends: &[N],
     last: usize,
 ) -> N
-    requires within { All (λ l. HasRoomForEnds N.half (link_edge_of I.value l)) links.now }
+    requires within { All (λ l. HasRoomForEnds N.half (link_edge_of l)) links.now }
     requires few { length links.now ≤ N.room }
     requires some { (start < length links.now) ⊎ (last < length ends.now) }
-    ensures { IsNextPoint (ends_of_kind false 0 (map (link_edge_of I.value) links.now)) start (map (end_of N.half N.room N.number) ends.now) last
+    ensures { IsNextPoint (ends_of_kind false 0 (map link_edge_of links.now)) start (map (end_of N.half N.room N.number) ends.now) last
         (end_of N.half N.room N.number result).point }
 {
     if start >= links.len() {
@@ -252,12 +251,12 @@ fn number_starts<I: OverlayInt, D, N: EndNumber>(
     end: N,
     number: usize,
 ) -> usize
-    requires within { All (λ l. HasRoomForEnds N.half (link_edge_of I.value l)) links.old }
+    requires within { All (λ l. HasRoomForEnds N.half (link_edge_of l)) links.old }
     requires few { length links.old ≤ N.room }
     requires inside { from ≤ length links.old }
-    ensures run { IsRunAt (ends_of_kind false 0 (map (link_edge_of I.value) links.old)) from result (end_of N.half N.room N.number end).point }
-    ensures kept { map (link_parts I.value) links.new ≡ map (link_parts I.value) links.old }
-    ensures numbered { IsNumberedFrom number (take (result - from) (drop from (ends_of_kind false 0 (map (link_edge_of I.value) links.old))))
+    ensures run { IsRunAt (ends_of_kind false 0 (map link_edge_of links.old)) from result (end_of N.half N.room N.number end).point }
+    ensures kept { map link_parts links.new ≡ map link_parts links.old }
+    ensures numbered { IsNumberedFrom number (take (result - from) (drop from (ends_of_kind false 0 (map link_edge_of links.old))))
         links.old links.new }
 {
     let mut to = from;
@@ -299,7 +298,7 @@ fn number_run<I: OverlayInt, D, N: EndNumber>(
 )
     requires inside { All (λ n. (end_of N.half N.room N.number n).place < length links.old) run.now }
     requires last { All (λ n. (end_of N.half N.room N.number n).is_last ≡ true) run.now }
-    ensures kept { map (link_parts I.value) links.new ≡ map (link_parts I.value) links.old }
+    ensures kept { map link_parts links.new ≡ map link_parts links.old }
     ensures numbered { IsNumberedFrom number (map (end_of N.half N.room N.number) run.now) links.old links.new }
 {
     for end in run {
@@ -308,7 +307,7 @@ fn number_run<I: OverlayInt, D, N: EndNumber>(
 }
 
 // Gives an end of a link the number of its node.
-fn set_number<I, D>(link: &mut OverlayLink<I, D>, is_last: bool, number: usize)
+fn set_number<I: IntNumber, D>(link: &mut OverlayLink<I, D>, is_last: bool, number: usize)
     ensures { link.new ≡ with_number is_last number link.old }
 {
     if is_last {

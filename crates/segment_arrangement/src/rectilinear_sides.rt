@@ -19,8 +19,6 @@ ghost use Rattle.i_tree.specs.Steps.{CountsExactly, CountsAtMost};
 ghost use Rattle.i_tree.specs.TreeBound.{most_comparisons};
 ghost use Rattle.plane_base.specs.Plane.{Point};
 ghost use Rattle.plane_base.specs.Counts.{Entry, Count as Windings};
-ghost use Rattle.plane_base.specs.Views.{point_of};
-ghost use Rattle.plane_base.specs.SegmentViews.{edge_of};
 ghost use Rattle.plane_base.specs.Windings.{winding};
 ghost use Rattle.plane_base.specs.declared.fault.Fault.TheVariants.{Count, Memory};
 ghost use Rattle.segment_split.specs.Kinds.{count_fits};
@@ -47,7 +45,7 @@ use crate::sweep::{Fans, SegmentSides, tell};
 use i_tree::Steps;
 use plane_base::equality::equality_of_segments;
 use plane_base::fault::Fault;
-use plane_base::int::OverlayInt;
+use plane_base::int::{IntNumber, OverlayInt};
 use plane_base::point::IntPoint;
 use plane_base::segment::XSegment;
 use segment_split::count::ShapeCountBoolean;
@@ -59,14 +57,14 @@ use std::sync::ledger::Ledger;
 
 /// Where a horizontal edge ends, and what lies above it.
 #[derive(Clone, Copy)]
-pub(crate) struct HorizontalEnd<I> {
+pub(crate) struct HorizontalEnd<I: IntNumber> {
     x: I,
     top: ShapeCountBoolean,
 }
 
 /// Where a vertical edge ends, and what lies to its right.
 #[derive(Clone, Copy)]
-pub(crate) struct VerticalEnd<I> {
+pub(crate) struct VerticalEnd<I: IntNumber> {
     point: IntPoint<I>,
     right: ShapeCountBoolean,
 }
@@ -100,7 +98,7 @@ impl<I: OverlayInt> HorizontalRows<I> {
 pub(crate) fn are_rectilinear<C: FilledCount, I: OverlayInt, D>(
     segments: &[Segment<C, I, D>],
 ) -> bool
-    ensures { IsTrue result → AllRectilinear (edges_of (all_seen C.sides I.value segments.now)) }
+    ensures { IsTrue result → AllRectilinear (edges_of (all_seen C.sides segments.now)) }
 {
     for segment in segments {
         if !is_rectilinear(segment.x_segment) {
@@ -112,7 +110,7 @@ pub(crate) fn are_rectilinear<C: FilledCount, I: OverlayInt, D>(
 
 // Whether a segment is horizontal or vertical.
 fn is_rectilinear<I: OverlayInt>(segment: XSegment<I>) -> bool
-    ensures { result ≡ is_rectilinear (edge_of I.value segment) }
+    ensures { result ≡ is_rectilinear segment }
 {
     let XSegment { a, b } = segment;
     a.y.to_i64() == b.y.to_i64() || a.x.to_i64() == b.x.to_i64()
@@ -124,7 +122,7 @@ fn collect_heights<C: FilledCount, I: OverlayInt, D>(
     segments: &[Segment<C, I, D>],
     guesses: &mut Guesses,
 ) -> Result<(), Fault>
-    ensures ok { OnOk result (AreHeights I.value (all_seen C.sides I.value segments.now) heights.new.items) }
+    ensures ok { OnOk result (AreHeights I.value (all_seen C.sides segments.now) heights.new.items) }
     ensures err { IfErr result (λ fault. fault ≡ Memory) }
 {
     heights.clear();
@@ -142,7 +140,7 @@ fn push_height<I: OverlayInt>(
     segment: XSegment<I>,
     guesses: &mut Guesses,
 ) -> Result<(), Fault>
-    ensures own { OnOk result (I.value segment.a.x <ℤ I.value segment.b.x → Contains heights.new.items segment.a.y) }
+    ensures own { OnOk result (segment.a.x <ℤ segment.b.x → Contains heights.new.items (I.of_value segment.a.y)) }
     ensures kept { OnOk result ((y : _) → Contains heights.old.items y → Contains heights.new.items y) }
     ensures few { OnOk result (length heights.new.items ≤ length heights.old.items + 1) }
     ensures err { IfErr result (λ fault. fault ≡ Memory) }
@@ -179,8 +177,8 @@ fn lay_rows<C: FilledCount, I: OverlayInt, D>(
     rows: &mut HorizontalRows<I>,
     segments: &[Segment<C, I, D>],
 ) -> Result<(), Fault>
-    ensures heights { OnOk result (AreHeights I.value (all_seen C.sides I.value segments.now) rows.new.heights.items) }
-    ensures ends { OnOk result (AreRows I.value (all_seen C.sides I.value segments.now) 0 rows.new) }
+    ensures heights { OnOk result (AreHeights I.value (all_seen C.sides segments.now) rows.new.heights.items) }
+    ensures ends { OnOk result (AreRows I.value (all_seen C.sides segments.now) 0 rows.new) }
     ensures vertical { OnOk result (rows.new.vertical ≡ None) }
     ensures none { OnOk result (members rows.new.live ≡ 0) }
     ensures err { IfErr result (λ fault. fault ≡ Memory) }
@@ -327,17 +325,17 @@ fn below_by_rows<C: FilledCount, I: OverlayInt, D, L: Ledger>(
     rows: &mut HorizontalRows<I>,
     steps: &mut Steps<L>,
 ) -> ShapeCountBoolean
-    requires arrangement { IsArrangement (all_seen C.sides I.value segments.now) }
-    requires rectilinear { AllRectilinear (edges_of (all_seen C.sides I.value segments.now)) }
+    requires arrangement { IsArrangement (all_seen C.sides segments.now) }
+    requires rectilinear { AllRectilinear (edges_of (all_seen C.sides segments.now)) }
     requires some { from < to }
     requires within { to ≤ length segments.now }
-    requires starts { AreStartsAt (all_seen C.sides I.value segments.now) (point_of I.value start) from to }
-    requires heights { AreHeights I.value (all_seen C.sides I.value segments.now) rows.old.heights.items }
-    requires ends { AreRows I.value (all_seen C.sides I.value segments.now) from rows.old }
-    requires place { IsPlaceOf I.value rows.old.heights.items (I.value start.y) before }
-    ensures is { result ≡ winding (all_seen C.sides I.value segments.now) (whole (point_of I.value start)) }
+    requires starts { AreStartsAt (all_seen C.sides segments.now) start from to }
+    requires heights { AreHeights I.value (all_seen C.sides segments.now) rows.old.heights.items }
+    requires ends { AreRows I.value (all_seen C.sides segments.now) from rows.old }
+    requires place { IsPlaceOf I.value rows.old.heights.items start.y before }
+    ensures is { result ≡ winding (all_seen C.sides segments.now) (whole start) }
     ensures stay { KeepsHeights rows.old rows.new }
-    ensures ends { AreRows I.value (all_seen C.sides I.value segments.now) from rows.new }
+    ensures ends { AreRows I.value (all_seen C.sides segments.now) from rows.new }
     ensures cost { CountsWithMembers steps.old steps.new rows.old.live rows.new.live 0 1 }
 {
     match live_below(&rows.ends, &mut rows.live, before, start.x, steps) {
@@ -356,18 +354,18 @@ fn below_horizontal_start<C: FilledCount, I: OverlayInt, D, L: Ledger>(
     rows: &mut HorizontalRows<I>,
     steps: &mut Steps<L>,
 ) -> ShapeCountBoolean
-    requires arrangement { IsArrangement (all_seen C.sides I.value segments.now) }
-    requires rectilinear { AllRectilinear (edges_of (all_seen C.sides I.value segments.now)) }
+    requires arrangement { IsArrangement (all_seen C.sides segments.now) }
+    requires rectilinear { AllRectilinear (edges_of (all_seen C.sides segments.now)) }
     requires some { from < to }
     requires within { to ≤ length segments.now }
-    requires starts { AreStartsAt (all_seen C.sides I.value segments.now) (point_of I.value start) from to }
-    requires heights { AreHeights I.value (all_seen C.sides I.value segments.now) rows.old.heights.items }
-    requires ends { AreRows I.value (all_seen C.sides I.value segments.now) from rows.old }
-    requires vertical { HoldsVertical I.value (all_seen C.sides I.value segments.now) rows.old.vertical }
-    requires place { IsPlaceOf I.value rows.old.heights.items (I.value start.y) before }
-    ensures is { result ≡ winding (all_seen C.sides I.value segments.now) (whole (point_of I.value start)) }
+    requires starts { AreStartsAt (all_seen C.sides segments.now) start from to }
+    requires heights { AreHeights I.value (all_seen C.sides segments.now) rows.old.heights.items }
+    requires ends { AreRows I.value (all_seen C.sides segments.now) from rows.old }
+    requires vertical { HoldsVertical (all_seen C.sides segments.now) rows.old.vertical }
+    requires place { IsPlaceOf I.value rows.old.heights.items start.y before }
+    ensures is { result ≡ winding (all_seen C.sides segments.now) (whole start) }
     ensures stay { KeepsHeights rows.old rows.new }
-    ensures ends { AreRows I.value (all_seen C.sides I.value segments.now) from rows.new }
+    ensures ends { AreRows I.value (all_seen C.sides segments.now) from rows.new }
     ensures cost { CountsWithMembers steps.old steps.new rows.old.live rows.new.live 0 1 }
 {
     equality_of_segments::<I>();
@@ -385,8 +383,8 @@ fn vertical_end<I: OverlayInt>(
     right: ShapeCountBoolean,
     kept: Option<VerticalEnd<I>>,
 ) -> Option<VerticalEnd<I>>
-    ensures { (es : List (Entry Windings)) (e : Entry Windings) → HoldsVertical I.value es kept → Contains es e → e.edge ≡ edge_of I.value segment →
-        right ≡ lower_side es e.edge → HoldsVertical I.value es result }
+    ensures { (es : List (Entry Windings)) (e : Entry Windings) → HoldsVertical es kept → Contains es e → e.edge ≡ segment →
+        right ≡ lower_side es e.edge → HoldsVertical es result }
 {
     let XSegment { a, b } = segment;
     if a.x.to_i64() == b.x.to_i64() {
@@ -403,21 +401,21 @@ fn keep_horizontal<C: FilledCount, I: OverlayInt, D>(
     place: usize,
     rows: &mut HorizontalRows<I>,
 )
-    requires arrangement { IsArrangement (all_seen C.sides I.value segments.now) }
-    requires rectilinear { AllRectilinear (edges_of (all_seen C.sides I.value segments.now)) }
+    requires arrangement { IsArrangement (all_seen C.sides segments.now) }
+    requires rectilinear { AllRectilinear (edges_of (all_seen C.sides segments.now)) }
     requires within { at < length segments.now }
     requires upper { (d : _) →
-        top ≡ upper_side (all_seen C.sides I.value segments.now) (seen_of C.sides I.value (slice_index_or segments.now at d)) }
-    requires place { (d : _) → IsPlaceOf I.value rows.old.heights.items (I.value (slice_index_or segments.now at d).x_segment.a.y) place }
-    requires heights { AreHeights I.value (all_seen C.sides I.value segments.now) rows.old.heights.items }
-    requires ends { AreRows I.value (all_seen C.sides I.value segments.now) at rows.old }
+        top ≡ upper_side (all_seen C.sides segments.now) (seen_of C.sides (slice_index_or segments.now at d)) }
+    requires place { (d : _) → IsPlaceOf I.value rows.old.heights.items (slice_index_or segments.now at d).x_segment.a.y place }
+    requires heights { AreHeights I.value (all_seen C.sides segments.now) rows.old.heights.items }
+    requires ends { AreRows I.value (all_seen C.sides segments.now) at rows.old }
     ensures stay { KeepsHeights rows.old rows.new }
-    ensures ends { AreRows I.value (all_seen C.sides I.value segments.now) (at + 1) rows.new }
-    ensures few { members rows.new.live + slanted (take at (all_seen C.sides I.value segments.now))
-        ≤ members rows.old.live + slanted (take (at + 1) (all_seen C.sides I.value segments.now)) }
+    ensures ends { AreRows I.value (all_seen C.sides segments.now) (at + 1) rows.new }
+    ensures few { members rows.new.live + slanted (take at (all_seen C.sides segments.now))
+        ≤ members rows.old.live + slanted (take (at + 1) (all_seen C.sides segments.now)) }
 {
-    let segment = segments[at].x_segment;
-    let XSegment { a, b } = segment;
+    let segment = &segments[at];
+    let XSegment { a, b } = segment.x_segment;
     if a.x.to_i64() < b.x.to_i64() {
         rows.ends[place] = Some(HorizontalEnd { x: b.x, top });
         rows.live.change(place, true);
@@ -435,25 +433,27 @@ fn sides_of_pair<C: FilledCount, I: OverlayInt, D>(
     requires some { 0 < length segments.now }
     requires two { length segments.now ≤ 2 }
     ensures lower { IfOk result (λ right. (es : List (Entry Windings)) (v : Point) (d : _) → IsArrangement es → AllRectilinear (edges_of es) →
-        filter (starts_at v) es ≡ all_seen C.sides I.value segments.now → below ≡ winding es (whole v) →
-        right ≡ lower_side es (edge_of I.value (slice_index_or segments.now 0 d).x_segment)) }
+        filter (starts_at v) es ≡ all_seen C.sides segments.now → below ≡ winding es (whole v) →
+        right ≡ lower_side es (slice_index_or segments.now 0 d).x_segment) }
     ensures len { OnOk result (length sides.new.items ≡ length segments.now) }
     ensures ok { OnOk result ((es : List (Entry Windings)) (v : Point) (i : ℕ) (d : _) (e : _) → IsArrangement es → AllRectilinear (edges_of es) →
-        filter (starts_at v) es ≡ all_seen C.sides I.value segments.now → below ≡ winding es (whole v) → i < length segments.now →
+        filter (starts_at v) es ≡ all_seen C.sides segments.now → below ≡ winding es (whole v) → i < length segments.now →
         slice_index_or sides.new.items i e
-        ≡ sides_of_segment C.sides C.filled I.value (fill_rule_of rule) es (slice_index_or segments.now i d)) }
+        ≡ sides_of_segment C.sides C.filled (fill_rule_of rule) es (slice_index_or segments.now i d)) }
     ensures err { IfErr result (λ fault. (fault ≡ Memory) ⊎ ((fault ≡ Count) × ((es : List (Entry Windings)) (v : Point) (d : _) →
         IsArrangement es → AllRectilinear (edges_of es) →
-        filter (starts_at v) es ≡ all_seen C.sides I.value segments.now → below ≡ winding es (whole v) →
-        (i : ℕ) × (i < length segments.now) × (count_fits (upper_side es (seen_of C.sides I.value (slice_index_or segments.now i d))) ≡ false)))) }
+        filter (starts_at v) es ≡ all_seen C.sides segments.now → below ≡ winding es (whole v) →
+        (i : ℕ) × (i < length segments.now) × (count_fits (upper_side es (seen_of C.sides (slice_index_or segments.now i d))) ≡ false)))) }
 {
     sides.clear();
+    let first = &segments[0];
     if segments.len() == 1 {
-        sides.push(sides_of(rule, below, segments[0].count)?)?;
+        sides.push(sides_of(rule, below, first.count)?)?;
         return Ok(below);
     }
-    let horizontal = sides_of(rule, below, segments[1].count)?;
-    sides.push(sides_of(rule, horizontal.top, segments[0].count)?)?;
+    let second = &segments[1];
+    let horizontal = sides_of(rule, below, second.count)?;
+    sides.push(sides_of(rule, horizontal.top, first.count)?)?;
     sides.push(horizontal)?;
     Ok(horizontal.top)
 }
@@ -468,9 +468,9 @@ fn horizontal_fan<C: FilledCount, I: OverlayInt, D, L: Ledger>(
     fans: &mut Fans<I>,
     steps: &mut Steps<L>,
 ) -> Result<(), Fault>
-    requires in_range { AreWithin I.least I.greatest (all_seen C.sides I.value segments.now) }
-    requires arrangement { IsArrangement (all_seen C.sides I.value segments.now) }
-    requires rectilinear { AllRectilinear (edges_of (all_seen C.sides I.value segments.now)) }
+    requires in_range { AreWithin I.least I.greatest (all_seen C.sides segments.now) }
+    requires arrangement { IsArrangement (all_seen C.sides segments.now) }
+    requires rectilinear { AllRectilinear (edges_of (all_seen C.sides segments.now)) }
     requires few { length segments.now < 2 ^ 31 }
     requires many { 64 ≤ length segments.now }
     requires some { from < to }
@@ -478,30 +478,31 @@ fn horizontal_fan<C: FilledCount, I: OverlayInt, D, L: Ledger>(
     requires together { (i : ℕ) (d : _) → from ≤ i → i < to →
         (slice_index_or segments.now i d).x_segment.a ≡ (slice_index_or segments.now from d).x_segment.a }
     requires starts { (d : _) →
-        AreStartsAt (all_seen C.sides I.value segments.now) (point_of I.value (slice_index_or segments.now from d).x_segment.a) from to }
-    requires heights { AreHeights I.value (all_seen C.sides I.value segments.now) rows.old.heights.items }
-    requires ends { AreRows I.value (all_seen C.sides I.value segments.now) from rows.old }
-    requires vertical { HoldsVertical I.value (all_seen C.sides I.value segments.now) rows.old.vertical }
+        AreStartsAt (all_seen C.sides segments.now) (slice_index_or segments.now from d).x_segment.a from to }
+    requires heights { AreHeights I.value (all_seen C.sides segments.now) rows.old.heights.items }
+    requires ends { AreRows I.value (all_seen C.sides segments.now) from rows.old }
+    requires vertical { HoldsVertical (all_seen C.sides segments.now) rows.old.vertical }
     ensures heights { rows.new.heights.items ≡ rows.old.heights.items }
-    ensures vertical { OnOk result (HoldsVertical I.value (all_seen C.sides I.value segments.now) rows.new.vertical) }
-    ensures ends { OnOk result (AreRows I.value (all_seen C.sides I.value segments.now) to rows.new) }
+    ensures vertical { OnOk result (HoldsVertical (all_seen C.sides segments.now) rows.new.vertical) }
+    ensures ends { OnOk result (AreRows I.value (all_seen C.sides segments.now) to rows.new) }
     ensures len { OnOk result (length fans.new.sides.items ≡ to - from) }
     ensures fills { OnOk result (map (λ s. s.fill) fans.new.sides.items
-        ≡ map (fill_told C.filled I.value (fill_rule_of rule) (all_seen C.sides I.value segments.now))
+        ≡ map (fill_told C.filled (fill_rule_of rule) (all_seen C.sides segments.now))
         (take (to - from) (drop from segments.now))) }
     ensures err { IfErr result (λ fault.
-        (fault ≡ Memory) ⊎ ((fault ≡ Count) × HasSideOutOfRange (all_seen C.sides I.value segments.now))) }
+        (fault ≡ Memory) ⊎ ((fault ≡ Count) × HasSideOutOfRange (all_seen C.sides segments.now))) }
     ensures cost { CountsWithMembers steps.old steps.new rows.old.live rows.new.live
-        (calls_of (take from (all_seen C.sides I.value segments.now)) * most_comparisons (length segments.now))
-        (calls_of (take to (all_seen C.sides I.value segments.now)) * most_comparisons (length segments.now)) }
+        (calls_of (take from (all_seen C.sides segments.now)) * most_comparisons (length segments.now))
+        (calls_of (take to (all_seen C.sides segments.now)) * most_comparisons (length segments.now)) }
 {
-    let start = segments[from].x_segment.a;
+    let first = &segments[from];
+    let start = first.x_segment.a;
     let near = rows.guesses.place(start.y.to_i64());
     let place = place_of(&rows.heights, start.y, near, steps);
     let below = below_horizontal_start(segments, from, to, start, place, rows, steps);
     let right = sides_of_pair(rule, &segments[from..to], below, &mut fans.sides)?;
     keep_fan(segments, from, to, &fans.sides, place, rows);
-    rows.vertical = vertical_end(segments[from].x_segment, right, rows.vertical);
+    rows.vertical = vertical_end(first.x_segment, right, rows.vertical);
     Ok(())
 }
 
@@ -514,22 +515,22 @@ fn keep_fan<C: FilledCount, I: OverlayInt, D>(
     place: usize,
     rows: &mut HorizontalRows<I>,
 )
-    requires arrangement { IsArrangement (all_seen C.sides I.value segments.now) }
-    requires rectilinear { AllRectilinear (edges_of (all_seen C.sides I.value segments.now)) }
+    requires arrangement { IsArrangement (all_seen C.sides segments.now) }
+    requires rectilinear { AllRectilinear (edges_of (all_seen C.sides segments.now)) }
     requires some { from < to }
     requires within { to ≤ length segments.now }
     requires one_each { length sides.now ≡ to - from }
     requires uppers { (i : ℕ) (d : _) (e : _) → i < to - from →
-        (slice_index_or sides.now i e).top ≡ upper_side (all_seen C.sides I.value segments.now)
-        (seen_of C.sides I.value (slice_index_or segments.now (from + i) d)) }
+        (slice_index_or sides.now i e).top ≡ upper_side (all_seen C.sides segments.now)
+        (seen_of C.sides (slice_index_or segments.now (from + i) d)) }
     requires place { (i : ℕ) (d : _) → from ≤ i → i < to →
-        IsPlaceOf I.value rows.old.heights.items (I.value (slice_index_or segments.now i d).x_segment.a.y) place }
-    requires heights { AreHeights I.value (all_seen C.sides I.value segments.now) rows.old.heights.items }
-    requires ends { AreRows I.value (all_seen C.sides I.value segments.now) from rows.old }
+        IsPlaceOf I.value rows.old.heights.items (slice_index_or segments.now i d).x_segment.a.y place }
+    requires heights { AreHeights I.value (all_seen C.sides segments.now) rows.old.heights.items }
+    requires ends { AreRows I.value (all_seen C.sides segments.now) from rows.old }
     ensures stay { KeepsHeights rows.old rows.new }
-    ensures ends { AreRows I.value (all_seen C.sides I.value segments.now) to rows.new }
-    ensures few { members rows.new.live + slanted (take from (all_seen C.sides I.value segments.now))
-        ≤ members rows.old.live + slanted (take to (all_seen C.sides I.value segments.now)) }
+    ensures ends { AreRows I.value (all_seen C.sides segments.now) to rows.new }
+    ensures few { members rows.new.live + slanted (take from (all_seen C.sides segments.now))
+        ≤ members rows.old.live + slanted (take to (all_seen C.sides segments.now)) }
 {
     for i in from..to {
         keep_horizontal(segments, i, sides[i - from].top, place, rows);
@@ -546,20 +547,20 @@ pub(crate) fn sweep_by_rows<C: FilledCount, I: OverlayInt, D, H: FillHandler<C, 
     mut handler: H,
     steps: &mut Steps<L>,
 ) -> Result<H::Output, Fault>
-    requires in_range { AreWithin I.least I.greatest (all_seen C.sides I.value segments.now) }
-    requires arrangement { IsArrangement (all_seen C.sides I.value segments.now) }
-    requires rectilinear { AllRectilinear (edges_of (all_seen C.sides I.value segments.now)) }
+    requires in_range { AreWithin I.least I.greatest (all_seen C.sides segments.now) }
+    requires arrangement { IsArrangement (all_seen C.sides segments.now) }
+    requires rectilinear { AllRectilinear (edges_of (all_seen C.sides segments.now)) }
     requires few { length segments.now < 2 ^ 31 }
     requires many { 64 ≤ length segments.now }
     ensures ok { IfOk result (λ output. IsHandled (λ h n s. H.handles h n s.x_segment s.count s.datum) H.finishes
-        (fill_told C.filled I.value (fill_rule_of rule) (all_seen C.sides I.value segments.now))
+        (fill_told C.filled (fill_rule_of rule) (all_seen C.sides segments.now))
         0 segments.now handler output) }
     ensures err { IfErr result (λ fault. (fault ≡ Memory)
         ⊎ IsRefused (λ h n s. H.handles h n s.x_segment s.count s.datum) (λ h n s. H.refuses h n s.x_segment s.count s.datum)
-        (fill_told C.filled I.value (fill_rule_of rule) (all_seen C.sides I.value segments.now)) 0 segments.now handler fault
-        ⊎ ((fault ≡ Count) × HasSideOutOfRange (all_seen C.sides I.value segments.now))) }
+        (fill_told C.filled (fill_rule_of rule) (all_seen C.sides segments.now)) 0 segments.now handler fault
+        ⊎ ((fault ≡ Count) × HasSideOutOfRange (all_seen C.sides segments.now))) }
     ensures cost { CountsAtMost steps.old steps.new
-        (calls_of (all_seen C.sides I.value segments.now) * most_comparisons (length segments.now)) }
+        (calls_of (all_seen C.sides segments.now) * most_comparisons (length segments.now)) }
 {
     lay_rows(rows, segments)?;
     let mut from = 0;

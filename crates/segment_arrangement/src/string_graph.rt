@@ -1,6 +1,6 @@
 //! The graph of a string map: links, and the nodes at which they meet as lists of places.
 
-ghost use Rattle.std.specs.Prelude.{◌≡◌, ◌≤◌, ⊤, length, map, All};
+ghost use Rattle.std.specs.Prelude.{◌≡◌, ⊤, map, All};
 ghost use Rattle.plane_base.specs.Segments.{IsEdgeWithin};
 ghost use Rattle.segment_arrangement.specs.Graphs.{AreLists};
 ghost use Rattle.segment_arrangement.specs.LinkViews.{link_edge_of, AreNumbered};
@@ -17,9 +17,9 @@ use std::alloc::AllocError;
 pub struct StringGraph<'a, I: OverlayInt> {
     links: &'a [OverlayLink<I, ()>],
     nodes: &'a [Vec<usize>],
-    pub ghost joined: { AreLists (map (link_edge_of I.value) links.now) (map (λ n. n.items) nodes.now) } by { Prim.hlevel props },
-    pub ghost numbered: { AreNumbered I.value links.now } by { Prim.hlevel props },
-    pub ghost in_range: { All (λ l. IsEdgeWithin I.least I.greatest (link_edge_of I.value l)) links.now } by { Prim.hlevel props },
+    pub ghost joined: { AreLists (map link_edge_of links.now) (map (λ n. n.items) nodes.now) } by { Prim.hlevel props },
+    pub ghost numbered: { AreNumbered links.now } by { Prim.hlevel props },
+    pub ghost in_range: { All (λ l. IsEdgeWithin I.least I.greatest (link_edge_of l)) links.now } by { Prim.hlevel props },
 }
 
 impl<'a, I: OverlayInt> Clone for StringGraph<'a, I> {
@@ -37,9 +37,9 @@ impl<'a, I: OverlayInt> StringGraph<'a, I> {
 
     // The graph of these links and nodes.
     pub(crate) fn new(links: &'a [OverlayLink<I, ()>], nodes: &'a [Vec<usize>]) -> Self
-        requires joined { AreLists (map (link_edge_of I.value) links.now) (map (λ n. n.items) nodes.now) }
-        requires numbered { AreNumbered I.value links.now }
-        requires in_range { All (λ l. IsEdgeWithin I.least I.greatest (link_edge_of I.value l)) links.now }
+        requires joined { AreLists (map link_edge_of links.now) (map (λ n. n.items) nodes.now) }
+        requires numbered { AreNumbered links.now }
+        requires in_range { All (λ l. IsEdgeWithin I.least I.greatest (link_edge_of l)) links.now }
         ensures links { string_links_of result ≡ links.now }
         ensures nodes { lists_lent_by result ≡ map (λ n. n.items) nodes.now }
     {

@@ -10,7 +10,6 @@ ghost use Rattle.std.specs.Prelude.{◌≡◌, ℕ, ◌+◌, ◌-◌, ◌*◌, �
 ghost use Rattle.std.specs.Prelude.{length, map, take, drop, slice_index_or, IfOk, OnOk, IfErr, IsOkUnless, IsTrue};
 ghost use Rattle.i_tree.specs.LiveList.{nothing_kept};
 ghost use Rattle.i_tree.specs.Steps.{CountsAtMost};
-ghost use Rattle.plane_base.specs.Views.{point_of};
 ghost use Rattle.plane_base.specs.SegmentViews.{edge_of};
 ghost use Rattle.plane_base.specs.declared.fault.Fault.TheVariants.{Count, Memory};
 ghost use Rattle.segment_split.specs.LineLaws.{AllRectilinear};
@@ -41,7 +40,7 @@ use i_tree::key::row::KeyExpRow;
 use i_tree::key::tree::KeyExpTree;
 use i_tree::{ExpiredKey, Steps};
 use plane_base::fault::Fault;
-use plane_base::int::OverlayInt;
+use plane_base::int::{IntNumber, OverlayInt};
 use plane_base::segment::VSegment;
 use segment_split::count::ShapeCountBoolean;
 use segment_split::segment::Segment;
@@ -105,21 +104,21 @@ impl<I: OverlayInt> SweepRunner<I> {
         handler: H,
         steps: &mut Steps<L>,
     ) -> Result<H::Output, Fault>
-        requires in_range { AreWithin I.least I.greatest (all_seen C.sides I.value segments.now) }
-        requires arrangement { IsArrangement (all_seen C.sides I.value segments.now) }
+        requires in_range { AreWithin I.least I.greatest (all_seen C.sides segments.now) }
+        requires arrangement { IsArrangement (all_seen C.sides segments.now) }
         requires few { length segments.now < 2 ^ 31 }
         ensures ok { IfOk result (λ output. IsHandled (λ h n s. H.handles h n s.x_segment s.count s.datum) H.finishes
-            (fill_told C.filled I.value (fill_rule_of rule) (all_seen C.sides I.value segments.now))
+            (fill_told C.filled (fill_rule_of rule) (all_seen C.sides segments.now))
             0 segments.now handler output) }
         ensures alone { IfOk result (λ output. IsHandledAlone (λ h n s. H.handles h n s.x_segment s.count s.datum) H.finishes
-            (λ s. edge_of I.value s.x_segment) (fill_told C.filled I.value (fill_rule_of rule)) (all_seen C.sides I.value segments.now)
+            (λ s. s.x_segment) (fill_told C.filled (fill_rule_of rule)) (all_seen C.sides segments.now)
             segments.now handler output) }
         ensures err { IfErr result (λ fault. (fault ≡ Memory)
             ⊎ IsRefused (λ h n s. H.handles h n s.x_segment s.count s.datum) (λ h n s. H.refuses h n s.x_segment s.count s.datum)
-            (fill_told C.filled I.value (fill_rule_of rule) (all_seen C.sides I.value segments.now)) 0 segments.now handler fault
-            ⊎ ((fault ≡ Count) × HasSideOutOfRange (all_seen C.sides I.value segments.now))) }
+            (fill_told C.filled (fill_rule_of rule) (all_seen C.sides segments.now)) 0 segments.now handler fault
+            ⊎ ((fault ≡ Count) × HasSideOutOfRange (all_seen C.sides segments.now))) }
         ensures cost { CountsAtMost steps.old steps.new
-            (calls_of (all_seen C.sides I.value segments.now) * most_in_call solver.now.strategy (length segments.now)) }
+            (calls_of (all_seen C.sides segments.now) * most_in_call solver.now.strategy (length segments.now)) }
         ensures tree_cost { stands_on_list solver.now.strategy (length segments.now) ≡ false →
             CountsAtMost steps.old steps.new (most_with_tree (length segments.now)) }
     {
@@ -183,7 +182,7 @@ fn goes_by_rows<C: FilledCount, I: OverlayInt, D>(
     strategy: Strategy,
     segments: &[Segment<C, I, D>],
 ) -> bool
-    ensures rectilinear { IsTrue result → AllRectilinear (edges_of (all_seen C.sides I.value segments.now)) }
+    ensures rectilinear { IsTrue result → AllRectilinear (edges_of (all_seen C.sides segments.now)) }
     ensures strategy { IsTrue result → strategy ≡ Auto }
 {
     matches!(strategy, Strategy::Auto) && are_rectilinear(segments)
@@ -210,19 +209,19 @@ fn sweep<
     mut handler: H,
     steps: &mut Steps<L>,
 ) -> Result<H::Output, Fault>
-    requires in_range { AreWithin I.least I.greatest (all_seen C.sides I.value segments.now) }
-    requires arrangement { IsArrangement (all_seen C.sides I.value segments.now) }
+    requires in_range { AreWithin I.least I.greatest (all_seen C.sides segments.now) }
+    requires arrangement { IsArrangement (all_seen C.sides segments.now) }
     requires few { length segments.now < 2 ^ 31 }
     requires nothing { K.live_list live.old ≡ nothing_kept }
     ensures ok { IfOk result (λ output. IsHandled (λ h n s. H.handles h n s.x_segment s.count s.datum) H.finishes
-        (fill_told C.filled I.value (fill_rule_of rule) (all_seen C.sides I.value segments.now))
+        (fill_told C.filled (fill_rule_of rule) (all_seen C.sides segments.now))
         0 segments.now handler output) }
     ensures err { IfErr result (λ fault. (fault ≡ Memory)
         ⊎ IsRefused (λ h n s. H.handles h n s.x_segment s.count s.datum) (λ h n s. H.refuses h n s.x_segment s.count s.datum)
-        (fill_told C.filled I.value (fill_rule_of rule) (all_seen C.sides I.value segments.now)) 0 segments.now handler fault
-        ⊎ ((fault ≡ Count) × HasSideOutOfRange (all_seen C.sides I.value segments.now))) }
+        (fill_told C.filled (fill_rule_of rule) (all_seen C.sides segments.now)) 0 segments.now handler fault
+        ⊎ ((fault ≡ Count) × HasSideOutOfRange (all_seen C.sides segments.now))) }
     ensures cost { CountsAtMost steps.old steps.new
-        (calls_of (all_seen C.sides I.value segments.now) * K.most_comparisons (length segments.now)) }
+        (calls_of (all_seen C.sides segments.now) * K.most_comparisons (length segments.now)) }
 {
     let mut from = 0;
     while from < segments.len() {
@@ -252,29 +251,30 @@ fn sweep_fan<
     fans: &mut Fans<I>,
     steps: &mut Steps<L>,
 ) -> Result<(), Fault>
-    requires in_range { AreWithin I.least I.greatest (all_seen C.sides I.value segments.now) }
-    requires arrangement { IsArrangement (all_seen C.sides I.value segments.now) }
+    requires in_range { AreWithin I.least I.greatest (all_seen C.sides segments.now) }
+    requires arrangement { IsArrangement (all_seen C.sides segments.now) }
     requires few { length segments.now < 2 ^ 31 }
     requires some { from < to }
     requires within { to ≤ length segments.now }
     requires together { (i : ℕ) (d : _) → from ≤ i → i < to →
         (slice_index_or segments.now i d).x_segment.a ≡ (slice_index_or segments.now from d).x_segment.a }
     requires starts { (d : _) →
-        AreStartsAt (all_seen C.sides I.value segments.now) (point_of I.value (slice_index_or segments.now from d).x_segment.a) from to }
-    requires swept { IsSwept I.value I.cmp ⟦<VSegment<I> as ExpiredKey<I>>⟧.expires (edge_of I.value)
-        (all_seen C.sides I.value segments.now) from (K.live_list live.old) }
-    ensures swept { OnOk result (IsSwept I.value I.cmp ⟦<VSegment<I> as ExpiredKey<I>>⟧.expires (edge_of I.value)
-        (all_seen C.sides I.value segments.now) to (K.live_list live.new)) }
+        AreStartsAt (all_seen C.sides segments.now) (slice_index_or segments.now from d).x_segment.a from to }
+    requires swept { IsSwept I.value I.cmp ⟦<VSegment<I> as ExpiredKey<I>>⟧.expires edge_of
+        (all_seen C.sides segments.now) from (K.live_list live.old) }
+    ensures swept { OnOk result (IsSwept I.value I.cmp ⟦<VSegment<I> as ExpiredKey<I>>⟧.expires edge_of
+        (all_seen C.sides segments.now) to (K.live_list live.new)) }
     ensures len { OnOk result (length fans.new.sides.items ≡ to - from) }
     ensures fills { OnOk result (map (λ s. s.fill) fans.new.sides.items
-        ≡ map (fill_told C.filled I.value (fill_rule_of rule) (all_seen C.sides I.value segments.now))
+        ≡ map (fill_told C.filled (fill_rule_of rule) (all_seen C.sides segments.now))
         (take (to - from) (drop from segments.now))) }
     ensures err { IfErr result (λ fault.
-        (fault ≡ Memory) ⊎ ((fault ≡ Count) × HasSideOutOfRange (all_seen C.sides I.value segments.now))) }
-    ensures cost { MakesCalls steps.old steps.new (calls_of (take from (all_seen C.sides I.value segments.now)))
-        (calls_of (take to (all_seen C.sides I.value segments.now))) (K.most_comparisons (length segments.now)) }
+        (fault ≡ Memory) ⊎ ((fault ≡ Count) × HasSideOutOfRange (all_seen C.sides segments.now))) }
+    ensures cost { MakesCalls steps.old steps.new (calls_of (take from (all_seen C.sides segments.now)))
+        (calls_of (take to (all_seen C.sides segments.now))) (K.most_comparisons (length segments.now)) }
 {
-    let start = segments[from].x_segment.a;
+    let first = &segments[from];
+    let start = first.x_segment.a;
     let sought = below_start(live, start, steps);
     sides_of_fan(
         rule,
@@ -302,8 +302,8 @@ fn insert_fan<
     live: &mut K,
     steps: &mut Steps<L>,
 ) -> Result<(), Fault>
-    requires in_range { AreWithin I.least I.greatest (all_seen C.sides I.value segments.now) }
-    requires arrangement { IsArrangement (all_seen C.sides I.value segments.now) }
+    requires in_range { AreWithin I.least I.greatest (all_seen C.sides segments.now) }
+    requires arrangement { IsArrangement (all_seen C.sides segments.now) }
     requires few { length segments.now < 2 ^ 31 }
     requires some { from < to }
     requires within { to ≤ length segments.now }
@@ -311,18 +311,18 @@ fn insert_fan<
     requires together { (i : ℕ) (d : _) → from ≤ i → i < to →
         (slice_index_or segments.now i d).x_segment.a ≡ (slice_index_or segments.now from d).x_segment.a }
     requires uppers { (i : ℕ) (d : _) (e : _) → i < to - from →
-        (slice_index_or sides.now i e).top ≡ upper_side (all_seen C.sides I.value segments.now)
-        (seen_of C.sides I.value (slice_index_or segments.now (from + i) d)) }
-    requires swept { IsSwept I.value I.cmp ⟦<VSegment<I> as ExpiredKey<I>>⟧.expires (edge_of I.value)
-        (all_seen C.sides I.value segments.now) from (K.live_list live.old) }
-    requires now { (d : _) → (K.live_list live.old).latest_time ≡ Some (slice_index_or segments.now from d).x_segment.a.x }
-    requires place { (d : _) → IsPlaceAt (edge_of I.value) (point_of I.value (slice_index_or segments.now from d).x_segment.a)
+        (slice_index_or sides.now i e).top ≡ upper_side (all_seen C.sides segments.now)
+        (seen_of C.sides (slice_index_or segments.now (from + i) d)) }
+    requires swept { IsSwept I.value I.cmp ⟦<VSegment<I> as ExpiredKey<I>>⟧.expires edge_of
+        (all_seen C.sides segments.now) from (K.live_list live.old) }
+    requires now { (d : _) → (K.live_list live.old).latest_time ≡ Some (I.of_value (slice_index_or segments.now from d).x_segment.a.x) }
+    requires place { (d : _) → IsPlaceAt edge_of (slice_index_or segments.now from d).x_segment.a
         (K.before_place live.old place) (K.after_place live.old place) }
-    ensures ok { OnOk result (IsSwept I.value I.cmp ⟦<VSegment<I> as ExpiredKey<I>>⟧.expires (edge_of I.value)
-        (all_seen C.sides I.value segments.now) to (K.live_list live.new)) }
+    ensures ok { OnOk result (IsSwept I.value I.cmp ⟦<VSegment<I> as ExpiredKey<I>>⟧.expires edge_of
+        (all_seen C.sides segments.now) to (K.live_list live.new)) }
     ensures err { IfErr result (λ fault. fault ≡ Memory) }
-    ensures cost { MakesCalls steps.old steps.new (slanted (take from (all_seen C.sides I.value segments.now)))
-        (slanted (take to (all_seen C.sides I.value segments.now))) (K.most_comparisons (length segments.now)) }
+    ensures cost { MakesCalls steps.old steps.new (slanted (take from (all_seen C.sides segments.now)))
+        (slanted (take to (all_seen C.sides segments.now))) (K.most_comparisons (length segments.now)) }
 {
     let mut next = place;
     for i in from..to {
@@ -332,7 +332,7 @@ fn insert_fan<
 }
 
 // Tells the handler the segments with their fills, from this place of the list on. Gives its output where it breaks off.
-pub(crate) fn tell<C, I: Ord, D, H: FillHandler<C, I, D>>(
+pub(crate) fn tell<C, I: IntNumber, D, H: FillHandler<C, I, D>>(
     segments: &[Segment<C, I, D>],
     from: usize,
     sides: &[SegmentSides],

@@ -1,5 +1,4 @@
 mod Lives
-mod Orders
 pub mod Passes
 pub mod Redrawing
 pub mod DataMaps

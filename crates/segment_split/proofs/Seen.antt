@@ -18,7 +18,7 @@ use Rattle.segment_split.specs.RedrawLaws.{with_counts}
 use Rattle.segment_split.specs.Refusals.{IsOverfull}
 use Rattle.segment_split.specs.SegmentViews.{entry_of, entries_of, AreCounted}
 use Rattle.segment_split.specs.Seen.{Seen, seen, seen_join, carrying, normal_seen, seen_entry_of, seen_entries_of}
-use Rattle.segment_split.specs.declared.segment.Segment.{Segment}
+use Rattle.segment_split.specs.SegmentParts.{Segment}
 use Rattle.segment_split.specs.declared.solver.Precision.{Precision}
 use Rattle.std.proofs.lemmas.Bool.{false≢true}
 use Rattle.segment_split.proofs.DataMaps.Counts.{carried_counting}
@@ -49,84 +49,84 @@ carrying_counting laws joins join h = carried_counting laws (seen_joins join joi
 
 -- ---- segments
 
-module _ {C I D : Type 0} {order equality part : _} (value : I → ℤ) (joins : Bool) where
-  pub seen_without : (ss : List (Segment C I D order equality part)) → without_data (seen_entries_of value joins ss) ≡ entries_of value ss
+module _ {C I D : Type 0} (value : I → ℤ) (joins : Bool) where
+  pub seen_without : (ss : List (Segment C D)) → without_data (seen_entries_of joins ss) ≡ entries_of ss
   seen_without [] = refl
-  seen_without (s ∷ ss) = ap (λ l. entry_of value s ∷ l) (seen_without ss)
+  seen_without (s ∷ ss) = ap (λ l. entry_of s ∷ l) (seen_without ss)
 
-  pub seen_edges : (ss : List (Segment C I D order equality part)) → edges_of (seen_entries_of value joins ss) ≡ edges_of (entries_of value ss)
+  pub seen_edges : (ss : List (Segment C D)) → edges_of (seen_entries_of joins ss) ≡ edges_of (entries_of ss)
   seen_edges [] = refl
-  seen_edges (s ∷ ss) = ap (λ l. edge_of value s.x_segment ∷ l) (seen_edges ss)
+  seen_edges (s ∷ ss) = ap (λ l. edge_of s.x_segment ∷ l) (seen_edges ss)
 
   -- what holds of all edges
-  pub seen_all : (P : Edge → Type 0) (ss : List (Segment C I D order equality part)) → All (λ e. P e.edge) (entries_of value ss)
-      → All (λ e. P e.edge) (seen_entries_of value joins ss)
+  pub seen_all : (P : Edge → Type 0) (ss : List (Segment C D)) → All (λ e. P e.edge) (entries_of ss)
+      → All (λ e. P e.edge) (seen_entries_of joins ss)
   seen_all P [] h = All-nil (λ e. P e.edge)
   seen_all P (s ∷ ss) h =
-      All-cons (λ e. P e.edge) (seen_entry_of value joins s) (seen_entries_of value joins ss) (All-head (λ e. P e.edge) (entry_of value s) (entries_of value ss) h)
-      (seen_all P ss (All-tail (λ e. P e.edge) (entry_of value s) (entries_of value ss) h))
+      All-cons (λ e. P e.edge) (seen_entry_of joins s) (seen_entries_of joins ss) (All-head (λ e. P e.edge) (entry_of s) (entries_of ss) h)
+      (seen_all P ss (All-tail (λ e. P e.edge) (entry_of s) (entries_of ss) h))
 
   -- what holds of all pairs of edges
-  pub seen_pairs : (R : Edge → Edge → Type 0) (ss : List (Segment C I D order equality part))
-      → AllPairs (λ e f. R e.edge f.edge) (entries_of value ss) → AllPairs (λ e f. R e.edge f.edge) (seen_entries_of value joins ss)
+  pub seen_pairs : (R : Edge → Edge → Type 0) (ss : List (Segment C D))
+      → AllPairs (λ e f. R e.edge f.edge) (entries_of ss) → AllPairs (λ e f. R e.edge f.edge) (seen_entries_of joins ss)
   seen_pairs R [] h = AllPairs-nil (λ e f. R e.edge f.edge)
   seen_pairs R (s ∷ ss) h =
-      AllPairs-cons (λ e f. R e.edge f.edge) (seen_entry_of value joins s) (seen_entries_of value joins ss)
-      (seen_all (R (edge_of value s.x_segment)) ss (AllPairs-head (λ e f. R e.edge f.edge) (entry_of value s) (entries_of value ss) h))
-      (seen_pairs R ss (AllPairs-tail (λ e f. R e.edge f.edge) (entry_of value s) (entries_of value ss) h))
+      AllPairs-cons (λ e f. R e.edge f.edge) (seen_entry_of joins s) (seen_entries_of joins ss)
+      (seen_all (R (edge_of s.x_segment)) ss (AllPairs-head (λ e f. R e.edge f.edge) (entry_of s) (entries_of ss) h))
+      (seen_pairs R ss (AllPairs-tail (λ e f. R e.edge f.edge) (entry_of s) (entries_of ss) h))
 
   -- what is added of what is seen
-  pub seen_added : (before after : List (Segment C I D order equality part)) (more : List (Entry (C × Seen joins D)))
-      → seen_entries_of value joins after ≡ seen_entries_of value joins before ++ more → entries_of value after ≡ entries_of value before ++ without_data more
+  pub seen_added : (before after : List (Segment C D)) (more : List (Entry (C × Seen joins D)))
+      → seen_entries_of joins after ≡ seen_entries_of joins before ++ more → entries_of after ≡ entries_of before ++ without_data more
   seen_added before after more h =
       sym (seen_without after)
       ∙ (ap without_data h
-      ∙ (map-append (λ (e : Entry (C × Seen joins D)). record { edge = e.edge; count = e.count.0 }) (seen_entries_of value joins before) more
+      ∙ (map-append (λ (e : Entry (C × Seen joins D)). record { edge = e.edge; count = e.count.0 }) (seen_entries_of joins before) more
       ∙ ap (λ l. l ++ without_data more) (seen_without before)))
 
   module _ (kind : Counting C) where
     -- what is dropped of segments is told by their counts
-    pub seen_filtered : (ss : List (Segment C I D order equality part))
-        → seen_entries_of value joins (filter (λ s. is_counted kind s.count) ss) ≡ counted_with_data kind (seen_entries_of value joins ss)
+    pub seen_filtered : (ss : List (Segment C D))
+        → seen_entries_of joins (filter (λ s. is_counted kind s.count) ss) ≡ counted_with_data kind (seen_entries_of joins ss)
     seen_filtered [] = refl
     seen_filtered (s ∷ ss) = by (is_counted kind s.count) (seen_filtered ss)
       where
-        by : (b : Bool) → seen_entries_of value joins (filter (λ s. is_counted kind s.count) ss) ≡ counted_with_data kind (seen_entries_of value joins ss)
-            → seen_entries_of value joins (cond b (s ∷ filter (λ s. is_counted kind s.count) ss) (filter (λ s. is_counted kind s.count) ss))
-            ≡ cond b (seen_entry_of value joins s ∷ counted_with_data kind (seen_entries_of value joins ss)) (counted_with_data kind (seen_entries_of value joins ss))
-        by true h = ap (λ l. seen_entry_of value joins s ∷ l) h
+        by : (b : Bool) → seen_entries_of joins (filter (λ s. is_counted kind s.count) ss) ≡ counted_with_data kind (seen_entries_of joins ss)
+            → seen_entries_of joins (cond b (s ∷ filter (λ s. is_counted kind s.count) ss) (filter (λ s. is_counted kind s.count) ss))
+            ≡ cond b (seen_entry_of joins s ∷ counted_with_data kind (seen_entries_of joins ss)) (counted_with_data kind (seen_entries_of joins ss))
+        by true h = ap (λ l. seen_entry_of joins s ∷ l) h
         by false h = h
 
     -- where none counts for nothing none is dropped
-    pub seen_counted : (ss : List (Segment C I D order equality part)) → AreCounted kind (entries_of value ss)
-        → counted_with_data kind (seen_entries_of value joins ss) ≡ seen_entries_of value joins ss
+    pub seen_counted : (ss : List (Segment C D)) → AreCounted kind (entries_of ss)
+        → counted_with_data kind (seen_entries_of joins ss) ≡ seen_entries_of joins ss
     seen_counted [] h = refl
     seen_counted (s ∷ ss) h =
-        ap (λ b. cond (not b) (seen_entry_of value joins s ∷ counted_with_data kind (seen_entries_of value joins ss)) (counted_with_data kind (seen_entries_of value joins ss)))
-        (All-head (λ e. kind.is_empty e.count ≡ false) (entry_of value s) (entries_of value ss) h)
-        ∙ ap (λ l. seen_entry_of value joins s ∷ l) (seen_counted ss (All-tail (λ e. kind.is_empty e.count ≡ false) (entry_of value s) (entries_of value ss) h))
+        ap (λ b. cond (not b) (seen_entry_of joins s ∷ counted_with_data kind (seen_entries_of joins ss)) (counted_with_data kind (seen_entries_of joins ss)))
+        (All-head (λ e. kind.is_empty e.count ≡ false) (entry_of s) (entries_of ss) h)
+        ∙ ap (λ l. seen_entry_of joins s ∷ l) (seen_counted ss (All-tail (λ e. kind.is_empty e.count ≡ false) (entry_of s) (entries_of ss) h))
 
-    module _ (join : D → D → D) (ss : List (Segment C I D order equality part)) where
-      pub seen_map : IsMap kind (entries_of value ss) → IsMap (carrying kind joins join) (seen_entries_of value joins ss)
-      seen_map h = map_with_data kind (seen_join joins join) (seen_entries_of value joins ss) (subst (IsMap kind) (sym (seen_without ss)) h)
+    module _ (join : D → D → D) (ss : List (Segment C D)) where
+      pub seen_map : IsMap kind (entries_of ss) → IsMap (carrying kind joins join) (seen_entries_of joins ss)
+      seen_map h = map_with_data kind (seen_join joins join) (seen_entries_of joins ss) (subst (IsMap kind) (sym (seen_without ss)) h)
 
-      pub seen_pass : IsMap kind (entries_of value ss) → AllPass (carrying kind joins join) (λ c. is_counted kind c.0) (seen_entries_of value joins ss)
-      seen_pass h = map_passes_with_data kind (seen_join joins join) (seen_entries_of value joins ss) (subst (IsMap kind) (sym (seen_without ss)) h)
+      pub seen_pass : IsMap kind (entries_of ss) → AllPass (carrying kind joins join) (λ c. is_counted kind c.0) (seen_entries_of joins ss)
+      seen_pass h = map_passes_with_data kind (seen_join joins join) (seen_entries_of joins ss) (subst (IsMap kind) (sym (seen_without ss)) h)
 
-      pub seen_normal : IsNormal kind (entries_of value ss) → IsNormal (carrying kind joins join) (seen_entries_of value joins ss)
-      seen_normal h = normal_map_with_data kind (seen_join joins join) (seen_entries_of value joins ss) (subst (IsNormal kind) (sym (seen_without ss)) h)
+      pub seen_normal : IsNormal kind (entries_of ss) → IsNormal (carrying kind joins join) (seen_entries_of joins ss)
+      seen_normal h = normal_map_with_data kind (seen_join joins join) (seen_entries_of joins ss) (subst (IsNormal kind) (sym (seen_without ss)) h)
 
-      pub seen_overfull : (fits : C → Bool) → IsOverfull (carrying kind joins join) (λ c. fits c.0) (seen_entries_of value joins ss)
-          → IsOverfull kind fits (entries_of value ss)
-      seen_overfull fits over = subst (IsOverfull kind fits) (seen_without ss) (overfull_without_data kind (seen_join joins join) fits (seen_entries_of value joins ss) over)
+      pub seen_overfull : (fits : C → Bool) → IsOverfull (carrying kind joins join) (λ c. fits c.0) (seen_entries_of joins ss)
+          → IsOverfull kind fits (entries_of ss)
+      seen_overfull fits over = subst (IsOverfull kind fits) (seen_without ss) (overfull_without_data kind (seen_join joins join) fits (seen_entries_of joins ss) over)
 
 -- ---- redrawing
 
 -- what is seen is what there is, where data are joined
-pub seen_redrawn : {C I D : Type 0} {order equality part : _} (value : I → ℤ) (joins : Bool) (kind : Counting C) (join : D → D → D) (precision : Precision)
-    (given redrawn : List (Segment C I D order equality part))
-    → seen_entries_of value joins redrawn ≡ redrawn_with_data kind (seen_join joins join) precision (normal_seen kind joins join (seen_entries_of value joins given))
-    → joins ≡ true → data_entries_of value redrawn ≡ redrawn_with_data kind join precision (normal_with_data kind join (data_entries_of value given))
+pub seen_redrawn : {C I D : Type 0} (value : I → ℤ) (joins : Bool) (kind : Counting C) (join : D → D → D) (precision : Precision)
+    (given redrawn : List (Segment C D))
+    → seen_entries_of joins redrawn ≡ redrawn_with_data kind (seen_join joins join) precision (normal_seen kind joins join (seen_entries_of joins given))
+    → joins ≡ true → data_entries_of redrawn ≡ redrawn_with_data kind join precision (normal_with_data kind join (data_entries_of given))
 seen_redrawn value true kind join precision given redrawn h told = h
 seen_redrawn value false kind join precision given redrawn h told = absurd (false≢true told)
 
@@ -134,10 +134,10 @@ seen_redrawn value false kind join precision given redrawn h told = absurd (fals
 
 module _ {C : Type 0} (kind : Counting C) where
   -- what a step lays, where its data are joined and where not
-  pub seen_lay : {I D : Type 0} {order equality part : _} (value : I → ℤ) (joins : Bool) (join : D → D → D)
-      (s : Segment C I D order equality part) (u v : Point) (c : C) (d : D)
-      → entry_of value s ∷ [] ≡ lay kind u v c → (joins ≡ true → data_entry_of value s ∷ [] ≡ lay (carried kind join) u v (c, d))
-      → seen_entry_of value joins s ∷ [] ≡ lay (carrying kind joins join) u v (c, seen joins d)
+  pub seen_lay : {I D : Type 0} (value : I → ℤ) (joins : Bool) (join : D → D → D)
+      (s : Segment C D) (u v : Point) (c : C) (d : D)
+      → entry_of s ∷ [] ≡ lay kind u v c → (joins ≡ true → data_entry_of s ∷ [] ≡ lay (carried kind join) u v (c, d))
+      → seen_entry_of joins s ∷ [] ≡ lay (carrying kind joins join) u v (c, seen joins d)
   seen_lay value true join s u v c d is told = told refl
   seen_lay {I} {D} value false join s u v c d is told = ap (with_counts bare) is ∙ by (point_order u v)
     where

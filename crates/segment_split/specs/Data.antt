@@ -1,14 +1,13 @@
 -- Data that edges carry beside their counts. All of an edge are joined first; then those that count for nothing are dropped, with their data.
-use Rattle.std.specs.Prelude.{◌≡◌, ◌⊎◌, ℕ, zero, suc, ◌+◌, ℤ, Bool, true, false, not, List, ◌++◌, map, filter}
+use Rattle.std.specs.Prelude.{◌≡◌, ◌⊎◌, ℕ, zero, suc, ◌+◌, Bool, true, false, not, List, ◌++◌, map, filter}
 use Rattle.plane_base.specs.Plane.{Point, is_before}
 use Rattle.plane_base.specs.Counts.{Counting, Entry, lay, normal}
-use Rattle.plane_base.specs.SegmentViews.{edge_of}
 use Rattle.segment_split.specs.Passes.{early_passes, edges_of}
 use Rattle.segment_split.specs.Redrawing.{spread}
 use Rattle.segment_split.specs.Refusals.{steps_in}
 use Rattle.segment_split.specs.RedrawLaws.{with_counts}
 use Rattle.segment_split.specs.declared.solver.Precision.{Precision}
-use Rattle.segment_split.specs.declared.segment.Segment.{Segment}
+use Rattle.segment_split.specs.SegmentParts.{Segment}
 
 -- Data may be joined in any order and in any grouping, and a datum joined with itself is that datum.
 pub record IsJoin {D : Type 0} (join : D → D → D) : Type 0 where
@@ -76,8 +75,8 @@ redrawn_with_data kind join precision es =
 
 -- ---- what contracts see of segments with their data
 
-abbrev pub data_entry_of : {C I D : Type 0} {order equality part : _} → (I → ℤ) → Segment C I D order equality part → Entry (C × D)
-data_entry_of value s = record { edge = edge_of value s.x_segment; count = (s.count, s.datum) }
+abbrev pub data_entry_of : {C D : Type 0} → Segment C D → Entry (C × D)
+data_entry_of s = record { edge = s.x_segment; count = (s.count, s.datum) }
 
-abbrev pub data_entries_of : {C I D : Type 0} {order equality part : _} → (I → ℤ) → List (Segment C I D order equality part) → List (Entry (C × D))
-data_entries_of value ss = map (data_entry_of value) ss
+abbrev pub data_entries_of : {C D : Type 0} → List (Segment C D) → List (Entry (C × D))
+data_entries_of ss = map data_entry_of ss

@@ -20,6 +20,7 @@ pub mod Adding
 pub mod Holdings
 pub mod Strings
 pub mod StringLaws
+pub mod SegmentParts
 pub mod SegmentViews
 pub mod MarkLists
 pub mod Cutting

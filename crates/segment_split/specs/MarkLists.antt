@@ -1,16 +1,13 @@
 -- The marks of a pass as they are laid: one list, in which each mark tells the number of its edge.
-use Rattle.std.specs.Prelude.{◌≡◌, ◌⊎◌, ℕ, ◌<◌, ◌≤◌, Bool, true, false, ℤ, neg_ℤ, ◌+ℤ◌, ◌*ℤ◌, cond, int_lt, List, [], ◌++◌, length, map, All}
+use Rattle.std.specs.Prelude.{◌≡◌, ℕ, ◌<◌, ◌≤◌, Bool, true, false, ℤ, neg_ℤ, ◌+ℤ◌, ◌*ℤ◌, cond, int_lt, List, [], ◌++◌, length, map, All}
 use Rattle.std.specs.Prelude.{AllPairs, Contains, slice_index_or, ◌≢◌}
 use Rattle.std.specs.Ordering.{ordering_then, nat_cmp, int_cmp}
 use Rattle.std.specs.declared.cmp.Ordering.{Ordering}
 use Rattle.std.specs.declared.cmp.Ordering.TheVariants.{Greater}
 use Rattle.i_tree.specs.Steps.{Counts}
 use Rattle.plane_base.specs.Plane.{Point, Edge, IsWithin}
-use Rattle.plane_base.specs.Views.{point_of}
-use Rattle.plane_base.specs.Crossing.{Marks, no_marks, crosses_off_grid}
+use Rattle.plane_base.specs.Crossing.{Marks, crosses_off_grid}
 use Rattle.plane_base.specs.Segments.{parted}
-use Rattle.plane_base.specs.MarkOrder.{both_along}
-use Rattle.plane_base.specs.PairMarkViews.{AreWithin}
 use Rattle.segment_split.specs.Passes.{marks_on}
 use Rattle.segment_split.specs.declared.mark.Mark.{Mark}
 
@@ -28,11 +25,11 @@ abbrev pub laid_on : ℤ → ℕ → Edge → List Point → List LaidMark
 laid_on stride i s ps = map (λ p. record { segment = i; place = place_along stride s p; point = p }) ps
 
 -- what contracts see of a list of marks, whose places are numbers of W
-abbrev pub laid_of : {I W : Type 0} → (I → ℤ) → (W → ℤ) → Mark I W → LaidMark
-laid_of value number m = record { segment = m.segment; place = number m.place; point = point_of value m.point }
+abbrev pub laid_of : {I W : Type 0} → (W → ℤ) → Mark I W → LaidMark
+laid_of number m = record { segment = m.segment; place = number m.place; point = m.point }
 
-abbrev pub laid_marks : {I W : Type 0} → (I → ℤ) → (W → ℤ) → List (Mark I W) → List LaidMark
-laid_marks value number ms = map (laid_of value number) ms
+abbrev pub laid_marks : {I W : Type 0} → (W → ℤ) → List (Mark I W) → List LaidMark
+laid_marks number ms = map (laid_of number) ms
 
 -- s is the edge of the number i
 abbrev pub IsAt : List Edge → ℕ → Edge → Type 0

@@ -13,7 +13,7 @@ use Rattle.segment_split.specs.SegmentViews.{entries_of, AreWithin}
 use Rattle.segment_split.specs.Seen.{Seen, seen_join, normal_seen, seen_entries_of}
 use Rattle.segment_split.specs.StepBounds.{most_pairs, pairs_in_passes, LooksAtFew}
 use Rattle.segment_split.specs.WholeLaws.{AllMeetWhole}
-use Rattle.segment_split.specs.declared.segment.Segment.{Segment}
+use Rattle.segment_split.specs.SegmentParts.{Segment}
 use Rattle.segment_split.specs.declared.solver.Solver.{Solver}
 use Rattle.segment_split.specs.declared.pass.Passed.{Passed}
 
@@ -30,8 +30,8 @@ pub record Listed (C D : Type 0) (joins : Bool) : Type 0 where
   pub entries : List (Entry C)
   pub seen : List (Entry (C × Seen joins D))
 
-abbrev pub listed : {C I D : Type 0} {order equality part : _} → (I → ℤ) → (joins : Bool) → List (Segment C I D order equality part) → Listed C D joins
-listed value joins ss = record { entries = entries_of value ss; seen = seen_entries_of value joins ss }
+abbrev pub listed : {C D : Type 0} → (joins : Bool) → List (Segment C D) → Listed C D joins
+listed joins ss = record { entries = entries_of ss; seen = seen_entries_of joins ss }
 
 -- The entries are a map in range, of fewer than 2^31.
 pub record CanBeRedrawn (least greatest : ℤ) {C : Type 0} (kind : Counting C) (es : List (Entry C)) : Type 0 where

@@ -1,9 +1,8 @@
 -- What private contracts see of data: a datum where data are joined, and nothing where they are not.
-use Rattle.std.specs.Prelude.{ℤ, Bool, true, false, ⊤, List, map}
+use Rattle.std.specs.Prelude.{Bool, true, false, ⊤, List, map}
 use Rattle.plane_base.specs.Counts.{Counting, Entry}
-use Rattle.plane_base.specs.SegmentViews.{edge_of}
 use Rattle.segment_split.specs.Data.{carried, normal_with_data}
-use Rattle.segment_split.specs.declared.segment.Segment.{Segment}
+use Rattle.segment_split.specs.SegmentParts.{Segment}
 
 abbrev pub Seen : Bool → Type 0 → Type 0
 Seen true D = D
@@ -25,9 +24,9 @@ carrying kind joins join = carried kind (seen_join joins join)
 abbrev pub normal_seen : {C D : Type 0} → Counting C → (joins : Bool) → (D → D → D) → List (Entry (C × Seen joins D)) → List (Entry (C × Seen joins D))
 normal_seen kind joins join es = normal_with_data kind (seen_join joins join) es
 
-abbrev pub seen_entry_of : {C I D : Type 0} {order equality part : _} → (I → ℤ) → (joins : Bool) → Segment C I D order equality part → Entry (C × Seen joins D)
-seen_entry_of value joins s = record { edge = edge_of value s.x_segment; count = (s.count, seen joins s.datum) }
+abbrev pub seen_entry_of : {C D : Type 0} → (joins : Bool) → Segment C D → Entry (C × Seen joins D)
+seen_entry_of joins s = record { edge = s.x_segment; count = (s.count, seen joins s.datum) }
 
-abbrev pub seen_entries_of : {C I D : Type 0} {order equality part : _} → (I → ℤ) → (joins : Bool) → List (Segment C I D order equality part)
+abbrev pub seen_entries_of : {C D : Type 0} → (joins : Bool) → List (Segment C D)
     → List (Entry (C × Seen joins D))
-seen_entries_of value joins ss = map (seen_entry_of value joins) ss
+seen_entries_of joins ss = map (seen_entry_of joins) ss

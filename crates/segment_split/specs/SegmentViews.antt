@@ -4,14 +4,13 @@ use Rattle.std.specs.declared.cmp.Ordering.TheVariants.{Greater}
 use Rattle.plane_base.specs.Plane.{edge_order}
 use Rattle.plane_base.specs.Counts.{Counting, Entry}
 use Rattle.plane_base.specs.Segments.{IsEdgeWithin}
-use Rattle.plane_base.specs.SegmentViews.{edge_of}
-use Rattle.segment_split.specs.declared.segment.Segment.{Segment}
+use Rattle.segment_split.specs.SegmentParts.{Segment}
 
-abbrev pub entry_of : {C I D : Type 0} {order equality part : _} → (I → ℤ) → Segment C I D order equality part → Entry C
-entry_of value s = record { edge = edge_of value s.x_segment; count = s.count }
+abbrev pub entry_of : {C D : Type 0} → Segment C D → Entry C
+entry_of s = record { edge = s.x_segment; count = s.count }
 
-abbrev pub entries_of : {C I D : Type 0} {order equality part : _} → (I → ℤ) → List (Segment C I D order equality part) → List (Entry C)
-entries_of value ss = map (entry_of value) ss
+abbrev pub entries_of : {C D : Type 0} → List (Segment C D) → List (Entry C)
+entries_of ss = map entry_of ss
 
 -- All ends lie in the range of coordinates.
 abbrev pub AreWithin : {C : Type 0} → ℤ → ℤ → List (Entry C) → Type 0

@@ -4,8 +4,6 @@ use Rattle.std.specs.Prelude.{Option, Some, None}
 use Rattle.std.specs.Ordering.{int_eq}
 use Rattle.plane_base.specs.Plane.{Point, Edge}
 use Rattle.plane_base.specs.Counts.{Count, Entry, boolean, lay}
-use Rattle.plane_base.specs.Views.{point_of}
-use Rattle.plane_base.specs.declared.point.IntPoint.{IntPoint}
 use Rattle.segment_split.specs.declared.lines.status.Line.{Line}
 use Rattle.segment_split.specs.declared.lines.status.Row.{Row}
 use Rattle.segment_split.specs.declared.lines.status.Lines.{Lines}
@@ -28,21 +26,21 @@ pub record LinesView : Type 0 where
   pub rows : List RowView
   pub column : LineView
 
-abbrev pub next_of : {I : Type 0} → (I → ℤ) → Option (IntPoint I) → Option Point
-next_of value None = None
-next_of value (Some p) = Some (point_of value p)
+abbrev pub next_of : Option Point → Option Point
+next_of None = None
+next_of (Some p) = Some p
 
-abbrev pub line_of : {I : Type 0} → (I → ℤ) → Line I → LineView
-line_of value l = record { running = l.running; sum = l.sum; next = next_of value l.next }
+abbrev pub line_of : {I : Type 0} → Line I → LineView
+line_of l = record { running = l.running; sum = l.sum; next = next_of l.next }
 
 abbrev pub row_of : {I : Type 0} → (I → ℤ) → Row I → RowView
-row_of value r = record { y = value r.y; line = line_of value r.line }
+row_of value r = record { y = value r.y; line = line_of r.line }
 
 abbrev pub rows_of : {I : Type 0} → (I → ℤ) → List (Row I) → List RowView
 rows_of value rs = map (row_of value) rs
 
 abbrev pub lines_of : {I : Type 0} → (I → ℤ) → Lines I → LinesView
-lines_of value s = record { rows = rows_of value s.rows.items; column = line_of value s.column }
+lines_of value s = record { rows = rows_of value s.rows.items; column = line_of s.column }
 
 -- The heights rise.
 abbrev pub AreRising : List RowView → Type 0

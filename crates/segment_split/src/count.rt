@@ -5,7 +5,6 @@
 //! time.
 
 ghost use Rattle.std.specs.Prelude.{◌≡◌, ℤ, ◌+ℤ◌, neg_ℤ, pos, ◌≤ℤ◌, ◌<◌, Bool, true, false, refl, IsTrue, MatchResult};
-ghost use Rattle.std.proofs.Common.{rules};
 ghost use Rattle.std.proofs.lemmas.Bool.{false≢true};
 ghost use Rattle.plane_base.specs.Counts.{Count, Counting, boolean};
 ghost use Rattle.plane_base.proofs.Facts.Maps.Normal.{IsCounting};
@@ -75,8 +74,8 @@ pub trait WindingCount: Copy {
         own: &mut Vec<Segment<Self, I, ()>>,
         sums: &mut Vec<Segment<ShapeCountBoolean, I, ()>>,
     ) -> bool
-        ensures given { IsTrue result → with_counts (of_count of) (entries_of I.value sums.new.items) ≡ entries_of I.value own.old.items }
-        ensures taken { IsTrue result → entries_of I.value own.new.items ≡ with_counts (of_count of) (entries_of I.value sums.old.items) }
+        ensures given { IsTrue result → with_counts (of_count of) (entries_of sums.new.items) ≡ entries_of own.old.items }
+        ensures taken { IsTrue result → entries_of own.new.items ≡ with_counts (of_count of) (entries_of sums.old.items) }
         ensures own { result ≡ false → own.new ≡ own.old }
         ensures sums { result ≡ false → sums.new ≡ sums.old }
     {

@@ -11,13 +11,13 @@ ghost use Rattle.segment_split.specs.Sums.{of_count};
 use crate::count::{ShapeCountBoolean, WindingCount};
 use crate::segment::Segment;
 use plane_base::fault::Fault;
-use plane_base::int::OverlayInt;
+use plane_base::int::{IntNumber, OverlayInt};
 use plane_base::point::IntPoint;
 use std::alloc::Global;
 
 /// A segment that is cut: its ends, and the mark at which it is cut.
 #[derive(Clone, Copy, Debug, PartialEq, Eq)]
-pub struct EdgeDataSplit<I> {
+pub struct EdgeDataSplit<I: IntNumber> {
     pub a: IntPoint<I>,
     pub p: IntPoint<I>,
     pub b: IntPoint<I>,
@@ -85,8 +85,8 @@ pub trait OverlayEdgeData<C>: Copy + PartialEq {
         own: &mut Vec<Segment<K, I, Self>>,
         sums: &mut Vec<Segment<ShapeCountBoolean, I, ()>>,
     ) -> bool
-        ensures given { IsTrue result → with_counts (of_count K.of) (entries_of I.value sums.new.items) ≡ entries_of I.value own.old.items }
-        ensures taken { IsTrue result → entries_of I.value own.new.items ≡ with_counts (of_count K.of) (entries_of I.value sums.old.items) }
+        ensures given { IsTrue result → with_counts (of_count K.of) (entries_of sums.new.items) ≡ entries_of own.old.items }
+        ensures taken { IsTrue result → entries_of own.new.items ≡ with_counts (of_count K.of) (entries_of sums.old.items) }
         ensures own { result ≡ false → own.new ≡ own.old }
         ensures sums { result ≡ false → sums.new ≡ sums.old }
     {

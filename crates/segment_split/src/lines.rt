@@ -22,14 +22,12 @@
 //! crossing, which is counted: a pair of keys. Nothing else holds two keys against each other. An end on a line, and a place among
 //! rows, names no second key: how many keys run on the line is known, and that is all that is asked.
 
-ghost use Rattle.std.specs.Prelude.{◌≡◌, ◌+◌, ◌≤◌, ◌<◌, ◌<ℤ◌, ◌≤ℤ◌, ◌^◌, ◌↔◌, ◌||◌, [], ℕ, ℤ, Bool, List, length, take, drop, map, slice_index_or, nat_lt};
-ghost use Rattle.std.specs.Prelude.{true, false, cond, All, Contains, IfOk, IfErr, OnOk, OnErr, IfSome, IfNone, IsOkUnless, IsTrue, IsPermutation};
+ghost use Rattle.std.specs.Prelude.{◌≡◌, ◌+◌, ◌≤◌, ◌<◌, ◌^◌, ◌↔◌, ◌||◌, [], ℕ, ℤ, List, length, map, slice_index_or, nat_lt};
+ghost use Rattle.std.specs.Prelude.{true, false, cond, All, Contains, IfOk, IfErr, OnOk, OnErr, IfSome, IfNone, IsOkUnless, IsTrue};
 ghost use Rattle.std.specs.Ordering.{int_eq};
-ghost use Rattle.plane_base.specs.Plane.{Point, is_before};
+ghost use Rattle.plane_base.specs.Plane.{Point};
 ghost use Rattle.plane_base.specs.Counts.{Count, Entry, boolean, normal, IsNormal};
 ghost use Rattle.plane_base.specs.Crossing.{late_marks};
-ghost use Rattle.plane_base.specs.SegmentViews.{edge_of};
-ghost use Rattle.plane_base.specs.Views.{point_of};
 ghost use Rattle.segment_split.specs.Passes.{edges_of, all_cut, pass_by};
 ghost use Rattle.segment_split.specs.Redrawing.{redrawn, MarksInPass};
 ghost use Rattle.segment_split.specs.Kinds.{count_fits};
@@ -85,11 +83,11 @@ fn last_met<I: OverlayInt>(lines: &Lines<I>, low: usize, before: usize) -> Optio
     requires within { before ≤ length lines.now.rows.items }
     ensures found { IfSome result (λ place. (low ≤ place) × (place < before)) }
     ensures met { IfSome result (λ place. (d : _) →
-        is_met (line_of I.value lines.now.column) (line_of I.value (slice_index_or lines.now.rows.items place d).line) ≡ true) }
+        is_met (line_of lines.now.column) (line_of (slice_index_or lines.now.rows.items place d).line) ≡ true) }
     ensures passed { IfSome result (λ place. (k : ℕ) (d : _) → place < k → k < before →
-        is_met (line_of I.value lines.now.column) (line_of I.value (slice_index_or lines.now.rows.items k d).line) ≡ false) }
+        is_met (line_of lines.now.column) (line_of (slice_index_or lines.now.rows.items k d).line) ≡ false) }
     ensures none { IfNone result ((k : ℕ) (d : _) → low ≤ k → k < before →
-        is_met (line_of I.value lines.now.column) (line_of I.value (slice_index_or lines.now.rows.items k d).line) ≡ false) }
+        is_met (line_of lines.now.column) (line_of (slice_index_or lines.now.rows.items k d).line) ≡ false) }
 {
     if lines.column.sum.is_empty() {
         lines.counting.last_between(low, before)
@@ -134,13 +132,13 @@ fn cross<I: OverlayInt, L: Ledger>(
 ) -> Result<bool, Fault>
     requires rising { AreRising (rows_of I.value lines.old.rows.items) }
     requires seen { AreSeen I.value lines.old }
-    requires placed { IsPlaceOf (I.value point.y) (heights_in (rows_of I.value lines.old.rows.items)) place }
+    requires placed { IsPlaceOf point.y (heights_in (rows_of I.value lines.old.rows.items)) place }
     ensures rising { OnOk result (AreRising (rows_of I.value lines.new.rows.items)) }
     ensures seen { OnOk result (AreSeen I.value lines.new) }
     ensures heights { OnOk result (heights_in (rows_of I.value lines.new.rows.items) ≡ heights_in (rows_of I.value lines.old.rows.items)) }
-    ensures crossed { IfOk result (λ crossed. Crosses (point_of I.value point) (lines_of I.value lines.old) (entries_of I.value laid.old.items)
-        steps.old.pairs (lines_of I.value lines.new) (entries_of I.value laid.new.items) steps.new.pairs crossed) }
-    ensures some { OnErr result (CrossesSome (point_of I.value point) (lines_of I.value lines.old) (entries_of I.value laid.old.items)
+    ensures crossed { IfOk result (λ crossed. Crosses point (lines_of I.value lines.old) (entries_of laid.old.items)
+        steps.old.pairs (lines_of I.value lines.new) (entries_of laid.new.items) steps.new.pairs crossed) }
+    ensures some { OnErr result (CrossesSome point (lines_of I.value lines.old) (entries_of laid.old.items)
         steps.old.pairs steps.new.pairs) }
     ensures compared { steps.new.comparisons ≡ steps.old.comparisons }
     ensures memory { IsOkUnless result Fault.Memory }
@@ -168,14 +166,14 @@ fn cross_from<I: OverlayInt, L: Ledger>(
     requires rising { AreRising (rows_of I.value lines.old.rows.items) }
     requires seen { AreSeen I.value lines.old }
     requires placed { IsPlaced (lines_of I.value lines.old) place }
-    requires above { IsPlaceAbove (I.value point.y) (heights_in (rows_of I.value lines.old.rows.items)) low }
+    requires above { IsPlaceAbove point.y (heights_in (rows_of I.value lines.old.rows.items)) low }
     requires runs { 0 < lines.old.column.running }
     ensures rising { OnOk result (AreRising (rows_of I.value lines.new.rows.items)) }
     ensures seen { OnOk result (AreSeen I.value lines.new) }
     ensures heights { OnOk result (heights_in (rows_of I.value lines.new.rows.items) ≡ heights_in (rows_of I.value lines.old.rows.items)) }
-    ensures crossed { IfOk result (λ crossed. Crosses (point_of I.value point) (lines_of I.value lines.old) (entries_of I.value laid.old.items)
-        steps.old.pairs (lines_of I.value lines.new) (entries_of I.value laid.new.items) steps.new.pairs crossed) }
-    ensures some { OnErr result (CrossesSome (point_of I.value point) (lines_of I.value lines.old) (entries_of I.value laid.old.items)
+    ensures crossed { IfOk result (λ crossed. Crosses point (lines_of I.value lines.old) (entries_of laid.old.items)
+        steps.old.pairs (lines_of I.value lines.new) (entries_of laid.new.items) steps.new.pairs crossed) }
+    ensures some { OnErr result (CrossesSome point (lines_of I.value lines.old) (entries_of laid.old.items)
         steps.old.pairs steps.new.pairs) }
     ensures compared { steps.new.comparisons ≡ steps.old.comparisons }
     ensures memory { IsOkUnless result Fault.Memory }
@@ -204,7 +202,7 @@ fn cross_next<I: OverlayInt, L: Ledger>(
     requires rising { AreRising (rows_of I.value lines.old.rows.items) }
     requires seen { AreSeen I.value lines.old }
     requires placed { IsPlaced (lines_of I.value lines.old) place }
-    requires above { IsPlaceAbove (I.value point.y) (heights_in (rows_of I.value lines.old.rows.items)) low }
+    requires above { IsPlaceAbove point.y (heights_in (rows_of I.value lines.old.rows.items)) low }
     requires runs { 0 < lines.old.column.running }
     ensures rising { OnOk result (AreRising (rows_of I.value lines.new.rows.items)) }
     ensures seen { OnOk result (AreSeen I.value lines.new) }
@@ -212,10 +210,10 @@ fn cross_next<I: OverlayInt, L: Ledger>(
     ensures runs { OnOk result (0 < lines.new.column.running) }
     ensures less { IfOk result (λ next. next.is_done ≡ false → next.place < place) }
     ensures placed { IfOk result (λ next. IsPlaced (lines_of I.value lines.new) next.place) }
-    ensures crossed { IfOk result (λ next. next.is_done ≡ false → CrossesOnce (point_of I.value point) (lines_of I.value lines.old)
-        (entries_of I.value laid.old.items) (lines_of I.value lines.new) (entries_of I.value laid.new.items)) }
-    ensures done { IfOk result (λ next. next.is_done ≡ true → IsDone (point_of I.value point) (lines_of I.value lines.old)
-        (entries_of I.value laid.old.items) (lines_of I.value lines.new) (entries_of I.value laid.new.items)) }
+    ensures crossed { IfOk result (λ next. next.is_done ≡ false → CrossesOnce point (lines_of I.value lines.old)
+        (entries_of laid.old.items) (lines_of I.value lines.new) (entries_of laid.new.items)) }
+    ensures done { IfOk result (λ next. next.is_done ≡ true → IsDone point (lines_of I.value lines.old)
+        (entries_of laid.old.items) (lines_of I.value lines.new) (entries_of laid.new.items)) }
     ensures counted { IfOk result (λ next. steps.new.pairs ≡ steps.old.pairs + cond next.is_done 0 1) }
     ensures none { OnErr result (steps.new.pairs ≡ steps.old.pairs) }
     ensures compared { steps.new.comparisons ≡ steps.old.comparisons }
@@ -245,22 +243,22 @@ fn sweep_on<I: OverlayInt, L: Ledger>(
     left: Left,
     steps: &mut Steps<L>,
 ) -> Result<Left, Fault>
-    requires sound { CanBeSwept I.value (entries_of I.value keys.now) ends.now }
-    requires left { AreLeft (entries_of I.value keys.now) ends.now left }
+    requires sound { CanBeSwept (entries_of keys.now) ends.now }
+    requires left { AreLeft (entries_of keys.now) ends.now left }
     requires rising { AreRising (rows_of I.value lines.old.rows.items) }
     requires seen { AreSeen I.value lines.old }
     ensures fewer { IfOk result (AreFewer left) }
     ensures rising { OnOk result (AreRising (rows_of I.value lines.new.rows.items)) }
     ensures seen { OnOk result (AreSeen I.value lines.new) }
     ensures swept { IfOk result (λ next. (first : ℕ) →
-        IsSweptTo (entries_of I.value keys.now) ends.now (lines_of I.value lines.old) (entries_of I.value laid.old.items) left first steps.old.pairs →
-        IsSweptTo (entries_of I.value keys.now) ends.now (lines_of I.value lines.new) (entries_of I.value laid.new.items) next first steps.new.pairs) }
+        IsSweptTo (entries_of keys.now) ends.now (lines_of I.value lines.old) (entries_of laid.old.items) left first steps.old.pairs →
+        IsSweptTo (entries_of keys.now) ends.now (lines_of I.value lines.new) (entries_of laid.new.items) next first steps.new.pairs) }
     ensures some { OnErr result ((first : ℕ) →
-        IsSweptTo (entries_of I.value keys.now) ends.now (lines_of I.value lines.old) (entries_of I.value laid.old.items) left first steps.old.pairs →
-        (ps : List Point) × Ticked (entries_of I.value keys.now) ps first steps.new.pairs) }
+        IsSweptTo (entries_of keys.now) ends.now (lines_of I.value lines.old) (entries_of laid.old.items) left first steps.old.pairs →
+        (ps : List Point) × Ticked (entries_of keys.now) ps first steps.new.pairs) }
     ensures refused { IfErr result (λ fault. (first : ℕ) (precision : Precision) →
-        IsSweptTo (entries_of I.value keys.now) ends.now (lines_of I.value lines.old) (entries_of I.value laid.old.items) left first steps.old.pairs →
-        IsRefusal (IsOverfull boolean count_fits (steps_in boolean precision (entries_of I.value keys.now) 0)) ⊥ fault) }
+        IsSweptTo (entries_of keys.now) ends.now (lines_of I.value lines.old) (entries_of laid.old.items) left first steps.old.pairs →
+        IsRefusal (IsOverfull boolean count_fits (steps_in boolean precision (entries_of keys.now) 0)) ⊥ fault) }
     ensures compared { steps.new.comparisons ≡ steps.old.comparisons }
 {
     let point = next_end(keys, ends, left);
@@ -282,7 +280,7 @@ fn sweep_on<I: OverlayInt, L: Ledger>(
 
 // A line on which nothing runs, and no stop was met.
 fn bare_line<I: OverlayInt>() -> Line<I>
-    ensures { line_of I.value result ≡ bare }
+    ensures { line_of result ≡ bare }
 {
     Line {
         running: 0,
@@ -294,11 +292,11 @@ fn bare_line<I: OverlayInt>() -> Line<I>
 // Lines on which nothing runs, with a row for each height at which a key runs along.
 fn lines_over<I: OverlayInt>(alloc: Global, keys: &[Key<I>]) -> Result<Lines<I>, Fault>
     ensures seen { IfOk result (λ lines. AreSeen I.value lines) }
-    ensures column { IfOk result (λ lines. line_of I.value lines.column ≡ bare) }
+    ensures column { IfOk result (λ lines. line_of lines.column ≡ bare) }
     ensures rising { IfOk result (λ lines. AreRising (rows_of I.value lines.rows.items)) }
     ensures bare { IfOk result (λ lines. All (λ r. r.line ≡ bare) (rows_of I.value lines.rows.items)) }
     ensures has { IfOk result (λ lines. All (λ e. int_eq e.edge.a.x e.edge.b.x ≡ false →
-        Contains (map (λ r. r.y) (rows_of I.value lines.rows.items)) e.edge.a.y) (entries_of I.value keys.now)) }
+        Contains (map (λ r. r.y) (rows_of I.value lines.rows.items)) e.edge.a.y) (entries_of keys.now)) }
     ensures memory { IsOkUnless result Fault.Memory }
 {
     let mut guesses = Guesses::new(alloc);
@@ -325,7 +323,7 @@ fn rows_over<I: OverlayInt>(
     ensures rising { IfOk result (λ rows. AreRising (rows_of I.value rows.items)) }
     ensures bare { IfOk result (λ rows. All (λ r. r.line ≡ bare) (rows_of I.value rows.items)) }
     ensures has { IfOk result (λ rows. All (λ e. int_eq e.edge.a.x e.edge.b.x ≡ false → Contains (map (λ r. r.y) (rows_of I.value rows.items)) e.edge.a.y)
-        (entries_of I.value keys.now)) }
+        (entries_of keys.now)) }
     ensures memory { IsOkUnless result Fault.Memory }
 {
     let heights = heights_of(alloc, keys, guesses)?;
@@ -345,7 +343,7 @@ fn heights_of<I: OverlayInt>(
     guesses: &mut Guesses,
 ) -> Result<Vec<I>, Fault>
     ensures has { IfOk result (λ heights. All (λ e. int_eq e.edge.a.x e.edge.b.x ≡ false → Contains (map I.value heights.items) e.edge.a.y)
-        (entries_of I.value keys.now)) }
+        (entries_of keys.now)) }
     ensures memory { IsOkUnless result Fault.Memory }
 {
     let mut heights = Vec::new(alloc);
@@ -362,7 +360,7 @@ fn add_height<I: OverlayInt>(
     s: XSegment<I>,
     guesses: &mut Guesses,
 ) -> Result<(), Fault>
-    ensures has { OnOk result (int_eq (I.value s.a.x) (I.value s.b.x) ≡ false → Contains (map I.value heights.new.items) (I.value s.a.y)) }
+    ensures has { OnOk result (int_eq s.a.x s.b.x ≡ false → Contains (map I.value heights.new.items) s.a.y) }
     ensures kept { OnOk result ((z : ℤ) → Contains (map I.value heights.old.items) z → Contains (map I.value heights.new.items) z) }
     ensures memory { IsOkUnless result Fault.Memory }
 {
@@ -415,16 +413,16 @@ pub fn redraw<I: OverlayInt, L: Ledger>(
     segments: &[Segment<ShapeCountBoolean, I, ()>],
     steps: &mut Steps<L>,
 ) -> Result<bool, Fault>
-    requires normal { IsNormal boolean (entries_of I.value segments.now) }
-    requires rectilinear { AllRectilinear (edges_of (entries_of I.value segments.now)) }
+    requires normal { IsNormal boolean (entries_of segments.now) }
+    requires rectilinear { AllRectilinear (edges_of (entries_of segments.now)) }
     requires few { length segments.now < 2 ^ 31 }
-    ensures redrawn { OnOk result ((precision : Precision) → entries_of I.value laid.new.items ≡ redrawn boolean precision (entries_of I.value segments.now)) }
+    ensures redrawn { OnOk result ((precision : Precision) → entries_of laid.new.items ≡ redrawn boolean precision (entries_of segments.now)) }
     ensures marked { IfOk result (λ is_marked. (precision : Precision) →
-        (is_marked ≡ true) ↔ ((k : ℕ) × MarksInPass boolean precision (entries_of I.value segments.now) k)) }
+        (is_marked ≡ true) ↔ ((k : ℕ) × MarksInPass boolean precision (entries_of segments.now) k)) }
     ensures few { OnOk result (length laid.new.items < 2 ^ 31) }
-    ensures refused { IfErr result (λ fault. (precision : Precision) → IsRefusal (PassesTooMuch boolean count_fits precision (entries_of I.value segments.now))
-        (LaysTooMany boolean precision (entries_of I.value segments.now)) fault) }
-    ensures steps { CountsPairsUpTo steps.old steps.new (most_pairs strategy.Auto (edges_of (entries_of I.value segments.now))) }
+    ensures refused { IfErr result (λ fault. (precision : Precision) → IsRefusal (PassesTooMuch boolean count_fits precision (entries_of segments.now))
+        (LaysTooMany boolean precision (entries_of segments.now)) fault) }
+    ensures steps { CountsPairsUpTo steps.old steps.new (most_pairs strategy.Auto (edges_of (entries_of segments.now))) }
 {
     let mut room = SortRoom::new(alloc);
     let is_marked = redraw_where_cut(alloc, laid, segments, &mut room, steps)?;
@@ -444,17 +442,17 @@ fn redraw_where_cut<I: OverlayInt, L: Ledger>(
     room: &mut SortRoom,
     steps: &mut Steps<L>,
 ) -> Result<bool, Fault>
-    requires normal { IsNormal boolean (entries_of I.value keys.now) }
-    requires rectilinear { AllRectilinear (edges_of (entries_of I.value keys.now)) }
+    requires normal { IsNormal boolean (entries_of keys.now) }
+    requires rectilinear { AllRectilinear (edges_of (entries_of keys.now)) }
     requires few { length keys.now < 2 ^ 31 }
     ensures redrawn { IfOk result (λ is_marked. (precision : Precision) →
-        cond is_marked (entries_of I.value laid.new.items) (entries_of I.value keys.now) ≡ redrawn boolean precision (entries_of I.value keys.now)) }
+        cond is_marked (entries_of laid.new.items) (entries_of keys.now) ≡ redrawn boolean precision (entries_of keys.now)) }
     ensures marked { IfOk result (λ is_marked. (precision : Precision) →
-        (is_marked ≡ true) ↔ ((k : ℕ) × MarksInPass boolean precision (entries_of I.value keys.now) k)) }
+        (is_marked ≡ true) ↔ ((k : ℕ) × MarksInPass boolean precision (entries_of keys.now) k)) }
     ensures few { OnOk result (length laid.new.items < 2 ^ 31) }
-    ensures refused { IfErr result (λ fault. (precision : Precision) → IsRefusal (PassesTooMuch boolean count_fits precision (entries_of I.value keys.now))
-        (LaysTooMany boolean precision (entries_of I.value keys.now)) fault) }
-    ensures steps { CountsPairsUpTo steps.old steps.new (most_pairs strategy.Auto (edges_of (entries_of I.value keys.now))) }
+    ensures refused { IfErr result (λ fault. (precision : Precision) → IsRefusal (PassesTooMuch boolean count_fits precision (entries_of keys.now))
+        (LaysTooMany boolean precision (entries_of keys.now)) fault) }
+    ensures steps { CountsPairsUpTo steps.old steps.new (most_pairs strategy.Auto (edges_of (entries_of keys.now))) }
 {
     laid.clear();
     let mut lines = lines_over(alloc, keys)?;
@@ -473,14 +471,14 @@ pub(crate) fn lay_lines<I: OverlayInt, L: Ledger>(
     keys: &[Key<I>],
     steps: &mut Steps<L>,
 ) -> Result<(), Fault>
-    requires order { AreInOrder (entries_of I.value keys.now) }
-    requires rectilinear { AllRectilinear (edges_of (entries_of I.value keys.now)) }
+    requires order { AreInOrder (entries_of keys.now) }
+    requires rectilinear { AllRectilinear (edges_of (entries_of keys.now)) }
     requires few { length keys.now < 2 ^ 31 }
-    ensures laid { OnOk result (entries_of I.value laid.new.items ≡ pass_by boolean late_marks (entries_of I.value keys.now)) }
+    ensures laid { OnOk result (entries_of laid.new.items ≡ pass_by boolean late_marks (entries_of keys.now)) }
     ensures few { OnOk result (length laid.new.items < 2 ^ 31) }
     ensures refused { IfErr result (IsRefusalOf boolean count_fits
-        (all_cut boolean late_marks (edges_of (entries_of I.value keys.now)) (entries_of I.value keys.now))) }
-    ensures ticked { (ps : List Point) × Ticked (entries_of I.value keys.now) ps steps.old.pairs steps.new.pairs }
+        (all_cut boolean late_marks (edges_of (entries_of keys.now)) (entries_of keys.now))) }
+    ensures ticked { (ps : List Point) × Ticked (entries_of keys.now) ps steps.old.pairs steps.new.pairs }
     ensures compared { steps.new.comparisons ≡ steps.old.comparisons }
 {
     laid.clear();
@@ -498,18 +496,18 @@ fn lay_by_sweep<I: OverlayInt, L: Ledger>(
     ends: &[SecondEnd<I>],
     steps: &mut Steps<L>,
 ) -> Result<bool, Fault>
-    requires sound { CanBeSwept I.value (entries_of I.value keys.now) ends.now }
+    requires sound { CanBeSwept (entries_of keys.now) ends.now }
     requires rising { AreRising (rows_of I.value lines.old.rows.items) }
     requires seen { AreSeen I.value lines.old }
-    requires begins { IsSwept (entries_of I.value keys.now) (entries_of I.value keys.now) (ended (entries_of I.value keys.now) ends.now)
-        (lines_of I.value lines.old) (entries_of I.value laid.old.items) false steps.old.pairs steps.old.pairs }
-    ensures laid { OnOk result (entries_of I.value laid.new.items ≡ pass_by boolean late_marks (entries_of I.value keys.now)) }
-    ensures marked { IfOk result (λ is_marked. (precision : Precision) → IsNormal boolean (entries_of I.value keys.now) →
-        (is_marked ≡ true) ↔ ((k : ℕ) × MarksInPass boolean precision (entries_of I.value keys.now) k)) }
+    requires begins { IsSwept (entries_of keys.now) (entries_of keys.now) (ended (entries_of keys.now) ends.now)
+        (lines_of I.value lines.old) (entries_of laid.old.items) false steps.old.pairs steps.old.pairs }
+    ensures laid { OnOk result (entries_of laid.new.items ≡ pass_by boolean late_marks (entries_of keys.now)) }
+    ensures marked { IfOk result (λ is_marked. (precision : Precision) → IsNormal boolean (entries_of keys.now) →
+        (is_marked ≡ true) ↔ ((k : ℕ) × MarksInPass boolean precision (entries_of keys.now) k)) }
     ensures few { OnOk result (length laid.new.items < 2 ^ 31) }
     ensures refused { IfErr result (IsRefusalOf boolean count_fits
-        (all_cut boolean late_marks (edges_of (entries_of I.value keys.now)) (entries_of I.value keys.now))) }
-    ensures ticked { (ps : List Point) × Ticked (entries_of I.value keys.now) ps steps.old.pairs steps.new.pairs }
+        (all_cut boolean late_marks (edges_of (entries_of keys.now)) (entries_of keys.now))) }
+    ensures ticked { (ps : List Point) × Ticked (entries_of keys.now) ps steps.old.pairs steps.new.pairs }
     ensures compared { steps.new.comparisons ≡ steps.old.comparisons }
 {
     laid.reserve(keys.len())?;
@@ -523,7 +521,7 @@ fn lay_by_sweep<I: OverlayInt, L: Ledger>(
 
 /// Whether all segments run along x alone, or along y alone.
 pub fn are_rectilinear<C, I: OverlayInt, D>(segments: &[Segment<C, I, D>]) -> bool
-    ensures { IsTrue result → AllRectilinear (edges_of (entries_of I.value segments.now)) }
+    ensures { IsTrue result → AllRectilinear (edges_of (entries_of segments.now)) }
 {
     for segment in segments {
         if !is_rectilinear(segment.x_segment) {
@@ -534,7 +532,7 @@ pub fn are_rectilinear<C, I: OverlayInt, D>(segments: &[Segment<C, I, D>]) -> bo
 }
 
 pub(crate) fn is_rectilinear<I: OverlayInt>(s: XSegment<I>) -> bool
-    ensures { result ≡ is_rectilinear (edge_of I.value s) }
+    ensures { result ≡ is_rectilinear s }
 {
     let XSegment { a, b } = s;
     a.y.to_i64() == b.y.to_i64() || a.x.to_i64() == b.x.to_i64()
@@ -548,22 +546,22 @@ fn sweep<I: OverlayInt, L: Ledger>(
     ends: &[SecondEnd<I>],
     steps: &mut Steps<L>,
 ) -> Result<bool, Fault>
-    requires sound { CanBeSwept I.value (entries_of I.value keys.now) ends.now }
+    requires sound { CanBeSwept (entries_of keys.now) ends.now }
     requires rising { AreRising (rows_of I.value lines.old.rows.items) }
     requires seen { AreSeen I.value lines.old }
     ensures swept { IfOk result (λ is_marked. (first : ℕ) →
-        IsSwept (entries_of I.value keys.now) (entries_of I.value keys.now) (ended (entries_of I.value keys.now) ends.now) (lines_of I.value lines.old)
-        (entries_of I.value laid.old.items) false first steps.old.pairs →
-        (left : List (Entry Count)) × IsSwept (entries_of I.value keys.now) [] left (lines_of I.value lines.new) (entries_of I.value laid.new.items) is_marked
+        IsSwept (entries_of keys.now) (entries_of keys.now) (ended (entries_of keys.now) ends.now) (lines_of I.value lines.old)
+        (entries_of laid.old.items) false first steps.old.pairs →
+        (left : List (Entry Count)) × IsSwept (entries_of keys.now) [] left (lines_of I.value lines.new) (entries_of laid.new.items) is_marked
         first steps.new.pairs) }
     ensures some { OnErr result ((first : ℕ) →
-        IsSwept (entries_of I.value keys.now) (entries_of I.value keys.now) (ended (entries_of I.value keys.now) ends.now) (lines_of I.value lines.old)
-        (entries_of I.value laid.old.items) false first steps.old.pairs →
-        (ps : List Point) × Ticked (entries_of I.value keys.now) ps first steps.new.pairs) }
+        IsSwept (entries_of keys.now) (entries_of keys.now) (ended (entries_of keys.now) ends.now) (lines_of I.value lines.old)
+        (entries_of laid.old.items) false first steps.old.pairs →
+        (ps : List Point) × Ticked (entries_of keys.now) ps first steps.new.pairs) }
     ensures refused { IfErr result (λ fault. (first : ℕ) (precision : Precision) →
-        IsSwept (entries_of I.value keys.now) (entries_of I.value keys.now) (ended (entries_of I.value keys.now) ends.now) (lines_of I.value lines.old)
-        (entries_of I.value laid.old.items) false first steps.old.pairs →
-        IsRefusal (IsOverfull boolean count_fits (steps_in boolean precision (entries_of I.value keys.now) 0)) ⊥ fault) }
+        IsSwept (entries_of keys.now) (entries_of keys.now) (ended (entries_of keys.now) ends.now) (lines_of I.value lines.old)
+        (entries_of laid.old.items) false first steps.old.pairs →
+        IsRefusal (IsOverfull boolean count_fits (steps_in boolean precision (entries_of keys.now) 0)) ⊥ fault) }
     ensures compared { steps.new.comparisons ≡ steps.old.comparisons }
 {
     let mut left = Left {

@@ -4,12 +4,10 @@
 ghost use Rattle.std.specs.Prelude.{◌≡◌, ◌++◌, ◌+ℤ◌, ◌*ℤ◌, neg_ℤ, cond, ◌∷◌, [], All, OnOk, IsOkUnless};
 ghost use Rattle.plane_base.specs.Plane.{IsWithin, IsCoordinate};
 ghost use Rattle.plane_base.specs.PairMarkViews.{mark_list};
-ghost use Rattle.plane_base.specs.Views.{point_of};
-ghost use Rattle.plane_base.specs.SegmentViews.{edge_of};
 ghost use Rattle.segment_split.specs.MarkLists.{place_along, laid_on, laid_marks};
 
 use plane_base::fault::Fault;
-use plane_base::int::OverlayInt;
+use plane_base::int::{IntNumber, OverlayInt};
 use plane_base::meet::marks::EndMarks;
 use plane_base::point::IntPoint;
 use plane_base::segment::XSegment;
@@ -18,14 +16,14 @@ use std::alloc::AllocError;
 // A mark on the segment of this number. Marks are ordered by segment, and along it.
 #[derive(Copy, Debug)]
 #[derive_where(PartialEq, Eq, PartialOrd, Ord; W)]
-pub(crate) struct Mark<I, W> {
+pub(crate) struct Mark<I: IntNumber, W> {
     pub(crate) segment: usize,
     pub(crate) place: W,
     #[derive_where(skip(EqHashOrd))]
     pub(crate) point: IntPoint<I>,
 }
 
-impl<I: Copy, W: Copy> Clone for Mark<I, W> {
+impl<I: IntNumber, W: Copy> Clone for Mark<I, W> {
     fn clone(&self) -> Result<Self, AllocError> {
         Ok(*self)
     }
@@ -39,9 +37,9 @@ pub(crate) fn lay<I: OverlayInt>(
     s: XSegment<I>,
     own: EndMarks<I>,
 ) -> Result<(), Fault>
-    requires { All (IsWithin I.least I.greatest) (mark_list I.value own) }
-    ensures laid { OnOk result (laid_marks I.value I.Wide.number marks.new.items ≡
-        laid_marks I.value I.Wide.number marks.old.items ++ laid_on I.stride segment (edge_of I.value s) (mark_list I.value own)) }
+    requires { All (IsWithin I.least I.greatest) (mark_list own) }
+    ensures laid { OnOk result (laid_marks I.Wide.number marks.new.items ≡
+        laid_marks I.Wide.number marks.old.items ++ laid_on I.stride segment s (mark_list own)) }
     ensures memory { IsOkUnless result Fault.Memory }
 {
     match own {
@@ -61,9 +59,9 @@ fn lay_one<I: OverlayInt>(
     s: XSegment<I>,
     point: IntPoint<I>,
 ) -> Result<(), Fault>
-    requires { IsWithin I.least I.greatest (point_of I.value point) }
-    ensures laid { OnOk result (laid_marks I.value I.Wide.number marks.new.items ≡
-        laid_marks I.value I.Wide.number marks.old.items ++ laid_on I.stride segment (edge_of I.value s) (point_of I.value point ∷ [])) }
+    requires { IsWithin I.least I.greatest point }
+    ensures laid { OnOk result (laid_marks I.Wide.number marks.new.items ≡
+        laid_marks I.Wide.number marks.old.items ++ laid_on I.stride segment s (point ∷ [])) }
     ensures memory { IsOkUnless result Fault.Memory }
 {
     let place = place_along(s, point);
@@ -77,8 +75,8 @@ fn lay_one<I: OverlayInt>(
 
 // Where a point stands along a segment, as one number.
 fn place_along<I: OverlayInt>(s: XSegment<I>, point: IntPoint<I>) -> I::Wide
-    requires { IsWithin I.least I.greatest (point_of I.value point) }
-    ensures { I.Wide.number result ≡ place_along I.stride (edge_of I.value s) (point_of I.value point) }
+    requires { IsWithin I.least I.greatest point }
+    ensures { I.Wide.number result ≡ place_along I.stride s point }
 {
     let falls = s.b.y.to_i64() < s.a.y.to_i64();
     place_of::<I>(point.x.to_i64(), point.y.to_i64(), falls)

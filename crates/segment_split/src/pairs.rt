@@ -48,12 +48,12 @@ pub(crate) fn find_marks<'a, C: WindingCount, I: OverlayInt, D, L: Ledger>(
     number: usize,
     steps: &mut Steps<L>,
 ) -> Result<bool, Fault>
-    requires { IsPass I.least I.greatest C.counting (entries_of I.value segments.now) next_new.now }
-    ensures found { OnOk result (AreMarks I.stride I.least I.greatest (marks_in solver.precision number) (edges_of (entries_of I.value segments.now))
-        (laid_marks I.value I.Wide.number marks.new.items)) }
-    ensures whole { IfOk result (λ off_grid. off_grid ≡ false → AllMeetWhole (edges_of (entries_of I.value segments.now))) }
+    requires { IsPass I.least I.greatest C.counting (entries_of segments.now) next_new.now }
+    ensures found { OnOk result (AreMarks I.stride I.least I.greatest (marks_in solver.precision number) (edges_of (entries_of segments.now))
+        (laid_marks I.Wide.number marks.new.items)) }
+    ensures whole { IfOk result (λ off_grid. off_grid ≡ false → AllMeetWhole (edges_of (entries_of segments.now))) }
     ensures memory { IsOkUnless result Fault.Memory }
-    ensures steps { CountsPairsUpTo steps.old steps.new (most_pairs solver.strategy (edges_of (entries_of I.value segments.now))) }
+    ensures steps { CountsPairsUpTo steps.old steps.new (most_pairs solver.strategy (edges_of (entries_of segments.now))) }
 {
     let pass = Pass {
         segments,
@@ -78,13 +78,13 @@ pub(crate) fn find_marks_of_new<'a, C: WindingCount, I: OverlayInt, D, L: Ledger
     number: usize,
     steps: &mut Steps<L>,
 ) -> Result<OffGrid, Fault>
-    requires { CanBePassed I.least I.greatest C.counting (entries_of I.value segments.now) }
-    ensures found { IfOk result (λ off. Finds I.stride I.least I.greatest (marks_in precision number) (edges_of (entries_of I.value segments.now))
-        (IsNewPair next_new.now) [] (laid_marks I.value I.Wide.number marks.new.items) (off.among_new || off.with_old)) }
-    ensures whole { IfOk result (λ off. off.with_old ≡ false → MeetNewWhole (edges_of (entries_of I.value segments.now)) next_new.now) }
+    requires { CanBePassed I.least I.greatest C.counting (entries_of segments.now) }
+    ensures found { IfOk result (λ off. Finds I.stride I.least I.greatest (marks_in precision number) (edges_of (entries_of segments.now))
+        (IsNewPair next_new.now) [] (laid_marks I.Wide.number marks.new.items) (off.among_new || off.with_old)) }
+    ensures whole { IfOk result (λ off. off.with_old ≡ false → MeetNewWhole (edges_of (entries_of segments.now)) next_new.now) }
     ensures memory { IsOkUnless result Fault.Memory }
-    ensures steps { (test : Edge → Edge → Bool) → TakesNew (edges_of (entries_of I.value segments.now)) next_new.now test →
-        CountsPairsUpTo steps.old steps.new (pairs_by test (edges_of (entries_of I.value segments.now))) }
+    ensures steps { (test : Edge → Edge → Bool) → TakesNew (edges_of (entries_of segments.now)) next_new.now test →
+        CountsPairsUpTo steps.old steps.new (pairs_by test (edges_of (entries_of segments.now))) }
 {
     marks.clear();
     let pass = Pass {
@@ -104,12 +104,12 @@ pub(crate) fn find_marks_among_new<'a, C: WindingCount, I: OverlayInt, D, L: Led
     number: usize,
     steps: &mut Steps<L>,
 ) -> Result<bool, Fault>
-    requires { CanBePassed I.least I.greatest C.counting (entries_of I.value segments.now) }
-    ensures found { IfOk result (λ off. Finds I.stride I.least I.greatest (marks_in precision number) (edges_of (entries_of I.value segments.now))
-        (AreBothNew next_new.now) (laid_marks I.value I.Wide.number marks.old.items) (laid_marks I.value I.Wide.number marks.new.items) off) }
+    requires { CanBePassed I.least I.greatest C.counting (entries_of segments.now) }
+    ensures found { IfOk result (λ off. Finds I.stride I.least I.greatest (marks_in precision number) (edges_of (entries_of segments.now))
+        (AreBothNew next_new.now) (laid_marks I.Wide.number marks.old.items) (laid_marks I.Wide.number marks.new.items) off) }
     ensures memory { IsOkUnless result Fault.Memory }
-    ensures steps { (test : Edge → Edge → Bool) → TakesBothNew (edges_of (entries_of I.value segments.now)) next_new.now test →
-        CountsPairsUpTo steps.old steps.new (pairs_by test (edges_of (entries_of I.value segments.now))) }
+    ensures steps { (test : Edge → Edge → Bool) → TakesBothNew (edges_of (entries_of segments.now)) next_new.now test →
+        CountsPairsUpTo steps.old steps.new (pairs_by test (edges_of (entries_of segments.now))) }
 {
     let pass = Pass {
         segments,

@@ -94,11 +94,11 @@ pub(crate) fn redraw_by_passes<C: WindingCount, I: OverlayInt, D: OverlayEdgeDat
     store: &mut D::Store,
     steps: &mut Steps<L>,
 ) -> Result<bool, Fault>
-    requires { IsPass I.least I.greatest C.counting (entries_of I.value segments.old.items) room.old.next_new.items }
+    requires { IsPass I.least I.greatest C.counting (entries_of segments.old.items) room.old.next_new.items }
     ensures { let work : Work C D = record { kind = C.counting; fits = C.fits; joins = D.JOINS; join = D.join; solver = from.solver } in
         (given : Listed C D D.JOINS) (first : Counts) →
-        IsPassedTo I.least I.greatest work given (listed I.value D.JOINS segments.old.items) from.number first steps.old →
-        Redraws work given (listed I.value D.JOINS segments.new.items) first steps.new result }
+        IsPassedTo I.least I.greatest work given (listed D.JOINS segments.old.items) from.number first steps.old →
+        Redraws work given (listed D.JOINS segments.new.items) first steps.new result }
 {
     let solver = from.solver;
     for k in from.number..EARLY_PASSES {
@@ -136,9 +136,9 @@ fn pass_once<C: WindingCount, I: OverlayInt, D: OverlayEdgeData<C>, L: Ledger>(
     store: &mut D::Store,
     steps: &mut Steps<L>,
 ) -> Result<Passed, Fault>
-    requires { IsPass I.least I.greatest C.counting (entries_of I.value segments.old.items) room.old.next_new.items }
+    requires { IsPass I.least I.greatest C.counting (entries_of segments.old.items) room.old.next_new.items }
     ensures { let work : Work C D = record { kind = C.counting; fits = C.fits; joins = D.JOINS; join = D.join; solver = this.solver } in
-        Passes work this.number (listed I.value D.JOINS segments.old.items) (listed I.value D.JOINS segments.new.items) room.new.next_new.items
+        Passes work this.number (listed D.JOINS segments.old.items) (listed D.JOINS segments.new.items) room.new.next_new.items
         steps.old steps.new result }
 {
     let is_off_grid = find_marks(
@@ -162,13 +162,13 @@ pub(crate) fn cut_at_marks<C: WindingCount, I: OverlayInt, D: OverlayEdgeData<C>
     is_off_grid: bool,
     store: &mut D::Store,
 ) -> Result<Passed, Fault>
-    requires can { CanBeRedrawn I.least I.greatest C.counting (entries_of I.value segments.old.items) }
-    requires found { AreMarks I.stride I.least I.greatest (marks_in this.solver.precision this.number) (edges_of (entries_of I.value segments.old.items))
-        (laid_marks I.value I.Wide.number room.old.marks.items) }
-    requires whole { is_off_grid ≡ false → AllMeetWhole (edges_of (entries_of I.value segments.old.items)) }
+    requires can { CanBeRedrawn I.least I.greatest C.counting (entries_of segments.old.items) }
+    requires found { AreMarks I.stride I.least I.greatest (marks_in this.solver.precision this.number) (edges_of (entries_of segments.old.items))
+        (laid_marks I.Wide.number room.old.marks.items) }
+    requires whole { is_off_grid ≡ false → AllMeetWhole (edges_of (entries_of segments.old.items)) }
     ensures { let work : Work C D = record { kind = C.counting; fits = C.fits; joins = D.JOINS; join = D.join; solver = this.solver } in
-        (before after : Counts) → CountsPairsUpTo before after (most_pairs this.solver.strategy (edges_of (entries_of I.value segments.old.items))) →
-        Passes work this.number (listed I.value D.JOINS segments.old.items) (listed I.value D.JOINS segments.new.items) room.new.next_new.items
+        (before after : Counts) → CountsPairsUpTo before after (most_pairs this.solver.strategy (edges_of (entries_of segments.old.items))) →
+        Passes work this.number (listed D.JOINS segments.old.items) (listed D.JOINS segments.new.items) room.new.next_new.items
         before after result }
 {
     let is_last = !is_off_grid;

@@ -19,7 +19,6 @@ ghost use Rattle.segment_split.specs.Data.{normal_with_data, redrawn_with_data, 
 ghost use Rattle.segment_split.specs.MarkLists.{CountsPairs};
 ghost use Rattle.segment_split.specs.StepBounds.{LooksAtFew};
 ghost use Rattle.plane_base.specs.Segments.{IsEdgeWithin};
-ghost use Rattle.plane_base.specs.SegmentViews.{edge_of};
 
 use crate::count::WindingCount;
 use crate::data::OverlayEdgeData;
@@ -76,19 +75,19 @@ impl<I: OverlayInt> SplitSolver<I> {
         solver: &Solver,
         steps: &mut Steps<L>,
     ) -> Result<bool, Fault>
-        requires in_range { AreWithin I.least I.greatest (entries_of I.value segments.old.items) }
-        requires counted { AreCounted C.counting (entries_of I.value segments.old.items) }
-        ensures redrawn { OnOk result (entries_of I.value segments.new.items ≡
-            redrawn C.counting solver.now.precision (normal C.counting (entries_of I.value segments.old.items))) }
+        requires in_range { AreWithin I.least I.greatest (entries_of segments.old.items) }
+        requires counted { AreCounted C.counting (entries_of segments.old.items) }
+        ensures redrawn { OnOk result (entries_of segments.new.items ≡
+            redrawn C.counting solver.now.precision (normal C.counting (entries_of segments.old.items))) }
         ensures alone { OnOk result (IsRedrawnAlone C.counting solver.now.precision
-            (entries_of I.value segments.old.items) (entries_of I.value segments.new.items)) }
-        ensures flag { IfOk result (λ changed. (changed ≡ true) ↔ IsChanged C.counting solver.now.precision (entries_of I.value segments.old.items)) }
-        ensures fault { IfErr result (IsRefusal (CountsTooMuch C.counting C.fits solver.now.precision (entries_of I.value segments.old.items))
-            (LaysTooMany C.counting solver.now.precision (normal C.counting (entries_of I.value segments.old.items)))) }
+            (entries_of segments.old.items) (entries_of segments.new.items)) }
+        ensures flag { IfOk result (λ changed. (changed ≡ true) ↔ IsChanged C.counting solver.now.precision (entries_of segments.old.items)) }
+        ensures fault { IfErr result (IsRefusal (CountsTooMuch C.counting C.fits solver.now.precision (entries_of segments.old.items))
+            (LaysTooMany C.counting solver.now.precision (normal C.counting (entries_of segments.old.items)))) }
         ensures few { OnOk result (length segments.new.items < 2 ^ 31) }
         ensures refused { OnErr result (segments.new.items ≡ []) }
         ensures steps { CountsPairs steps.old steps.new }
-        ensures looks { LooksAtFew solver.now.strategy C.counting solver.now.precision (normal C.counting (entries_of I.value segments.old.items))
+        ensures looks { LooksAtFew solver.now.strategy C.counting solver.now.precision (normal C.counting (entries_of segments.old.items))
             steps.old steps.new }
     {
         self.split_segments_with_store(segments, solver, &mut (), steps)
@@ -111,22 +110,22 @@ impl<I: OverlayInt> SplitSolver<I> {
         store: &mut D::Store,
         steps: &mut Steps<L>,
     ) -> Result<bool, Fault>
-        requires in_range { AreWithin I.least I.greatest (entries_of I.value segments.old.items) }
-        requires counted { AreCounted C.counting (entries_of I.value segments.old.items) }
-        ensures redrawn { OnOk result (entries_of I.value segments.new.items ≡
-            redrawn C.counting solver.now.precision (normal C.counting (entries_of I.value segments.old.items))) }
+        requires in_range { AreWithin I.least I.greatest (entries_of segments.old.items) }
+        requires counted { AreCounted C.counting (entries_of segments.old.items) }
+        ensures redrawn { OnOk result (entries_of segments.new.items ≡
+            redrawn C.counting solver.now.precision (normal C.counting (entries_of segments.old.items))) }
         ensures alone { OnOk result (IsRedrawnAlone C.counting solver.now.precision
-            (entries_of I.value segments.old.items) (entries_of I.value segments.new.items)) }
-        ensures flag { IfOk result (λ changed. (changed ≡ true) ↔ IsChanged C.counting solver.now.precision (entries_of I.value segments.old.items)) }
-        ensures fault { IfErr result (IsRefusal (CountsTooMuch C.counting C.fits solver.now.precision (entries_of I.value segments.old.items))
-            (LaysTooMany C.counting solver.now.precision (normal C.counting (entries_of I.value segments.old.items)))) }
+            (entries_of segments.old.items) (entries_of segments.new.items)) }
+        ensures flag { IfOk result (λ changed. (changed ≡ true) ↔ IsChanged C.counting solver.now.precision (entries_of segments.old.items)) }
+        ensures fault { IfErr result (IsRefusal (CountsTooMuch C.counting C.fits solver.now.precision (entries_of segments.old.items))
+            (LaysTooMany C.counting solver.now.precision (normal C.counting (entries_of segments.old.items)))) }
         ensures few { OnOk result (length segments.new.items < 2 ^ 31) }
         ensures refused { OnErr result (segments.new.items ≡ []) }
         ensures steps { CountsPairs steps.old steps.new }
-        ensures looks { LooksAtFew solver.now.strategy C.counting solver.now.precision (normal C.counting (entries_of I.value segments.old.items))
+        ensures looks { LooksAtFew solver.now.strategy C.counting solver.now.precision (normal C.counting (entries_of segments.old.items))
             steps.old steps.new }
-        ensures data { D.JOINS ≡ true → OnOk result (data_entries_of I.value segments.new.items ≡ redrawn_with_data C.counting D.join solver.now.precision
-            (normal_with_data C.counting D.join (data_entries_of I.value segments.old.items))) }
+        ensures data { D.JOINS ≡ true → OnOk result (data_entries_of segments.new.items ≡ redrawn_with_data C.counting D.join solver.now.precision
+            (normal_with_data C.counting D.join (data_entries_of segments.old.items))) }
     {
         let mut pieces = Vec::new(self.alloc);
         let mut kept = Vec::new(self.alloc);
@@ -172,10 +171,10 @@ fn redraw<C: WindingCount, I: OverlayInt, D: OverlayEdgeData<C>, L: Ledger>(
     store: &mut D::Store,
     steps: &mut Steps<L>,
 ) -> Result<bool, Fault>
-    requires in_range { AreWithin I.least I.greatest (entries_of I.value segments.old.items) }
-    requires counted { AreCounted C.counting (entries_of I.value segments.old.items) }
+    requires in_range { AreWithin I.least I.greatest (entries_of segments.old.items) }
+    requires counted { AreCounted C.counting (entries_of segments.old.items) }
     ensures { let work : Work C D = record { kind = C.counting; fits = C.fits; joins = D.JOINS; join = D.join; solver = solver } in
-        RedrawsGiven work (listed I.value D.JOINS segments.old.items) (listed I.value D.JOINS segments.new.items) steps.old steps.new result }
+        RedrawsGiven work (listed D.JOINS segments.old.items) (listed D.JOINS segments.new.items) steps.old steps.new result }
 {
     let given = segments.len();
     sort_and_join(segments, pieces, &mut room.sort, store)?;
@@ -197,9 +196,9 @@ fn redraw_map<C: WindingCount, I: OverlayInt, D: OverlayEdgeData<C>, L: Ledger>(
     store: &mut D::Store,
     steps: &mut Steps<L>,
 ) -> Result<bool, Fault>
-    requires { CanBeRedrawn I.least I.greatest C.counting (entries_of I.value segments.old.items) }
+    requires { CanBeRedrawn I.least I.greatest C.counting (entries_of segments.old.items) }
     ensures { let work : Work C D = record { kind = C.counting; fits = C.fits; joins = D.JOINS; join = D.join; solver = solver } in
-        Redraws work (listed I.value D.JOINS segments.old.items) (listed I.value D.JOINS segments.new.items) steps.old steps.new result }
+        Redraws work (listed D.JOINS segments.old.items) (listed D.JOINS segments.new.items) steps.old steps.new result }
 {
     let swept = redraw_by_lines(segments, pieces, solver, room.alloc, &mut room.sort, steps)?;
     if let Some(is_marked) = swept {
@@ -227,9 +226,9 @@ fn redraw_map<C: WindingCount, I: OverlayInt, D: OverlayEdgeData<C>, L: Ledger>(
 pub fn can_be_split<C: WindingCount, I: OverlayInt, D: OverlayEdgeData<C>>(
     segments: &[Segment<C, I, D>],
 ) -> bool
-    ensures in_range { IsTrue result → AreWithin I.least I.greatest (entries_of I.value segments.now) }
-    ensures counted { IsTrue result → AreCounted C.counting (entries_of I.value segments.now) }
-    ensures passes { AreWithin I.least I.greatest (entries_of I.value segments.now) → AreCounted C.counting (entries_of I.value segments.now) → IsTrue result }
+    ensures in_range { IsTrue result → AreWithin I.least I.greatest (entries_of segments.now) }
+    ensures counted { IsTrue result → AreCounted C.counting (entries_of segments.now) }
+    ensures passes { AreWithin I.least I.greatest (entries_of segments.now) → AreCounted C.counting (entries_of segments.now) → IsTrue result }
 {
     for segment in segments {
         if !is_within(segment.x_segment) || segment.count.is_empty() {
@@ -241,7 +240,7 @@ pub fn can_be_split<C: WindingCount, I: OverlayInt, D: OverlayEdgeData<C>>(
 
 // Whether the coordinates of both ends lie in their type's range.
 fn is_within<I: OverlayInt>(s: XSegment<I>) -> bool
-    ensures { IsTrue result ↔ IsEdgeWithin I.least I.greatest (edge_of I.value s) }
+    ensures { IsTrue result ↔ IsEdgeWithin I.least I.greatest s }
 {
     is_in_range(s.a) && is_in_range(s.b)
 }

@@ -1,8 +1,7 @@
 //! Lines, by calls of each type of coordinates: code over a type parameter can't hand on arrays of it, since their size isn't known there.
 
-ghost use Rattle.std.specs.Prelude.{All, IsTrue, map};
+ghost use Rattle.std.specs.Prelude.{All, IsTrue};
 ghost use Rattle.plane_base.specs.Plane.{IsWithin};
-ghost use Rattle.plane_base.specs.Views.{points_of};
 
 use plane_base::fault::Fault;
 use plane_base::int::OverlayInt;
@@ -106,7 +105,7 @@ impl RowInt for i64 {
 
 /// Whether all points of lines are in range.
 pub fn are_in_range<I: OverlayInt>(lines: &[IntLine<I>]) -> bool
-    ensures { IsTrue result → All (All (IsWithin I.least I.greatest)) (map (points_of I.value) lines.now) }
+    ensures { IsTrue result → All (All (IsWithin I.least I.greatest)) lines.now }
 {
     for place in 0..lines.len() {
         if !all_in_range(&lines[place]) {

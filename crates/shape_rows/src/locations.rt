@@ -6,7 +6,7 @@ ghost use Rattle.contour_walk.specs.BindingLaws.{all_contours};
 ghost use Rattle.contour_walk.specs.ShapeViews.{shapes_of};
 
 use crate::words::{Read, contour_from, list_from, shapes_from};
-use plane_base::int::OverlayInt;
+use plane_base::int::{IntNumber, OverlayInt};
 use plane_base::path::{IntContour, IntShape, IntShapes};
 use plane_base::point::IntPoint;
 use plane_base::range::{all_contours_in_range, all_in_range, is_in_range};
@@ -16,7 +16,7 @@ use std::alloc::Global;
 
 // Whether all coordinates are in range.
 fn are_in_range<I: OverlayInt>(shapes: &[IntShape<I>]) -> bool
-    ensures { IsTrue result → All (All (IsWithin I.least I.greatest)) (all_contours (shapes_of I.value shapes.now)) }
+    ensures { IsTrue result → All (All (IsWithin I.least I.greatest)) (all_contours (shapes_of shapes.now)) }
 {
     for shape in shapes {
         if !all_contours_in_range(&shape.contours) {
@@ -148,7 +148,7 @@ fn are_shapes_resolved<I: OverlayInt>(shapes: &IntShapes<I>) -> Option<bool> {
 
 // A contour, and whether it is resolved.
 #[derive(Drop)]
-struct Resolved<I> {
+struct Resolved<I: IntNumber> {
     is_resolved: bool,
     contour: IntContour<I>,
 }

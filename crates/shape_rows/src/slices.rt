@@ -3,7 +3,6 @@
 ghost use Rattle.std.specs.Prelude.{All, IfOk};
 ghost use Rattle.plane_base.specs.GivenViews.{contours_of};
 ghost use Rattle.plane_base.specs.Plane.{IsWithin};
-ghost use Rattle.plane_base.specs.Views.{points_of};
 ghost use Rattle.contour_walk.specs.BindingLaws.{all_contours};
 ghost use Rattle.contour_walk.specs.ShapeViews.{shapes_of};
 
@@ -64,7 +63,7 @@ pub fn pieces_held<I: OverlayInt>(
     slice: &Slice,
     strategy: Strategy,
 ) -> Result<IntShapes<I>, Fault>
-    ensures { IfOk result (λ pieces. All (All (IsWithin I.least I.greatest)) (all_contours (shapes_of I.value pieces.shapes.items))) }
+    ensures { IfOk result (λ pieces. All (All (IsWithin I.least I.greatest)) (all_contours (shapes_of pieces.shapes.items))) }
 {
     let solver = Solver::with_strategy_and_precision(strategy, slice.precision);
     let mut options = IntOverlayOptions::default();
@@ -85,7 +84,7 @@ fn pieces_by_default<I: OverlayInt>(
     overlay: &mut StringOverlay<I>,
     fill: FillRule,
 ) -> Result<IntShapes<I>, Fault>
-    ensures { IfOk result (λ pieces. All (All (IsWithin I.least I.greatest)) (all_contours (shapes_of I.value pieces.shapes.items))) }
+    ensures { IfOk result (λ pieces. All (All (IsWithin I.least I.greatest)) (all_contours (shapes_of pieces.shapes.items))) }
 {
     let view = overlay.build_graph_view(fill)?;
     match view {
@@ -110,7 +109,7 @@ fn pieces_of<I: OverlayInt>(
     strategy: Strategy,
     strings: &Strings<I>,
 ) -> Result<IntShapes<I>, Fault>
-    ensures { IfOk result (λ pieces. All (All (IsWithin I.least I.greatest)) (all_contours (shapes_of I.value pieces.shapes.items))) }
+    ensures { IfOk result (λ pieces. All (All (IsWithin I.least I.greatest)) (all_contours (shapes_of pieces.shapes.items))) }
 {
     let mut overlay = overlay_of(alloc, strings)?;
     if is_default(slice, strategy) {
@@ -206,7 +205,7 @@ fn measure_from(words: &mut Words<'_>) -> Measure {
 
 // Twice the area of a piece. It is refused where a contour has more points than 128 bits sum.
 fn doubled_area_of<I: OverlayInt>(piece: &IntShape<I>) -> Result<i128, Fault>
-    requires { All (All (IsWithin I.least I.greatest)) (contours_of I.value piece.now.contours.items) }
+    requires { All (All (IsWithin I.least I.greatest)) (contours_of piece.now.contours.items) }
 {
     let mut area = 0_i128;
     for contour in &piece.contours {
@@ -216,7 +215,7 @@ fn doubled_area_of<I: OverlayInt>(piece: &IntShape<I>) -> Result<i128, Fault>
 }
 
 fn area_of<I: OverlayInt>(points: &[IntPoint<I>]) -> Result<i128, Fault>
-    requires { All (IsWithin I.least I.greatest) (points_of I.value points.now) }
+    requires { All (IsWithin I.least I.greatest) points.now }
 {
     if points.len() > MOST_POINTS {
         return Err(Fault::Failed);
@@ -226,7 +225,7 @@ fn area_of<I: OverlayInt>(points: &[IntPoint<I>]) -> Result<i128, Fault>
 
 // The measures of pieces, in order.
 fn measures_of<I: OverlayInt>(alloc: Global, pieces: &IntShapes<I>) -> Result<Vec<Measure>, Fault>
-    requires { All (All (IsWithin I.least I.greatest)) (all_contours (shapes_of I.value pieces.now.shapes.items)) }
+    requires { All (All (IsWithin I.least I.greatest)) (all_contours (shapes_of pieces.now.shapes.items)) }
 {
     let mut measures = Vec::new(alloc);
     for piece in &pieces.shapes {

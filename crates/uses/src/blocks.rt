@@ -22,10 +22,10 @@ pub fn union_of_block<I: OverlayInt>(
     subject: &IntShapes<I>,
     clip: &IntShapes<I>,
 ) -> Result<IntShapes<I>, Fault>
-    requires subject_in_range { AreInRange I.least I.greatest (contours_of I.value (paths_of_shapes subject.now.shapes.items)) }
-    requires clip_in_range { AreInRange I.least I.greatest (contours_of I.value (paths_of_shapes clip.now.shapes.items)) }
-    ensures block { IfOk result (λ found. IsUnionOfBlock I.least I.greatest (contours_of I.value (paths_of_shapes subject.now.shapes.items))
-        (contours_of I.value (paths_of_shapes clip.now.shapes.items)) (shapes_of I.value found.shapes.items)) }
+    requires subject_in_range { AreInRange I.least I.greatest (contours_of (paths_of_shapes subject.now.shapes.items)) }
+    requires clip_in_range { AreInRange I.least I.greatest (contours_of (paths_of_shapes clip.now.shapes.items)) }
+    ensures block { IfOk result (λ found. IsUnionOfBlock I.least I.greatest (contours_of (paths_of_shapes subject.now.shapes.items))
+        (contours_of (paths_of_shapes clip.now.shapes.items)) (shapes_of found.shapes.items)) }
 {
     holding_goes_on();
     sources_are_held();

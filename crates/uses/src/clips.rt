@@ -5,7 +5,6 @@ ghost use Rattle.polygon_overlay.specs.ClipCalls.{IsClipOf};
 ghost use Rattle.polygon_overlay.specs.GivenViews.{contours_of};
 ghost use Rattle.polygon_overlay.specs.Plane.{IsWithin};
 ghost use Rattle.polygon_overlay.specs.RuleViews.{fill_rule_of};
-ghost use Rattle.polygon_overlay.specs.Views.{points_of};
 
 use polygon_overlay::arrangement::clip_rule::ClipRule;
 use polygon_overlay::arrangement::fill_rule::FillRule;
@@ -32,10 +31,10 @@ pub fn road_inside<I: OverlayInt>(
     parcel: &IntPath<I>,
     road: IntLine<I>,
 ) -> Result<Vec<IntPath<I>>, Fault>
-    requires parcel_in_range { All (IsWithin I.least I.greatest) (points_of I.value parcel.now.points.items) }
-    requires road_in_range { All (IsWithin I.least I.greatest) (points_of I.value road) }
+    requires parcel_in_range { All (IsWithin I.least I.greatest) parcel.now.points.items }
+    requires road_in_range { All (IsWithin I.least I.greatest) road }
     ensures clip { IfOk result (λ paths. IsClipOf I.least I.greatest (fill_rule_of FillRule.NonZero) (record { invert = false; boundary_included = true })
-        (points_of I.value parcel.now.points.items ∷ []) (points_of I.value road ∷ []) (contours_of I.value paths.items)) }
+        (parcel.now.points.items ∷ []) (road ∷ []) (contours_of paths.items)) }
 {
     parcel.clip_line(alloc, road, FillRule::NonZero, INSIDE)
 }
@@ -46,10 +45,10 @@ pub fn road_outside<I: OverlayInt>(
     parcel: &IntPath<I>,
     road: IntLine<I>,
 ) -> Result<Vec<IntPath<I>>, Fault>
-    requires parcel_in_range { All (IsWithin I.least I.greatest) (points_of I.value parcel.now.points.items) }
-    requires road_in_range { All (IsWithin I.least I.greatest) (points_of I.value road) }
+    requires parcel_in_range { All (IsWithin I.least I.greatest) parcel.now.points.items }
+    requires road_in_range { All (IsWithin I.least I.greatest) road }
     ensures clip { IfOk result (λ paths. IsClipOf I.least I.greatest (fill_rule_of FillRule.NonZero) (record { invert = true; boundary_included = true })
-        (points_of I.value parcel.now.points.items ∷ []) (points_of I.value road ∷ []) (contours_of I.value paths.items)) }
+        (parcel.now.points.items ∷ []) (road ∷ []) (contours_of paths.items)) }
 {
     parcel.clip_line(alloc, road, FillRule::NonZero, OUTSIDE)
 }

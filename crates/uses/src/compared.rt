@@ -14,7 +14,7 @@ use polygon_overlay::laws::{
 };
 use polygon_overlay::overlay::Overlay;
 use polygon_overlay::plane::fault::Fault;
-use polygon_overlay::plane::int::OverlayInt;
+use polygon_overlay::plane::int::{IntNumber, OverlayInt};
 use polygon_overlay::plane::path::IntShapes;
 use polygon_overlay::single::SingleIntOverlay;
 use std::alloc::Global;
@@ -28,7 +28,7 @@ pub fn unions_of_both<I: OverlayInt>(
     requires held { held_by one.old ≡ held_by other.old }
     requires options { one.old.options ≡ other.old.options }
     requires precision { one.old.solver.precision ≡ other.old.solver.precision }
-    ensures same { IfOk result (λ unions. shapes_of I.value unions.0.shapes.items ≡ shapes_of I.value unions.1.shapes.items) }
+    ensures same { IfOk result (λ unions. shapes_of unions.0.shapes.items ≡ shapes_of unions.1.shapes.items) }
 {
     strategies_agree();
     let union = one.overlay(OverlayRule::Union, FillRule::NonZero)?;
@@ -45,7 +45,7 @@ pub fn unions_in_two_widths<I: OverlayInt, J: OverlayInt>(
     requires held { held_by narrow.old ≡ held_by wide.old }
     requires options { narrow.old.options ≡ wide.old.options }
     requires precision { narrow.old.solver.precision ≡ wide.old.solver.precision }
-    ensures same { IfOk result (λ unions. shapes_of I.value unions.0.shapes.items ≡ shapes_of J.value unions.1.shapes.items) }
+    ensures same { IfOk result (λ unions. shapes_of unions.0.shapes.items ≡ shapes_of unions.1.shapes.items) }
 {
     widths_agree();
     let before = narrow.overlay(OverlayRule::Union, FillRule::NonZero)?;
@@ -55,7 +55,7 @@ pub fn unions_in_two_widths<I: OverlayInt, J: OverlayInt>(
 
 /// A land, what of it a flood leaves dry, and what it covers.
 #[derive(Drop)]
-pub struct FloodedLand<I> {
+pub struct FloodedLand<I: IntNumber> {
     pub land: IntShapes<I>,
     pub dry: IntShapes<I>,
     pub flooded: IntShapes<I>,
@@ -67,10 +67,10 @@ pub fn survey<I: OverlayInt>(
     land: &IntShapes<I>,
     flood: &IntShapes<I>,
 ) -> Result<FloodedLand<I>, Fault>
-    requires land_in_range { AreInRange I.least I.greatest (contours_of I.value (paths_of_shapes land.now.shapes.items)) }
-    requires flood_in_range { AreInRange I.least I.greatest (contours_of I.value (paths_of_shapes flood.now.shapes.items)) }
-    ensures add_up { IfOk result (λ found. areas (shapes_of I.value found.dry.shapes.items)
-        ≡ areas (shapes_of I.value found.land.shapes.items) -ℤ areas (shapes_of I.value found.flooded.shapes.items)) }
+    requires land_in_range { AreInRange I.least I.greatest (contours_of (paths_of_shapes land.now.shapes.items)) }
+    requires flood_in_range { AreInRange I.least I.greatest (contours_of (paths_of_shapes flood.now.shapes.items)) }
+    ensures add_up { IfOk result (λ found. areas (shapes_of found.dry.shapes.items)
+        ≡ areas (shapes_of found.land.shapes.items) -ℤ areas (shapes_of found.flooded.shapes.items)) }
 {
     holding_goes_on();
     sources_are_held();

@@ -1,6 +1,6 @@
 //! Where so many parcels lie over one another.
 
-ghost use Rattle.std.specs.Prelude.{◌≡◌, ◌≤ℤ◌, pos, IfOk, IfSome};
+ghost use Rattle.std.specs.Prelude.{◌≡◌, pos, IfOk, IfSome};
 ghost use Rattle.polygon_overlay.specs.Answering.{answering_of};
 ghost use Rattle.polygon_overlay.specs.Calls.{held_by};
 ghost use Rattle.polygon_overlay.specs.OverlayLaws.{overlay_of};
@@ -22,9 +22,9 @@ pub fn overlapped<I: OverlayInt>(
     parcels: &mut Overlay<I>,
     times: i32,
 ) -> Result<Option<IntShapes<I>>, Fault>
-    ensures at_least { IfOk result (λ found. IfSome found (λ shapes. shapes_of I.value shapes.shapes.items
+    ensures at_least { IfOk result (λ found. IfSome found (λ shapes. shapes_of shapes.shapes.items
         ≡ overlay_of (answering_of parcels.old.options) (AtLeast times) Subject parcels.old.solver.precision (held_by parcels.old))) }
-    ensures once { times ≡ pos 1 → IfOk result (λ found. IfSome found (λ shapes. shapes_of I.value shapes.shapes.items
+    ensures once { times ≡ pos 1 → IfOk result (λ found. IfSome found (λ shapes. shapes_of shapes.shapes.items
         ≡ overlay_of (answering_of parcels.old.options) Positive Subject parcels.old.solver.precision (held_by parcels.old))) }
 {
     alike_rules_answer_alike();

@@ -4,7 +4,6 @@ ghost use Rattle.std.specs.Prelude.{All, IfOk};
 ghost use Rattle.polygon_overlay.specs.BindingLaws.{all_contours};
 ghost use Rattle.polygon_overlay.specs.Plane.{IsWithin};
 ghost use Rattle.polygon_overlay.specs.ShapeViews.{shapes_of};
-ghost use Rattle.polygon_overlay.specs.Views.{points_of};
 
 use polygon_overlay::arrangement::fill_rule::FillRule;
 use polygon_overlay::arrangement::overlay_rule::OverlayRule;
@@ -27,9 +26,9 @@ pub fn without<I: OverlayInt>(
     parcel: &[IntPoint<I>],
     pond: &[IntPoint<I>],
 ) -> Result<IntShapes<I>, Fault>
-    requires parcel_in_range { All (IsWithin I.least I.greatest) (points_of I.value parcel.now) }
-    requires pond_in_range { All (IsWithin I.least I.greatest) (points_of I.value pond.now) }
-    ensures in_range { IfOk result (λ shapes. All (All (IsWithin I.least I.greatest)) (all_contours (shapes_of I.value shapes.shapes.items))) }
+    requires parcel_in_range { All (IsWithin I.least I.greatest) parcel.now }
+    requires pond_in_range { All (IsWithin I.least I.greatest) pond.now }
+    ensures in_range { IfOk result (λ shapes. All (All (IsWithin I.least I.greatest)) (all_contours (shapes_of shapes.shapes.items))) }
 {
     let mut overlay = Overlay::new(alloc, 0)?;
     overlay.add_contour(parcel, ShapeType::Subject)?;

@@ -9,7 +9,6 @@ ghost use Rattle.polygon_overlay.specs.OverlayLaws.{overlay_of};
 ghost use Rattle.polygon_overlay.specs.Overlays.{redrawn_of};
 ghost use Rattle.polygon_overlay.specs.Plane.{IsWithin};
 ghost use Rattle.polygon_overlay.specs.Regions.{region, NonZero, Intersect};
-ghost use Rattle.polygon_overlay.specs.Views.{points_of};
 ghost use Rattle.polygon_overlay.specs.Windings.{winding};
 
 use polygon_overlay::arrangement::fill_rule::FillRule;
@@ -31,11 +30,11 @@ pub fn flooded_wells<I: OverlayInt>(
 ) -> Result<Vec<bool>, Fault>
     requires all_areas { map.old.options.min_output_area ≡ 0 }
     requires not_parted { map.old.options.ogc ≡ false }
-    requires wells_in_range { All (IsWithin I.least I.greatest) (points_of I.value wells.now) }
+    requires wells_in_range { All (IsWithin I.least I.greatest) wells.now }
     ensures told { IfOk result (λ flooded. AreLocated
         (all_contours (overlay_of (answering_of map.old.options) NonZero Intersect map.old.solver.precision (held_by map.old)))
         (λ p. region NonZero Intersect (winding (redrawn_of map.old.solver.precision (held_by map.old)) p))
-        (points_of I.value wells.now) flooded.items) }
+        wells.now flooded.items) }
 {
     answers_contain();
     let flooded = map.overlay(OverlayRule::Intersect, FillRule::NonZero)?;

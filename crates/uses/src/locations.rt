@@ -4,7 +4,6 @@ ghost use Rattle.std.specs.Prelude.{All, IsOkUnless};
 ghost use Rattle.polygon_overlay.specs.BindingLaws.{all_contours};
 ghost use Rattle.polygon_overlay.specs.Plane.{IsWithin};
 ghost use Rattle.polygon_overlay.specs.ShapeViews.{shapes_of};
-ghost use Rattle.polygon_overlay.specs.Views.{point_of, points_of};
 
 use polygon_overlay::plane::fault::Fault;
 use polygon_overlay::plane::int::OverlayInt;
@@ -19,8 +18,8 @@ pub fn wells_inside<I: OverlayInt>(
     zone: &IntShapes<I>,
     wells: &[IntPoint<I>],
 ) -> Result<usize, Fault>
-    requires zone_in_range { All (All (IsWithin I.least I.greatest)) (all_contours (shapes_of I.value zone.now.shapes.items)) }
-    requires wells_in_range { All (IsWithin I.least I.greatest) (points_of I.value wells.now) }
+    requires zone_in_range { All (All (IsWithin I.least I.greatest)) (all_contours (shapes_of zone.now.shapes.items)) }
+    requires wells_in_range { All (IsWithin I.least I.greatest) wells.now }
     ensures memory { IsOkUnless result Fault.Memory }
 {
     let inside = zone.contains_points(alloc, wells)?;
@@ -35,9 +34,9 @@ pub fn has_well_inside<I: OverlayInt>(
     well: IntPoint<I>,
     reserve: IntPoint<I>,
 ) -> Result<bool, Fault>
-    requires zone_in_range { All (All (IsWithin I.least I.greatest)) (all_contours (shapes_of I.value zone.now.shapes.items)) }
-    requires well_in_range { IsWithin I.least I.greatest (point_of I.value well) }
-    requires reserve_in_range { IsWithin I.least I.greatest (point_of I.value reserve) }
+    requires zone_in_range { All (All (IsWithin I.least I.greatest)) (all_contours (shapes_of zone.now.shapes.items)) }
+    requires well_in_range { IsWithin I.least I.greatest well }
+    requires reserve_in_range { IsWithin I.least I.greatest reserve }
     ensures memory { IsOkUnless result Fault.Memory }
 {
     let kept = PointLocator::new(alloc, zone)?;

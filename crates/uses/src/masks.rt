@@ -38,7 +38,7 @@ pub fn resized<I: OverlayInt>(
     by: Sizing<I>,
 ) -> Result<Option<IntShapes<I>>, Fault>
     ensures { IfOk result (λ found. IfSome found (λ shapes. AreSized I.least I.greatest (amounts_of I.value by) default_options NonZero default_precision
-        (contours_of I.value (paths_of_shapes mask.now.shapes.items)) (shapes_of I.value shapes.shapes.items))) }
+        (contours_of (paths_of_shapes mask.now.shapes.items)) (shapes_of shapes.shapes.items))) }
 {
     if !source_in_range(mask) {
         return Ok(None);
@@ -64,11 +64,11 @@ pub fn width_errors<I: OverlayInt>(
     width: I,
 ) -> Result<Option<IntShapes<I>>, Fault>
     ensures told { IfOk result (λ found. IfSome found (λ shapes. AreWidthErrors I.least I.greatest (I.value width) default_options NonZero
-        default_precision (contours_of I.value (paths_of_shapes mask.now.shapes.items)) (shapes_of I.value shapes.shapes.items))) }
+        default_precision (contours_of (paths_of_shapes mask.now.shapes.items)) (shapes_of shapes.shapes.items))) }
     ensures untold { IfOk result (λ found. IfNone found (CanBeChecked I.least I.greatest (I.value width)
-        (contours_of I.value (paths_of_shapes mask.now.shapes.items)) → ⊥)) }
+        (contours_of (paths_of_shapes mask.now.shapes.items)) → ⊥)) }
     ensures refused { IfErr result (AreNoWidthErrors I.least I.greatest (I.value width) default_options NonZero default_precision
-        (contours_of I.value (paths_of_shapes mask.now.shapes.items))) }
+        (contours_of (paths_of_shapes mask.now.shapes.items))) }
 {
     if !can_be_checked(mask, width) {
         return Ok(None);
@@ -86,11 +86,11 @@ pub fn space_errors<I: OverlayInt>(
     space: I,
 ) -> Result<Option<IntShapes<I>>, Fault>
     ensures told { IfOk result (λ found. IfSome found (λ shapes. AreSpaceErrors I.least I.greatest (I.value space) default_options NonZero
-        default_precision (contours_of I.value (paths_of_shapes mask.now.shapes.items)) (shapes_of I.value shapes.shapes.items))) }
+        default_precision (contours_of (paths_of_shapes mask.now.shapes.items)) (shapes_of shapes.shapes.items))) }
     ensures untold { IfOk result (λ found. IfNone found (CanBeChecked I.least I.greatest (I.value space)
-        (contours_of I.value (paths_of_shapes mask.now.shapes.items)) → ⊥)) }
+        (contours_of (paths_of_shapes mask.now.shapes.items)) → ⊥)) }
     ensures refused { IfErr result (AreNoSpaceErrors I.least I.greatest (I.value space) default_options NonZero default_precision
-        (contours_of I.value (paths_of_shapes mask.now.shapes.items))) }
+        (contours_of (paths_of_shapes mask.now.shapes.items))) }
 {
     if !can_be_checked(mask, space) {
         return Ok(None);
@@ -110,12 +110,12 @@ pub fn enclosure_errors<I: OverlayInt>(
     distance: I,
 ) -> Result<Option<IntShapes<I>>, Fault>
     ensures told { IfOk result (λ found. IfSome found (λ shapes. AreEnclosureErrors (I.value distance)
-        (contours_of I.value (paths_of_shapes inner.now.shapes.items)) (contours_of I.value (paths_of_shapes outer.now.shapes.items))
-        (shapes_of I.value shapes.shapes.items))) }
+        (contours_of (paths_of_shapes inner.now.shapes.items)) (contours_of (paths_of_shapes outer.now.shapes.items))
+        (shapes_of shapes.shapes.items))) }
     ensures untold { IfOk result (λ found. IfNone found (CanBeEnclosed I.least I.greatest (I.value distance)
-        (contours_of I.value (paths_of_shapes inner.now.shapes.items)) (contours_of I.value (paths_of_shapes outer.now.shapes.items)) → ⊥)) }
+        (contours_of (paths_of_shapes inner.now.shapes.items)) (contours_of (paths_of_shapes outer.now.shapes.items)) → ⊥)) }
     ensures refused { IfErr result (AreNoEnclosures I.least I.greatest (I.value distance)
-        (contours_of I.value (paths_of_shapes inner.now.shapes.items)) (contours_of I.value (paths_of_shapes outer.now.shapes.items))) }
+        (contours_of (paths_of_shapes inner.now.shapes.items)) (contours_of (paths_of_shapes outer.now.shapes.items))) }
 {
     if !can_be_enclosed(inner, outer, distance) {
         return Ok(None);
@@ -129,7 +129,7 @@ pub fn enclosure_errors<I: OverlayInt>(
 // ---- what can be checked
 
 fn is_mask<I: OverlayInt>(mask: &IntShapes<I>) -> bool
-    ensures { IsTrue result ↔ IsMask I.least I.greatest (contours_of I.value (paths_of_shapes mask.now.shapes.items)) }
+    ensures { IsTrue result ↔ IsMask I.least I.greatest (contours_of (paths_of_shapes mask.now.shapes.items)) }
 {
     if !source_in_range(mask) {
         return false;
@@ -138,7 +138,7 @@ fn is_mask<I: OverlayInt>(mask: &IntShapes<I>) -> bool
 }
 
 fn can_be_checked<I: OverlayInt>(mask: &IntShapes<I>, side: I) -> bool
-    ensures { IsTrue result ↔ CanBeChecked I.least I.greatest (I.value side) (contours_of I.value (paths_of_shapes mask.now.shapes.items)) }
+    ensures { IsTrue result ↔ CanBeChecked I.least I.greatest (I.value side) (contours_of (paths_of_shapes mask.now.shapes.items)) }
 {
     if !is_side(side) {
         return false;
@@ -157,7 +157,7 @@ fn is_distance<I: OverlayInt>(distance: I) -> bool
 
 fn can_be_enclosed<I: OverlayInt>(inner: &IntShapes<I>, outer: &IntShapes<I>, distance: I) -> bool
     ensures { IsTrue result ↔ CanBeEnclosed I.least I.greatest (I.value distance)
-        (contours_of I.value (paths_of_shapes inner.now.shapes.items)) (contours_of I.value (paths_of_shapes outer.now.shapes.items)) }
+        (contours_of (paths_of_shapes inner.now.shapes.items)) (contours_of (paths_of_shapes outer.now.shapes.items)) }
 {
     if !is_distance(distance) {
         return false;
@@ -178,12 +178,12 @@ fn sized_once<I: OverlayInt>(
     mask: &IntShapes<I>,
     by: Sizing<I>,
 ) -> Result<IntShapes<I>, Fault>
-    requires is_mask { IsMask I.least I.greatest (contours_of I.value (paths_of_shapes mask.now.shapes.items)) }
-    requires fits { Fits I.least I.greatest (amounts_of I.value by) (contours_of I.value (paths_of_shapes mask.now.shapes.items)) }
+    requires is_mask { IsMask I.least I.greatest (contours_of (paths_of_shapes mask.now.shapes.items)) }
+    requires fits { Fits I.least I.greatest (amounts_of I.value by) (contours_of (paths_of_shapes mask.now.shapes.items)) }
     ensures sized { IfOk result (λ shapes. AreSized I.least I.greatest (amounts_of I.value by) default_options NonZero default_precision
-        (contours_of I.value (paths_of_shapes mask.now.shapes.items)) (shapes_of I.value shapes.shapes.items)) }
+        (contours_of (paths_of_shapes mask.now.shapes.items)) (shapes_of shapes.shapes.items)) }
     ensures refused { IfErr result (IsNotSized I.least I.greatest (amounts_of I.value by) default_options NonZero default_precision
-        (contours_of I.value (paths_of_shapes mask.now.shapes.items))) }
+        (contours_of (paths_of_shapes mask.now.shapes.items))) }
 {
     let options = IntOverlayOptions::default();
     let solver = Solver::default();
@@ -196,12 +196,12 @@ fn rest<I: OverlayInt>(
     one: &IntShapes<I>,
     other: &IntShapes<I>,
 ) -> Result<IntShapes<I>, Fault>
-    requires one_is { IsMask I.least I.greatest (contours_of I.value (paths_of_shapes one.now.shapes.items)) }
-    requires other_is { IsMask I.least I.greatest (contours_of I.value (paths_of_shapes other.now.shapes.items)) }
-    ensures rest { IfOk result (λ shapes. AreRest (contours_of I.value (paths_of_shapes one.now.shapes.items))
-        (contours_of I.value (paths_of_shapes other.now.shapes.items)) (shapes_of I.value shapes.shapes.items)) }
-    ensures refused { IfErr result (IsSingleRefused (contours_of I.value (paths_of_shapes one.now.shapes.items))
-        (contours_of I.value (paths_of_shapes other.now.shapes.items))) }
+    requires one_is { IsMask I.least I.greatest (contours_of (paths_of_shapes one.now.shapes.items)) }
+    requires other_is { IsMask I.least I.greatest (contours_of (paths_of_shapes other.now.shapes.items)) }
+    ensures rest { IfOk result (λ shapes. AreRest (contours_of (paths_of_shapes one.now.shapes.items))
+        (contours_of (paths_of_shapes other.now.shapes.items)) (shapes_of shapes.shapes.items)) }
+    ensures refused { IfErr result (IsSingleRefused (contours_of (paths_of_shapes one.now.shapes.items))
+        (contours_of (paths_of_shapes other.now.shapes.items))) }
 {
     holding_goes_on();
     sources_are_held();

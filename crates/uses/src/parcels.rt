@@ -22,9 +22,9 @@ pub fn add_side<I: OverlayInt>(
     parcels: &mut EdgeOverlay<I, Owners>,
     side: InputEdge<I, Owners>,
 ) -> Result<bool, Fault>
-    ensures in_range { IfOk result (λ is_added. IsTrue is_added ↔ IsInputWithin I.value I.least I.greatest side) }
+    ensures in_range { IfOk result (λ is_added. IsTrue is_added ↔ IsInputWithin I.least I.greatest side) }
     ensures added { IfOk result (λ is_added. IsTrue is_added → with_data_of parcels.new
-        ≡ with_data_of parcels.old ++ laid_with_datum I.value union ShapeType.Subject side) }
+        ≡ with_data_of parcels.old ++ laid_with_datum union ShapeType.Subject side) }
 {
     if !is_in_range(side.a) || !is_in_range(side.b) {
         return Ok(false);
@@ -39,7 +39,7 @@ pub fn borders<I: OverlayInt>(
     parcels: &mut EdgeOverlay<I, Owners>,
 ) -> Result<Option<Vec<DataVectorEdge<I, Owners>>>, Fault>
     ensures closed { IfOk result (λ found. IsSome found ↔ IsHeld I.least I.greatest (held_by parcels.old)) }
-    ensures bounds { IfOk result (λ found. IfSome found (λ edges. data_vectors_of I.value edges.items
+    ensures bounds { IfOk result (λ found. IfSome found (λ edges. data_vectors_of edges.items
         ≡ boundary_vectors (fill_rule_of FillRule.NonZero) (overlay_rule_of OverlayRule.Subject) (with_data_of parcels.new))) }
     ensures owners { IfOk result (λ found. IsSome found → HoldsRedrawn union parcels.old parcels.new) }
 {

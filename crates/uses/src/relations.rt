@@ -61,12 +61,12 @@ pub fn nesting_of<I: OverlayInt>(
     one: &IntShapes<I>,
     other: &IntShapes<I>,
 ) -> Result<Nesting, Fault>
-    requires one_in_range { AreInRange I.least I.greatest (contours_of I.value (paths_of_shapes one.now.shapes.items)) }
-    requires other_in_range { AreInRange I.least I.greatest (contours_of I.value (paths_of_shapes other.now.shapes.items)) }
-    ensures forth { IfOk result (λ found. IsRelated within (contours_of I.value (paths_of_shapes one.now.shapes.items))
-        (contours_of I.value (paths_of_shapes other.now.shapes.items)) found.within) }
-    ensures back { IfOk result (λ found. IsRelated within (contours_of I.value (paths_of_shapes other.now.shapes.items))
-        (contours_of I.value (paths_of_shapes one.now.shapes.items)) found.around) }
+    requires one_in_range { AreInRange I.least I.greatest (contours_of (paths_of_shapes one.now.shapes.items)) }
+    requires other_in_range { AreInRange I.least I.greatest (contours_of (paths_of_shapes other.now.shapes.items)) }
+    ensures forth { IfOk result (λ found. IsRelated within (contours_of (paths_of_shapes one.now.shapes.items))
+        (contours_of (paths_of_shapes other.now.shapes.items)) found.within) }
+    ensures back { IfOk result (λ found. IsRelated within (contours_of (paths_of_shapes other.now.shapes.items))
+        (contours_of (paths_of_shapes one.now.shapes.items)) found.around) }
 {
     covers_is_within_exchanged();
     holding_goes_on();

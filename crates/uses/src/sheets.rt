@@ -14,7 +14,7 @@ use polygon_overlay::arrangement::fill_rule::FillRule;
 use polygon_overlay::arrangement::overlay_rule::OverlayRule;
 use polygon_overlay::laws::{answers_stay_in_the_box, holding_goes_on, sources_are_held};
 use polygon_overlay::plane::fault::Fault;
-use polygon_overlay::plane::int::OverlayInt;
+use polygon_overlay::plane::int::{IntNumber, OverlayInt};
 use polygon_overlay::plane::path::IntShapes;
 use polygon_overlay::single::SingleIntOverlay;
 use polygon_overlay::tile::IntTile;
@@ -22,7 +22,7 @@ use std::alloc::Global;
 
 /// A map on a sheet.
 #[derive(Drop)]
-pub struct Sheet<I> {
+pub struct Sheet<I: IntNumber> {
     pub frame: IntTile<I>,
     pub map: IntShapes<I>,
 }
@@ -35,14 +35,14 @@ pub fn common_on_sheet<I: OverlayInt>(
     one: &IntShapes<I>,
     other: &IntShapes<I>,
 ) -> Result<Sheet<I>, Fault>
-    requires one_in_range { AreInRange I.least I.greatest (contours_of I.value (paths_of_shapes one.now.shapes.items)) }
-    requires other_in_range { AreInRange I.least I.greatest (contours_of I.value (paths_of_shapes other.now.shapes.items)) }
-    requires one_framed { All (All (LiesWithin (bounds_of I.value frame))) (contours_of I.value (paths_of_shapes one.now.shapes.items)) }
-    requires other_framed { All (All (LiesWithin (bounds_of I.value frame))) (contours_of I.value (paths_of_shapes other.now.shapes.items)) }
-    ensures common { IfOk result (λ sheet. IsSingleOverlay I.least I.greatest NonZero Intersect (contours_of I.value (paths_of_shapes one.now.shapes.items))
-        (contours_of I.value (paths_of_shapes other.now.shapes.items)) (shapes_of I.value sheet.map.shapes.items)) }
+    requires one_in_range { AreInRange I.least I.greatest (contours_of (paths_of_shapes one.now.shapes.items)) }
+    requires other_in_range { AreInRange I.least I.greatest (contours_of (paths_of_shapes other.now.shapes.items)) }
+    requires one_framed { All (All (LiesWithin (bounds_of I.value frame))) (contours_of (paths_of_shapes one.now.shapes.items)) }
+    requires other_framed { All (All (LiesWithin (bounds_of I.value frame))) (contours_of (paths_of_shapes other.now.shapes.items)) }
+    ensures common { IfOk result (λ sheet. IsSingleOverlay I.least I.greatest NonZero Intersect (contours_of (paths_of_shapes one.now.shapes.items))
+        (contours_of (paths_of_shapes other.now.shapes.items)) (shapes_of sheet.map.shapes.items)) }
     ensures same_frame { IfOk result (λ sheet. sheet.frame ≡ frame) }
-    ensures framed { IfOk result (λ sheet. All (All (LiesWithin (bounds_of I.value sheet.frame))) (all_contours (shapes_of I.value sheet.map.shapes.items))) }
+    ensures framed { IfOk result (λ sheet. All (All (LiesWithin (bounds_of I.value sheet.frame))) (all_contours (shapes_of sheet.map.shapes.items))) }
 {
     answers_stay_in_the_box();
     holding_goes_on();

@@ -3,7 +3,6 @@
 ghost use Rattle.std.specs.Prelude.{◌≡◌, All, OnOk, false};
 ghost use Rattle.polygon_overlay.specs.Calls.{has_failed};
 ghost use Rattle.polygon_overlay.specs.Plane.{IsWithin};
-ghost use Rattle.polygon_overlay.specs.Views.{points_of};
 
 use polygon_overlay::arrangement::fill_rule::FillRule;
 use polygon_overlay::overlay::Overlay;
@@ -17,7 +16,7 @@ pub fn simplified_count<I: OverlayInt>(
     overlay: &mut Overlay<I>,
     contour: &[IntPoint<I>],
 ) -> Result<usize, Fault>
-    requires in_range { All (IsWithin I.least I.greatest) (points_of I.value contour.now) }
+    requires in_range { All (IsWithin I.least I.greatest) contour.now }
     ensures ready { OnOk result (has_failed overlay.new ≡ false) }
     ensures options { overlay.new.options ≡ overlay.old.options }
 {

@@ -7,7 +7,6 @@ ghost use Rattle.polygon_overlay.specs.Plane.{IsWithin};
 ghost use Rattle.polygon_overlay.specs.RuleViews.{fill_rule_of};
 ghost use Rattle.polygon_overlay.specs.ShapeViews.{shapes_of};
 ghost use Rattle.polygon_overlay.specs.SliceCalls.{IsSliceOf};
-ghost use Rattle.polygon_overlay.specs.Views.{points_of};
 
 use polygon_overlay::arrangement::fill_rule::FillRule;
 use polygon_overlay::plane::area::doubled_area;
@@ -28,23 +27,23 @@ pub fn pieces_of<I: OverlayInt>(
     parcel: &IntPath<I>,
     line: IntLine<I>,
 ) -> Result<IntShapes<I>, Fault>
-    requires parcel_in_range { All (IsWithin I.least I.greatest) (points_of I.value parcel.now.points.items) }
-    requires line_in_range { All (IsWithin I.least I.greatest) (points_of I.value line) }
+    requires parcel_in_range { All (IsWithin I.least I.greatest) parcel.now.points.items }
+    requires line_in_range { All (IsWithin I.least I.greatest) line }
     ensures slice { IfOk result (λ pieces. IsSliceOf I.least I.greatest (fill_rule_of FillRule.NonZero)
-        (points_of I.value parcel.now.points.items ∷ []) (points_of I.value line ∷ []) (shapes_of I.value pieces.shapes.items)) }
+        (parcel.now.points.items ∷ []) (line ∷ []) (shapes_of pieces.shapes.items)) }
 {
     parcel.slice_by_line(alloc, line, FillRule::NonZero)
 }
 
 /// Whether pieces are two of equal area, neither with a hole. All points are in range, as those of `pieces_of` are.
 pub fn are_equal_halves<I: OverlayInt>(pieces: &IntShapes<I>) -> bool
-    requires { All (All (IsWithin I.least I.greatest)) (all_contours (shapes_of I.value pieces.now.shapes.items)) }
+    requires { All (All (IsWithin I.least I.greatest)) (all_contours (shapes_of pieces.now.shapes.items)) }
 {
     are_halves(&pieces.shapes)
 }
 
 fn are_halves<I: OverlayInt>(pieces: &[IntShape<I>]) -> bool
-    requires { All (All (IsWithin I.least I.greatest)) (all_contours (shapes_of I.value pieces.now)) }
+    requires { All (All (IsWithin I.least I.greatest)) (all_contours (shapes_of pieces.now)) }
 {
     if pieces.len() == 2 {
         match (area_of(&pieces[0].contours), area_of(&pieces[1].contours)) {
@@ -58,7 +57,7 @@ fn are_halves<I: OverlayInt>(pieces: &[IntShape<I>]) -> bool
 
 // Twice the area of a piece without a hole. None where there is one, or where there are more points than 128 bits sum.
 fn area_of<I: OverlayInt>(contours: &[IntPath<I>]) -> Option<i128>
-    requires { All (All (IsWithin I.least I.greatest)) (contours_of I.value contours.now) }
+    requires { All (All (IsWithin I.least I.greatest)) (contours_of contours.now) }
 {
     if contours.len() == 1 {
         area_of_outline(&contours[0].points)
@@ -68,7 +67,7 @@ fn area_of<I: OverlayInt>(contours: &[IntPath<I>]) -> Option<i128>
 }
 
 fn area_of_outline<I: OverlayInt>(points: &[IntPoint<I>]) -> Option<i128>
-    requires { All (IsWithin I.least I.greatest) (points_of I.value points.now) }
+    requires { All (IsWithin I.least I.greatest) points.now }
 {
     if points.len() <= MOST_POINTS {
         Some(doubled_area(points))

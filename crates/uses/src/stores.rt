@@ -20,9 +20,9 @@ use std::alloc::Global;
 /// Shapes read from a store, mended: whatever they are, what comes of them crosses nowhere. Such as an overlay answered, with all its points, come back as
 /// they are, point for point, so they may be mended as often as they are read. All points are in range.
 pub fn mended<I: OverlayInt>(alloc: Global, stored: &IntShapes<I>) -> Result<IntShapes<I>, Fault>
-    requires { AreInRange I.least I.greatest (contours_of I.value (paths_of_shapes stored.now.shapes.items)) }
-    ensures same { IfOk result (λ found. AreAnswered (shapes_of I.value stored.now.shapes.items)
-        → shapes_of I.value found.shapes.items ≡ shapes_of I.value stored.now.shapes.items) }
+    requires { AreInRange I.least I.greatest (contours_of (paths_of_shapes stored.now.shapes.items)) }
+    ensures same { IfOk result (λ found. AreAnswered (shapes_of stored.now.shapes.items)
+        → shapes_of found.shapes.items ≡ shapes_of stored.now.shapes.items) }
 {
     answers_come_back();
     holding_goes_on();

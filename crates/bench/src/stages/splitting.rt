@@ -1,8 +1,6 @@
 //! Splitting, timed.
 
-ghost use Rattle.std.specs.Prelude.{◌≡◌, pos, negsuc};
-ghost use Rattle.plane_base.specs.Counts.{boolean};
-ghost use Rattle.segment_split.specs.SegmentViews.{entries_of, AreWithin, AreCounted};
+ghost use Rattle.std.specs.Prelude.{◌≡◌};
 
 use crate::contours::Contours;
 use i_tree::Steps;

@@ -1,6 +1,5 @@
 //! Ranges in a bucket tree: many are added, and then one more before each walk over those that share a bucket with a drawn
 //! range, while they expire one by one.
-ghost use Rattle.std.specs.Prelude.{◌≡◌};
 ghost use Rattle.std.specs.Bool.{OnTrue};
 ghost use Rattle.std.specs.Ordering.{nat_cmp};
 ghost use Rattle.i_tree.specs.Bag.{IsInTime};

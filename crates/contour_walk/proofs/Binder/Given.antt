@@ -1,5 +1,5 @@
 -- Where given contours are bound by a sweep: it can hold their edges, their anchors can be sought, and what it finds tells the owners.
-use Rattle.std.proofs.Common.{◌≡◌, ◌≢◌, ◌⊎◌, inl, inr, ℕ, zero, suc, ◌+◌, ◌<◌, Bool, true, false, cond, List, [], ◌∷◌, map, filter, length, get_or, All, AllPairs, Contains, IsPermutation, ℤ, pos, ◌+ℤ◌, ◌≤ℤ◌, int_lt, refl, sym, ap, ◌∙◌, subst, arith}
+use Rattle.std.proofs.Common.{◌≡◌, ◌≢◌, ◌⊎◌, inl, inr, ℕ, zero, suc, ◌+◌, ◌<◌, Bool, true, cond, List, [], ◌∷◌, map, filter, length, get_or, All, AllPairs, Contains, IsPermutation, ℤ, pos, ◌+ℤ◌, ◌≤ℤ◌, int_lt, refl, sym, ap, ◌∙◌, subst, arith}
 use Rattle.std.specs.Prelude.{Option, Some, None}
 use Rattle.std.specs.Ordering.{is_eq}
 use Rattle.std.specs.declared.cmp.Ordering.{Ordering}
@@ -18,9 +18,9 @@ use Rattle.plane_base.proofs.Facts.Points.Orders.{edge_equal}
 use Rattle.segment_arrangement.proofs.Facts.ColumnPlaces.{lt_tells}
 use Rattle.segment_arrangement.proofs.Facts.ConstantSides.{Contains-map}
 use Rattle.segment_arrangement.proofs.Facts.GreatestEntry.{Contains-head, Contains-later}
-use Rattle.contour_walk.specs.Walks.{Contour, same_point, contour_edges}
+use Rattle.contour_walk.specs.Walks.{Contour, contour_edges}
 use Rattle.contour_walk.specs.WalkLaws.{contour_steps}
-use Rattle.contour_walk.specs.Binding.{Owned, least_point, lower, lowest_from, anchor, way_down, contour_at}
+use Rattle.contour_walk.specs.Binding.{Owned, least_point, lowest_from, anchor, way_down, contour_at}
 use Rattle.contour_walk.specs.BindingLaws.{AreApart}
 use Rattle.contour_walk.specs.ShapeViews.{contour_below, ContoursAreWithin, OwnedAreWithin}
 use Rattle.contour_walk.specs.BinderOwners.{AreBelow}

@@ -1,5 +1,5 @@
 -- The contours of shapes can be bound, where all contours together pass each link of a boundary once.
-use Rattle.std.proofs.Common.{◌≡◌, ◌≢◌, ℕ, zero, suc, Bool, true, false, not, cond, List, [], ◌∷◌, ◌++◌, map, filter, flat_map, length, get_or, All, AllPairs, Contains, IsPermutation, ℤ, pos, ◌+ℤ◌, ◌≤ℤ◌, ◌<◌, inl, refl, sym, ap, ap₂, ◌∙◌, subst, arith}
+use Rattle.std.proofs.Common.{◌≡◌, ◌≢◌, ℕ, zero, suc, Bool, true, false, not, cond, List, [], ◌∷◌, ◌++◌, map, filter, flat_map, get_or, All, AllPairs, Contains, IsPermutation, ℤ, pos, ◌+ℤ◌, ◌≤ℤ◌, inl, refl, sym, ap, ap₂, ◌∙◌, subst, arith}
 use Rattle.std.proofs.lemmas.Int.{ints}
 use Rattle.std.proofs.lemmas.List.{map-append}
 use Rattle.std.proofs.lemmas.List.Elements.{All-nil, All-cons, All-head, All-tail, All-map, All-weaker, All-append, All-filter, All-contains, All-contains_itself, Contains-append_left, Contains-append_right}

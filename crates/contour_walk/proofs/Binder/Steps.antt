@@ -1,11 +1,11 @@
 -- The sides of edges told by the steps of contours: a walk has the region on one hand.
 use Rattle.std.proofs.Common.{◌≡◌, ℕ, zero, suc, ◌+◌, ◌<◌, ◌≤◌, length, drop, get_or, Bool, true, false, not, cond, List, [], ◌∷◌, ◌++◌, append_assoc, map, filter, flat_map, Contains, refl, sym, ap, ap₂, ◌∙◌, subst, arith}
 use Rattle.std.proofs.Math.ListN.{drop_of_length-le}
-use Rattle.std.proofs.lemmas.List.{drop-map, length-map}
+use Rattle.std.proofs.lemmas.List.{length-map}
 use Rattle.std.proofs.lemmas.List.Elements.{filter-append}
 use Rattle.std.proofs.lemmas.List.Sorted.{IsPermutation-sym, Contains-permutation}
 use Rattle.plane_base.specs.Plane.{Point, Edge, is_before}
-use Rattle.plane_base.proofs.Facts.Lists.Views.{drop-mapped}
+use Rattle.plane_base.proofs.Facts.Lists.Views.{drop-mapped, drop_at}
 use Rattle.contour_walk.specs.ShapeViews.{next_of}
 use Rattle.plane_base.specs.Counts.{Count, Entry}
 use Rattle.plane_base.specs.Regions.{FillRule, OverlayRule}
@@ -99,15 +99,15 @@ steps_to_more first p [] = refl
 steps_to_more first p (r ∷ rest) = refl
 
 -- one step more
-pub steps_left_more : {X : Type 0} (f : X → Point) (xs : List X) (i : ℕ) (x : X) (after : Point) → i < length xs → x ≡ get_or xs i x
-    → ((first : Point) (rest : List Point) → map f xs ≡ first ∷ rest → after ≡ next_of first (map f (drop (i + 1) xs)))
-    → steps_left (map f xs) i ≡ record { a = f x; b = after } ∷ steps_left (map f xs) (i + 1)
-steps_left_more f [] i x after inside at next = absurd (omega arith)
-steps_left_more f (y ∷ ys) i x after inside at next =
-    let rest : List Point = drop (i + 1) (map f (y ∷ ys)) in
-    let there : after ≡ next_of (f y) rest = next (f y) (map f ys) refl ∙ ap (next_of (f y)) (sym (drop-map f (i + 1) (y ∷ ys))) in
-    ap (steps_to (f y)) (drop-mapped f (y ∷ ys) i x inside at)
-    ∙ (steps_to_more (f y) (f x) rest ∙ ap (λ r. record { a = f x; b = r } ∷ steps_to (f y) rest) (sym there))
+pub steps_left_more : (xs : List Point) (i : ℕ) (x after : Point) → i < length xs → x ≡ get_or xs i x
+    → ((first : Point) (rest : List Point) → xs ≡ first ∷ rest → after ≡ next_of first (drop (i + 1) xs))
+    → steps_left xs i ≡ record { a = x; b = after } ∷ steps_left xs (i + 1)
+steps_left_more [] i x after inside at next = absurd (omega arith)
+steps_left_more (y ∷ ys) i x after inside at next =
+    let rest : List Point = drop (i + 1) (y ∷ ys) in
+    let there : after ≡ next_of y rest = next y ys refl in
+    ap (steps_to y) (drop_at (y ∷ ys) i x inside at)
+    ∙ (steps_to_more y x rest ∙ ap (λ r. record { a = x; b = r } ∷ steps_to y rest) (sym there))
 
 -- none is left at the end
 pub no_steps_left : (ps : List Point) (i : ℕ) → length ps ≤ i → steps_left ps i ≡ []

@@ -1,7 +1,7 @@
 -- From edge to edge of the sweep that binds holes: what the collection of live edges holds, and what it answers.
 use Rattle.std.proofs.Common.{◌≡◌, ◌≢◌, ℕ, zero, suc, ◌+◌, ◌≤◌, ◌<◌, ◌==◌, ◌⊎◌, inl, inr, ℤ, ◌≤ℤ◌, ◌<ℤ◌, int_lt, Bool, true, false, cond, List, [], ◌∷◌, ◌++◌, map, length, take, drop, get_or, All, Contains, refl, sym, ap, ap₂, subst, ◌∙◌, arith}
 use Rattle.std.specs.Prelude.{Option, Some, None}
-use Rattle.std.specs.Ordering.{int_cmp, is_lt, is_gt}
+use Rattle.std.specs.Ordering.{int_cmp, is_gt}
 use Rattle.std.specs.declared.cmp.Ordering.{Ordering}
 use Rattle.std.specs.declared.cmp.Ordering.TheVariants.{Less, Equal, Greater}
 use Rattle.std.proofs.Math.ListN.{set}
@@ -22,7 +22,6 @@ use Rattle.plane_base.proofs.Facts.Points.Orders.{int_less, int_equal}
 use Rattle.plane_base.proofs.Facts.Crossings.Parted.{parted_swapped}
 use Rattle.segment_arrangement.specs.Columns.{is_live as reaches_over}
 use Rattle.segment_arrangement.proofs.Facts.ColumnPlaces.{lt_tells, lt_tells_not, lt_holds, live_tells, live_holds}
-use Rattle.segment_arrangement.proofs.Facts.EndsAlong.{precedes_itself}
 use Rattle.segment_arrangement.proofs.Facts.LiveLists.{Contains-filter, differ_if}
 use Rattle.contour_walk.specs.Binding.{Owned, is_under, way_down}
 use Rattle.contour_walk.specs.BindingLaws.{AreApart, is_wanted}

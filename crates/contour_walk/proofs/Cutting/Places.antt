@@ -1,11 +1,10 @@
 -- The places of points that are kept, and the map that knows them.
-use Rattle.std.proofs.Common.{◌≡◌, ℕ, zero, suc, ◌+◌, ◌<◌, Bool, true, false, cond, List, [], ◌∷◌, ◌++◌, length, map, filter}
+use Rattle.std.proofs.Common.{◌≡◌, ℕ, zero, suc, ◌+◌, ◌<◌, Bool, true, false, cond, List, [], ◌∷◌, ◌++◌, length, filter}
 use Rattle.std.proofs.Common.{take, drop, get_or, Option, Some, None, ◌⊎◌, inl, inr}
 use Rattle.std.proofs.Common.{refl, sym, ap, ◌∙◌, subst, append_assoc, arith}
 use Rattle.std.specs.declared.cmp.Ordering.{Ordering}
 use Rattle.std.specs.Ordering.{is_eq}
 use Rattle.std.specs.BTreeMap.{BTreeMap, get, get_by}
-use Rattle.std.proofs.lemmas.List.{length-map, get_or-map, map-append, take-map, drop-map}
 use Rattle.plane_base.specs.Plane.{Point, point_order}
 use Rattle.contour_walk.specs.Walks.{same_point}
 use Rattle.contour_walk.specs.Loops.{one_later, place_of, loops_from, is_long}
@@ -81,69 +80,55 @@ same_point_back p r s = same_point_itself r p (sym (same_point_is p r s))
 
 -- ---- the map
 
-module _ {K : Type 0} (view : K → Point) where
-  pub none_known : (m : BTreeMap K ℕ) → AreKnown view m []
-  none_known m q i e = absurd (cc)
+pub none_known : (m : BTreeMap Point ℕ) → AreKnown m []
+none_known m q i e = absurd (cc)
 
-  pub known_taken : (m : BTreeMap K ℕ) (kept : List K) (n : ℕ) → AreKnown view m kept → AreKnown view m (take n kept)
-  known_taken m kept n known q i e =
-      known q i (place_taken (view q) (map view kept) n i (subst (λ rs. place_of (view q) rs ≡ Some i) (sym (take-map view n kept)) e))
+pub known_taken : (m : BTreeMap Point ℕ) (kept : List Point) (n : ℕ) → AreKnown m kept → AreKnown m (take n kept)
+known_taken m kept n known q i e = known q i (place_taken q kept n i e)
 
-  pub kept_within : (kept : List K) (k : K) (i : ℕ) → place_of (view k) (map view kept) ≡ Some i → i < length kept
-  kept_within kept k i e = let h = place_within (view k) (map view kept) i e in omega (arith, length-map kept view)
+-- what the map tells is right where the point stands there, and wrong where it doesn't
+pub told : (m : BTreeMap Point ℕ) (kept : List Point) (k : Point) (i : ℕ) (d : Point) → AreKnown m kept → get_by (λ q. point_order k q) m ≡ Some i
+    → i < length kept → same_point (get_or kept i d) k ≡ true → Some i ≡ place_of k kept
+told m kept k i d known got inside s = by (place_of k kept) refl
+  where
+    by : (o : Option ℕ) → place_of k kept ≡ o → Some i ≡ o
+    by None e = absurd (place_none k kept i d inside (same_point_back (get_or kept i d) k s) e)
+    by (Some j) e = sym got ∙ known k j e
 
-  -- what the map tells is right where the point stands there, and wrong where it doesn't
-  pub told : (m : BTreeMap K ℕ) (kept : List K) (k : K) (i : ℕ) (d : K) → AreKnown view m kept → get_by (λ q. point_order (view k) (view q)) m ≡ Some i
-      → i < length kept → same_point (view (get_or kept i d)) (view k) ≡ true → Some i ≡ place_of (view k) (map view kept)
-  told m kept k i d known got inside s = by (place_of (view k) (map view kept)) refl
+pub not_told : (m : BTreeMap Point ℕ) (kept : List Point) (k : Point) (i : ℕ) → AreKnown m kept → get_by (λ q. point_order k q) m ≡ Some i
+    → (i < length kept → (d : Point) → same_point (get_or kept i d) k ≡ true → ⊥) → None ≡ place_of k kept
+not_told m kept k i known got apart = by (place_of k kept) refl
+  where
+    by : (o : Option ℕ) → place_of k kept ≡ o → None ≡ o
+    by None e = refl
+    by (Some j) e =
+        let z : i ≡ j = let h = sym got ∙ known k j e in cc in
+        let inside : i < length kept = let h = place_within k kept j e in omega (arith, z) in
+        let s = place_same k kept j k e in
+        absurd (apart inside k (same_point_back k (get_or kept i k)
+        (subst (λ n. same_point k (get_or kept n k) ≡ true) (sym z) s)))
+
+-- the map after a point that isn't kept was given the next place
+module _ (cmp : Point → Point → Ordering) (by_values : (a b : Point) → cmp a b ≡ point_order a b) where
+  pub found_by : (m : BTreeMap Point ℕ) (k : Point) → get cmp m k ≡ get_by (λ q. point_order k q) m
+  found_by m k = ap (λ f. get_by f m) (λ i q. by_values k q i)
+
+  pub known_kept : (old new : BTreeMap Point ℕ) (kept : List Point) (k : Point) (n : ℕ) → ((q : Point) → get cmp new q ≡ cond (is_eq (cmp k q)) (Some n) (get cmp old q))
+      → n ≡ length kept → place_of k kept ≡ None → AreKnown old kept → AreKnown new (kept ++ k ∷ [])
+  known_kept old new kept k n updates len none known q i e =
+      sym (found_by new q)
+      ∙ (updates q
+      ∙ (ap (λ o. cond (is_eq o) (Some n) (get cmp old q)) (by_values k q)
+      ∙ by (place_pushed q k kept i e)))
     where
-      at : get_or (map view kept) i (view d) ≡ view (get_or kept i d)
-      at = get_or-map view kept i d (view d) inside
+      apart : place_of q kept ≡ Some i → (b : Bool) → same_point k q ≡ b → cond b (Some n) (get cmp old q) ≡ Some i
+      apart h true s =
+          absurd (let z : place_of k kept ≡ Some i = ap (λ p. place_of p kept) (same_point_is k q s) ∙ h in cc)
+      apart h false s = found_by old q ∙ known q i h
 
-      by : (o : Option ℕ) → place_of (view k) (map view kept) ≡ o → Some i ≡ o
-      by None e =
-          absurd (place_none (view k) (map view kept) i (view d) (omega (arith, length-map kept view))
-          (ap (same_point (view k)) at ∙ same_point_back (view (get_or kept i d)) (view k) s) e)
-      by (Some j) e = sym got ∙ known k j e
-
-  pub not_told : (m : BTreeMap K ℕ) (kept : List K) (k : K) (i : ℕ) → AreKnown view m kept → get_by (λ q. point_order (view k) (view q)) m ≡ Some i
-      → (i < length kept → (d : K) → same_point (view (get_or kept i d)) (view k) ≡ true → ⊥) → None ≡ place_of (view k) (map view kept)
-  not_told m kept k i known got apart = by (place_of (view k) (map view kept)) refl
-    where
-      by : (o : Option ℕ) → place_of (view k) (map view kept) ≡ o → None ≡ o
-      by None e = refl
-      by (Some j) e =
-          let z : i ≡ j = let h = sym got ∙ known k j e in cc in
-          let inside : i < length kept = let h = place_within (view k) (map view kept) j e in omega (arith, length-map kept view) in
-          let s = place_same (view k) (map view kept) j (view k) e in
-          absurd (apart inside k (same_point_back (view k) (view (get_or kept i k))
-          (subst (λ p. same_point (view k) p ≡ true) (ap (λ n. get_or (map view kept) n (view k)) (sym z) ∙ get_or-map view kept i k (view k) inside) s)))
-
-  -- the map after a point that isn't kept was given the next place
-  module _ (cmp : K → K → Ordering) (by_values : (a b : K) → cmp a b ≡ point_order (view a) (view b)) where
-    pub found_by : (m : BTreeMap K ℕ) (k : K) → get cmp m k ≡ get_by (λ q. point_order (view k) (view q)) m
-    found_by m k = ap (λ f. get_by f m) (λ i q. by_values k q i)
-
-    pub known_kept : (old new : BTreeMap K ℕ) (kept : List K) (k : K) (n : ℕ) → ((q : K) → get cmp new q ≡ cond (is_eq (cmp k q)) (Some n) (get cmp old q))
-        → n ≡ length kept → place_of (view k) (map view kept) ≡ None → AreKnown view old kept → AreKnown view new (kept ++ k ∷ [])
-    known_kept old new kept k n updates len none known q i e =
-        sym (found_by new q)
-        ∙ (updates q
-        ∙ (ap (λ o. cond (is_eq o) (Some n) (get cmp old q)) (by_values k q)
-        ∙ by (place_pushed (view q) (view k) (map view kept) i (subst (λ rs. place_of (view q) rs ≡ Some i) (map-append view kept (k ∷ [])) e))))
-      where
-        apart : place_of (view q) (map view kept) ≡ Some i → (b : Bool) → same_point (view k) (view q) ≡ b → cond b (Some n) (get cmp old q) ≡ Some i
-        apart h true s =
-            absurd (let z : place_of (view k) (map view kept) ≡ Some i = ap (λ p. place_of p (map view kept)) (same_point_is (view k) (view q) s) ∙ h in cc)
-        apart h false s = found_by old q ∙ known q i h
-
-        by : (place_of (view q) (map view kept) ≡ Some i) ⊎ ((i ≡ length (map view kept)) × (same_point (view q) (view k) ≡ true))
-            → cond (same_point (view k) (view q)) (Some n) (get cmp old q) ≡ Some i
-        by (inl h) = apart h (same_point (view k) (view q)) refl
-        by (inr h) =
-            let last : i ≡ length (map view kept) = h.0 in
-            let z : n ≡ i = omega (arith, length-map kept view) in
-            ap (λ b. cond b (Some n) (get cmp old q)) (same_point_back (view q) (view k) h.1) ∙ ap Some z
+      by : (place_of q kept ≡ Some i) ⊎ ((i ≡ length kept) × (same_point q k ≡ true)) → cond (same_point k q) (Some n) (get cmp old q) ≡ Some i
+      by (inl h) = apart h (same_point k q) refl
+      by (inr h) = ap (λ b. cond b (Some n) (get cmp old q)) (same_point_back q k h.1) ∙ ap Some (len ∙ sym h.0)
 
 -- ---- going on
 
@@ -161,27 +146,19 @@ one_filtered test x xs = by (test x)
     by true = refl
     by false = refl
 
-module _ {K : Type 0} (view : K → Point) (least : ℕ) where
-  pub kept_goes_on : (kept later : List K) (k : K) (rest : List Point) → later ≡ kept ++ k ∷ [] → place_of (view k) (map view kept) ≡ None
-      → long_from least (map view later) rest ≡ long_from least (map view kept) (view k ∷ rest)
+module _ (least : ℕ) where
+  pub kept_goes_on : (kept later : List Point) (k : Point) (rest : List Point) → later ≡ kept ++ k ∷ [] → place_of k kept ≡ None
+      → long_from least later rest ≡ long_from least kept (k ∷ rest)
   kept_goes_on kept later k rest is none =
-      ap (λ ps. long_from least ps rest) (ap (map view) is ∙ map-append view kept (k ∷ [])) ∙ ap (filter (is_long least)) (sym (goes_on
-      (map view kept) (view k) rest none))
+      ap (λ ps. long_from least ps rest) is ∙ ap (filter (is_long least)) (sym (goes_on kept k rest none))
 
-  pub cut_goes_on : (old new : List (List Point)) (points kept later : List K) (k : K) (i : ℕ) (rest : List Point)
-      → new ≡ old ++ filter (is_long least) (map view points ∷ []) → points ≡ drop (i + 1) kept ++ k ∷ [] → later ≡ take (i + 1) kept
-      → place_of (view k) (map view kept) ≡ Some i
-      → new ++ long_from least (map view later) rest ≡ old ++ long_from least (map view kept) (view k ∷ rest)
+  pub cut_goes_on : (old new : List (List Point)) (points kept later : List Point) (k : Point) (i : ℕ) (rest : List Point)
+      → new ≡ old ++ filter (is_long least) (points ∷ []) → points ≡ drop (i + 1) kept ++ k ∷ [] → later ≡ take (i + 1) kept
+      → place_of k kept ≡ Some i
+      → new ++ long_from least later rest ≡ old ++ long_from least kept (k ∷ rest)
   cut_goes_on old new points kept later k i rest grown is left at =
-      ap (λ ls. ls ++ long_from least (map view later) rest) grown
-      ∙ (append_assoc old (filter (is_long least) (map view points ∷ [])) (long_from least (map view later) rest)
-      ∙ ap (λ ls. old ++ ls) (sym (one_filtered (is_long least) (map view points) (loops_from (map view later) rest))
-      ∙ ap (filter (is_long least)) (ap (λ ps. ps ∷ loops_from (map view later) rest) cut ∙ (ap (λ ps. (drop (i + 1)
-      (map view kept) ++ view k ∷ []) ∷ loops_from ps rest) stays
-      ∙ sym (cuts_out (map view kept) (view k) rest i at)))))
-    where
-      cut : map view points ≡ drop (i + 1) (map view kept) ++ view k ∷ []
-      cut = ap (map view) is ∙ (map-append view (drop (i + 1) kept) (k ∷ []) ∙ ap (λ ps. ps ++ view k ∷ []) (sym (drop-map view (i + 1) kept)))
-
-      stays : map view later ≡ take (i + 1) (map view kept)
-      stays = ap (map view) left ∙ sym (take-map view (i + 1) kept)
+      ap (λ ls. ls ++ long_from least later rest) grown
+      ∙ (append_assoc old (filter (is_long least) (points ∷ [])) (long_from least later rest)
+      ∙ ap (λ ls. old ++ ls) (sym (one_filtered (is_long least) points (loops_from later rest))
+      ∙ ap (filter (is_long least)) (ap (λ ps. ps ∷ loops_from later rest) is ∙ (ap (λ ps. (drop (i + 1) kept ++ k ∷ []) ∷ loops_from ps rest) left
+      ∙ sym (cuts_out kept k rest i at)))))

@@ -1,7 +1,7 @@
 -- Groups in boxes that share no point are answered as if each were alone.
-use Rattle.std.proofs.Common.{◌≡◌, ℕ, zero, suc, ◌<◌, ◌≤◌, ℤ, ◌<ℤ◌, Bool, true, false, ◌&&◌, cond, List, [], ◌∷◌, map, filter, flat_map, length, All, Contains, ◌⊎◌, inl, inr, IsPermutation, refl, sym, ap, ◌∙◌, subst, arith}
+use Rattle.std.proofs.Common.{◌≡◌, ℕ, zero, ◌<◌, ◌≤◌, ◌<ℤ◌, Bool, true, false, ◌&&◌, List, [], ◌∷◌, map, filter, flat_map, length, All, Contains, ◌⊎◌, inl, inr, refl, sym, ap, ◌∙◌, subst, arith}
 use Rattle.std.specs.Prelude.{Any, Some}
-use Rattle.std.proofs.lemmas.Bool.{false≢true, and_parts}
+use Rattle.std.proofs.lemmas.Bool.{and_parts}
 use Rattle.std.proofs.lemmas.List.Elements.{All-contains}
 use Rattle.std.proofs.lemmas.List.Sorted.{IsPermutation-sym, Contains-permutation}
 use Rattle.plane_base.specs.Plane.{Point, Edge}
@@ -10,7 +10,7 @@ use Rattle.plane_base.specs.Regions.{FillRule, OverlayRule, region}
 use Rattle.plane_base.specs.Segments.{precedes}
 use Rattle.segment_split.specs.Groups.{Bounds, lies_within, in_box, AreApart, AreGroups, part}
 use Rattle.segment_split.proofs.Facts.Groups.Boxes.{within_told, one_or_apart}
-use Rattle.segment_arrangement.specs.EdgeSides.{upper_side, is_boundary, boundary}
+use Rattle.segment_arrangement.specs.EdgeSides.{is_boundary, boundary}
 use Rattle.segment_arrangement.specs.GroupSides.{IsFilledAlone, GroupsFillAlone}
 use Rattle.segment_arrangement.specs.SideLaws.{IsArrangement}
 use Rattle.contour_walk.specs.Walks.{Border, Contour, between, contour_edges}
@@ -20,7 +20,7 @@ use Rattle.contour_walk.specs.BinderOwners.{RunAlong}
 use Rattle.contour_walk.specs.Shapes.{finished, without_straight, holes_from, shapes_from}
 use Rattle.contour_walk.specs.Parted.{contours_for}
 use Rattle.contour_walk.specs.Answering.{Answering, answer_with}
-use Rattle.contour_walk.specs.GroupLaws.{all_in, IsUnion, GroupsAreWalkedAlone, shape_in, IsAnsweredAlone, GroupsAreAnsweredAlone}
+use Rattle.contour_walk.specs.GroupLaws.{GroupsAreWalkedAlone, shape_in, GroupsAreAnsweredAlone}
 use Rattle.contour_walk.proofs.AnswerWindLaws.{all_answered}
 use Rattle.contour_walk.proofs.Binder.Laws.{Binds, runs_bind}
 use Rattle.contour_walk.proofs.Facts.Binding.Lists.{flat_holds}

@@ -1,7 +1,7 @@
 -- The contours of a group, parted or not, are those of its links alone.
-use Rattle.std.proofs.Common.{◌≡◌, ℕ, zero, suc, ◌+◌, ◌<◌, ◌≤◌, Bool, true, false, not, ◌||◌, cond, List, [], ◌∷◌, ◌++◌, map, filter, flat_map, length, take, drop, All, Option, Some, None, ◌⊎◌, inl, inr, IsPermutation, int_lt, pos, refl, sym, ap, ap₂, ◌∙◌, subst, append-nil, arith}
+use Rattle.std.proofs.Common.{◌≡◌, ℕ, zero, suc, ◌+◌, ◌<◌, Bool, true, false, not, ◌||◌, cond, List, [], ◌∷◌, ◌++◌, map, filter, flat_map, length, take, drop, All, Option, Some, None, inl, inr, IsPermutation, int_lt, pos, refl, sym, ap, ap₂, ◌∙◌, subst, append-nil, arith}
 use Rattle.std.proofs.lemmas.Bool.{false≢true}
-use Rattle.std.proofs.lemmas.List.Elements.{All-take, All-drop, All-contains}
+use Rattle.std.proofs.lemmas.List.Elements.{All-take, All-drop}
 use Rattle.std.proofs.lemmas.List.Sorted.{All-permutation, length_permutation}
 use Rattle.plane_base.specs.Plane.{Point, Edge, turn}
 use Rattle.contour_walk.specs.Walks.{Border, Contour, same_point, same_edge, between, is_same, walk_from, contour_from, contour_edges, is_one_of, top_link, left_by, walks_within, walks}
@@ -12,8 +12,8 @@ use Rattle.contour_walk.specs.Parted.{region_walks_within, region_walks, is_hole
 use Rattle.contour_walk.specs.GroupLaws.{all_in}
 use Rattle.contour_walk.proofs.Facts.Walks.Turns.{Has}
 use Rattle.contour_walk.proofs.Facts.Walks.Rings.{Each, each_has, each_weaker, each_append, each_from_has}
-use Rattle.contour_walk.proofs.Walks.Links.{same_point_is, same_edge_is, same_edge_itself, filter_from, Joins, joins_between, Directed}
-use Rattle.contour_walk.proofs.Walks.Members.{each_from_all, all_from_each, has_map_from, has_permutation, contains_from_has, has_from_contains}
+use Rattle.contour_walk.proofs.Walks.Links.{same_edge_is, same_edge_itself, filter_from, Joins, joins_between, Directed}
+use Rattle.contour_walk.proofs.Walks.Members.{each_from_all, all_from_each, has_map_from}
 use Rattle.contour_walk.proofs.Parting.Parts.{begun_part}
 use Rattle.contour_walk.proofs.Parting.Regions.{IsSome, all_loops_some}
 use Rattle.contour_walk.proofs.Parting.Order.{by_least_moves, by_least_kept}

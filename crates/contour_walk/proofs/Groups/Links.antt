@@ -1,13 +1,12 @@
 -- Links of a group and of others, with no point in common: a walk from a point of the group sees those of the group alone.
-use Rattle.std.proofs.Common.{◌≡◌, ℕ, zero, suc, ◌<◌, ◌≤◌, Bool, true, false, not, ◌&&◌, ◌||◌, cond, List, [], ◌∷◌, map, filter, length, Option, Some, None, ◌⊎◌, inl, inr, refl, sym, ap, ap₂, ◌∙◌, subst, arith}
-use Rattle.std.proofs.lemmas.Bool.{false≢true}
+use Rattle.std.proofs.Common.{◌≡◌, ℕ, zero, suc, ◌<◌, Bool, true, false, not, ◌||◌, cond, List, [], ◌∷◌, map, filter, length, Option, Some, None, inl, inr, refl, sym, ap, ◌∙◌, subst, arith}
 use Rattle.plane_base.specs.Plane.{Point, Edge}
 use Rattle.contour_walk.specs.Turning.{first_by_turn, met_first, is_met_before}
-use Rattle.contour_walk.specs.Walks.{Border, same_point, same_edge, between, touches, far_end, without, next_point, walked, walk_from, upper, top_link, path_edges, contour_edges, is_one_of, left_by}
+use Rattle.contour_walk.specs.Walks.{Border, same_point, same_edge, between, touches, far_end, without, next_point, walked, walk_from}
 use Rattle.contour_walk.proofs.Facts.Walks.Turns.{Has}
-use Rattle.contour_walk.proofs.Facts.Walks.Rings.{Each, each_has, each_weaker}
-use Rattle.contour_walk.proofs.Walks.Links.{same_point_is, same_edge_is, same_edge_itself, kept_from, filter_has, each_filter, Directed, Joins, joins_between}
-use Rattle.contour_walk.proofs.Groups.Lists.{kept, filter_swap, filter_within, filter_short, filter_shorter}
+use Rattle.contour_walk.proofs.Facts.Walks.Rings.{Each, each_has}
+use Rattle.contour_walk.proofs.Walks.Links.{same_point_is, same_edge_itself, kept_from, filter_has, each_filter, Directed, Joins, joins_between}
+use Rattle.contour_walk.proofs.Groups.Lists.{filter_swap, filter_within, filter_short, filter_shorter}
 
 -- ---- links at a point
 

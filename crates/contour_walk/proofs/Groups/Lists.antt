@@ -1,9 +1,8 @@
 -- Filters of lists: in any order, of what another filter keeps, and of lists that are mapped or joined.
-use Rattle.std.proofs.Common.{◌≡◌, ℕ, zero, suc, ◌<◌, ◌≤◌, Bool, true, false, cond, List, [], ◌∷◌, ◌++◌, map, filter, flat_map, length, inl, inr, refl, sym, ap, ap₂, ◌∙◌, subst, arith}
+use Rattle.std.proofs.Common.{◌≡◌, ◌<◌, ◌≤◌, Bool, true, false, cond, List, [], ◌∷◌, ◌++◌, map, filter, flat_map, length, inl, inr, refl, sym, ap, ap₂, ◌∙◌, subst, arith}
 use Rattle.std.proofs.lemmas.Bool.{false≢true}
 use Rattle.std.proofs.lemmas.List.Elements.{filter-append}
 use Rattle.contour_walk.proofs.Facts.Walks.Turns.{Has}
-use Rattle.contour_walk.proofs.Facts.Walks.Rings.{Each}
 
 module _ {A : Type 0} where
   abbrev pub kept : Bool → A → List A → List A

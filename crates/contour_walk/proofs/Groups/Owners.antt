@@ -1,15 +1,14 @@
 -- The way down from a hole of a group meets the same edge in the whole and in the group, so the hole has the same owner.
-use Rattle.std.proofs.Common.{◌≡◌, ◌≢◌, ℕ, zero, suc, ◌+◌, ◌<◌, ◌≤◌, ℤ, ◌<ℤ◌, Bool, true, false, not, ◌&&◌, cond, List, [], ◌∷◌, ◌++◌, map, filter, length, Contains, ◌⊎◌, inl, inr, refl, sym, ap, ◌∙◌, subst, arith}
-use Rattle.std.specs.Prelude.{Option, Some, None}
+use Rattle.std.proofs.Common.{◌≡◌, ◌≢◌, ℕ, zero, suc, ◌+◌, ◌≤◌, ◌<ℤ◌, Bool, true, false, ◌&&◌, cond, List, [], ◌∷◌, map, filter, Contains, inl, inr, refl, sym, ap, ◌∙◌, subst, arith}
+use Rattle.std.specs.Prelude.{Some}
 use Rattle.std.proofs.lemmas.Bool.{and_parts}
 use Rattle.std.proofs.lemmas.List.Elements.{All-contains, Contains-append_left, Contains-append_right}
 use Rattle.plane_base.specs.Plane.{Point, Edge}
 use Rattle.plane_base.specs.Segments.{precedes}
 use Rattle.segment_arrangement.proofs.Facts.ConstantSides.{Contains-map}
 use Rattle.contour_walk.specs.Walks.{Border, Contour, contour_edges}
-use Rattle.contour_walk.specs.WalkLaws.{borders}
 use Rattle.contour_walk.specs.Binding.{Owned, anchor, is_above, owned_from, is_under, way_down, contour_at, hole_owner}
-use Rattle.contour_walk.specs.BindingLaws.{PassOnce, AnchorsTell, HaveAnchors, AreApart, is_wanted, IsLastWanted, HolesAreOwned}
+use Rattle.contour_walk.specs.BindingLaws.{PassOnce, AnchorsTell, HaveAnchors, AreApart, is_wanted, IsLastWanted}
 use Rattle.contour_walk.specs.BinderOwners.{IsBoundary, RunAlong}
 use Rattle.contour_walk.proofs.Facts.Walks.Turns.{Has}
 use Rattle.contour_walk.proofs.Facts.Walks.Rings.{Each, each_has}

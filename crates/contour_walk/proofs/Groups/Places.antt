@@ -1,5 +1,5 @@
 -- Edges in boxes that share no point: at a column that both reach over, the edge in the lower box passes below.
-use Rattle.std.proofs.Common.{◌≡◌, ℕ, zero, suc, ◌<◌, ℤ, pos, ◌+ℤ◌, ◌-ℤ◌, ◌*ℤ◌, ◌≤ℤ◌, ◌<ℤ◌, int_lt, Bool, true, false, ◌&&◌, List, [], ◌∷◌, ◌⊎◌, inl, inr, refl, sym, ap, ◌∙◌, subst, arith}
+use Rattle.std.proofs.Common.{◌≡◌, ℤ, pos, ◌+ℤ◌, ◌-ℤ◌, ◌*ℤ◌, ◌≤ℤ◌, ◌<ℤ◌, int_lt, Bool, true, false, ◌&&◌, [], ◌∷◌, ◌⊎◌, inl, inr, refl, ap, ◌∙◌, arith}
 use Rattle.std.specs.Prelude.{int_le}
 use Rattle.std.specs.declared.cmp.Ordering.{Ordering}
 use Rattle.std.specs.declared.cmp.Ordering.TheVariants.{Less, Equal, Greater}
@@ -7,7 +7,7 @@ use Rattle.std.specs.Ordering.{int_cmp, ordering_reverse}
 use Rattle.std.proofs.lemmas.Int.{ints}
 use Rattle.std.proofs.lemmas.Bool.{and_parts}
 use Rattle.plane_base.specs.Plane.{Point, Edge, turn, point_order}
-use Rattle.plane_base.specs.Segments.{column_order, precedes, order_against, angle_order}
+use Rattle.plane_base.specs.Segments.{precedes, order_against, angle_order}
 use Rattle.plane_base.specs.ColumnLaws.{IsLive}
 use Rattle.plane_base.proofs.Facts.Columns.Order.{order_is_lawful}
 use Rattle.plane_base.proofs.Facts.Numbers.Polynomials.{var, plus, minus, times, by_ring}

@@ -1,5 +1,5 @@
 -- The shapes of a group, where its holes are owned within it, are those of its contours alone.
-use Rattle.std.proofs.Common.{◌≡◌, ℕ, zero, suc, ◌+◌, ◌<◌, ◌==◌, Bool, true, false, ◌&&◌, cond, List, [], ◌∷◌, map, filter, length, ◌⊎◌, inl, inr, refl, sym, ap, ap₂, ◌∙◌, subst, arith}
+use Rattle.std.proofs.Common.{◌≡◌, ℕ, zero, suc, ◌+◌, ◌<◌, Bool, true, false, ◌&&◌, cond, List, [], ◌∷◌, map, filter, length, inl, inr, refl, sym, ap, ap₂, ◌∙◌, arith}
 use Rattle.std.specs.Prelude.{Option, Some, None}
 use Rattle.std.specs.Ordering.{int_eq}
 use Rattle.std.proofs.Common.{pos}
@@ -8,12 +8,11 @@ use Rattle.contour_walk.specs.Walks.{Border, Contour}
 use Rattle.contour_walk.specs.Binding.{contour_at, hole_owner}
 use Rattle.contour_walk.specs.Shapes.{corners_after, last_of, without_straight, finished, is_owned_by, holes_from, shapes_from}
 use Rattle.contour_walk.specs.GroupLaws.{all_in}
-use Rattle.contour_walk.proofs.Facts.Walks.Turns.{Has}
 use Rattle.contour_walk.proofs.Facts.Walks.Rings.{Each, each_has}
 use Rattle.contour_walk.proofs.Groups.Lists.{kept, filter_of_map}
 use Rattle.contour_walk.proofs.Groups.Links.{Mine, Other}
 use Rattle.contour_walk.proofs.Groups.Walks.{all_mine, none_mine, IsSided}
-use Rattle.contour_walk.proofs.Groups.Seats.{seat, seat_at, seat_first, seat_next, same_seats, other_place}
+use Rattle.contour_walk.proofs.Groups.Seats.{seat, seat_first, seat_next, same_seats, other_place}
 
 -- ---- what holds of the contours of shapes
 

@@ -1,17 +1,15 @@
 -- All walks of links of a group and of others: those of the group are the walks of its links alone.
-use Rattle.std.proofs.Common.{◌≡◌, ℕ, zero, suc, ◌<◌, ◌≤◌, Bool, true, false, not, ◌&&◌, ◌||◌, cond, List, [], ◌∷◌, map, filter, length, Option, Some, None, ◌⊎◌, inl, inr, refl, sym, ap, ap₂, ◌∙◌, subst, arith}
+use Rattle.std.proofs.Common.{◌≡◌, ℕ, zero, suc, ◌<◌, ◌≤◌, Bool, true, false, not, ◌&&◌, ◌||◌, cond, List, [], ◌∷◌, filter, length, Option, Some, None, ◌⊎◌, inl, inr, refl, sym, ap, ap₂, ◌∙◌, subst, arith}
 use Rattle.std.proofs.lemmas.Bool.{false≢true, and_parts}
 use Rattle.plane_base.specs.Plane.{Point, Edge, is_before}
-use Rattle.contour_walk.specs.Walks.{Border, Contour, same_point, same_edge, between, is_same, walk_from, contour_from, upper, top_link, path_edges, contour_edges, is_one_of, left_by, walks_within, walks}
-use Rattle.contour_walk.specs.WalkLaws.{step_along, walk_along}
-use Rattle.contour_walk.specs.Parted.{region_walks_within, region_walks}
+use Rattle.contour_walk.specs.Walks.{Border, same_point, same_edge, between, upper, top_link, path_edges, contour_edges, is_one_of, left_by}
 use Rattle.contour_walk.specs.GroupLaws.{all_in}
 use Rattle.contour_walk.proofs.Facts.Walks.Turns.{Has}
-use Rattle.contour_walk.proofs.Facts.Walks.Rings.{Each, each_has, each_weaker}
-use Rattle.contour_walk.proofs.Walks.Links.{same_point_is, same_point_itself, same_edge_is, same_edge_itself, filter_has, Directed, Joins, joins_between}
+use Rattle.contour_walk.proofs.Facts.Walks.Rings.{Each, each_weaker}
+use Rattle.contour_walk.proofs.Walks.Links.{same_point_is, same_point_itself, same_edge_is, filter_has}
 use Rattle.contour_walk.proofs.Walks.Paths.{top_of_links, top_starts}
-use Rattle.contour_walk.proofs.Groups.Lists.{kept, filter_swap, filter_within, filter_short, filter_shorter}
-use Rattle.contour_walk.proofs.Groups.Links.{Mine, Other, Together, own, part, AreGrouped, kept_grouped, walk_begins, walk_in, walk_stays}
+use Rattle.contour_walk.proofs.Groups.Lists.{kept, filter_swap, filter_within, filter_shorter}
+use Rattle.contour_walk.proofs.Groups.Links.{Mine, Other, Together, own, part, AreGrouped, kept_grouped}
 
 -- ---- contours of a group, and of others
 

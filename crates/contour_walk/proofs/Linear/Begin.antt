@@ -69,34 +69,34 @@ module _ (fill : FillRule) (es : List (Entry Count)) where
           (pairs_filter (λ e. is_boundary fill rule es e) (λ e f. edge_order e.edge f.edge ≡ Less) es rising))
 
 module _ {I D : Type 0} (value : I → ℤ) (links : List (OverlayLink I D)) where
-  same_edges : (ls : List (OverlayLink I D)) → edges_of (map (overlay_link_of value) ls) ≡ link_edges value ls
+  same_edges : (ls : List (OverlayLink I D)) → edges_of (map overlay_link_of ls) ≡ link_edges ls
   same_edges [] = refl
-  same_edges (l ∷ ls) = ap (λ es. link_edge_of value l ∷ es) (same_edges ls)
+  same_edges (l ∷ ls) = ap (λ es. link_edge_of l ∷ es) (same_edges ls)
 
   -- the links of a graph of an arrangement can be walked along
   pub is_walkable :
-      (least greatest : ℤ) (nodes : List OverlayNode) (fill : FillRule) (rule : OverlayRule) (es : List (Entry Count)) → All (λ l. IsEdgeWithin least greatest (link_edge_of value l)) links
-      → AreNodes (link_edges value links) nodes → AreNumbered value links → IsArrangement es → AreLinksFor fill rule es (map (overlay_link_of value) links)
-      → IsWalkable value least greatest links nodes
+      (least greatest : ℤ) (nodes : List OverlayNode) (fill : FillRule) (rule : OverlayRule) (es : List (Entry Count)) → All (λ l. IsEdgeWithin least greatest (link_edge_of l)) links
+      → AreNodes (link_edges links) nodes → AreNumbered links → IsArrangement es → AreLinksFor fill rule es (map overlay_link_of links)
+      → IsWalkable least greatest links nodes
   is_walkable least greatest nodes fill rule es in_range joined numbers arranged links_for =
-      let rise = subst Rise (same_edges links) (links_rise fill es rule arranged (map (overlay_link_of value) links) links_for) in
+      let rise = subst Rise (same_edges links) (links_rise fill es rule arranged (map overlay_link_of links) links_for) in
       record {
         in_range = in_range;
-        directed = all_from_each (λ s. is_before s.a s.b ≡ true) (link_edges value links) rise.directed;
-        rising = all_pairs_from (λ s t. edge_order s t ≡ Less) (link_edges value links) rise.rising;
+        directed = all_from_each (λ s. is_before s.a s.b ≡ true) (link_edges links) rise.directed;
+        rising = all_pairs_from (λ s t. edge_order s t ≡ Less) (link_edges links) rise.rising;
         joined = joined;
         numbers = numbers;
       }
 
   -- the links of the boundary are left
-  pub boundary_left : (rule : OverlayRule) (ls : List (OverlayLink I D)) → left_of (link_borders value rule ls) (map (λ l. state_of rule l.fill) ls) ≡ borders_of_links rule (map (overlay_link_of value) ls)
+  pub boundary_left : (rule : OverlayRule) (ls : List (OverlayLink I D)) → left_of (link_borders rule ls) (map (λ l. state_of rule l.fill) ls) ≡ borders_of_links rule (map overlay_link_of ls)
   boundary_left rule [] = refl
   boundary_left rule (l ∷ ls) = by (tells_apart rule l.fill) (boundary_left rule ls)
     where
-      by : (b : Bool) → left_of (link_borders value rule ls) (map (λ l. state_of rule l.fill) ls) ≡ borders_of_links rule (map (overlay_link_of value) ls)
-          → cond (is_left (cond b Unvisited Skipped)) (border_of_link rule (overlay_link_of value l) ∷ left_of (link_borders value rule ls) (map (λ l. state_of rule l.fill) ls)) (left_of (link_borders value rule ls) (map (λ l. state_of rule l.fill) ls))
-          ≡ map (border_of_link rule) (cond b (overlay_link_of value l ∷ filter (λ l. tells_apart rule l.fill) (map (overlay_link_of value) ls)) (filter (λ l. tells_apart rule l.fill) (map (overlay_link_of value) ls)))
-      by true h = ap (λ bs. border_of_link rule (overlay_link_of value l) ∷ bs) h
+      by : (b : Bool) → left_of (link_borders rule ls) (map (λ l. state_of rule l.fill) ls) ≡ borders_of_links rule (map overlay_link_of ls)
+          → cond (is_left (cond b Unvisited Skipped)) (border_of_link rule (overlay_link_of l) ∷ left_of (link_borders rule ls) (map (λ l. state_of rule l.fill) ls)) (left_of (link_borders rule ls) (map (λ l. state_of rule l.fill) ls))
+          ≡ map (border_of_link rule) (cond b (overlay_link_of l ∷ filter (λ l. tells_apart rule l.fill) (map overlay_link_of ls)) (filter (λ l. tells_apart rule l.fill) (map overlay_link_of ls)))
+      by true h = ap (λ bs. border_of_link rule (overlay_link_of l) ∷ bs) h
       by false h = h
 
   fewer_kept : (rule : OverlayRule) (ls : List Link) → length (borders_of_links rule ls) ≤ length ls
@@ -110,35 +110,35 @@ module _ {I D : Type 0} (value : I → ℤ) (links : List (OverlayLink I D)) whe
 
   -- where no walk is taken yet
   pub go_on_first :
-      (course : Course) (fill : FillRule) (rule : OverlayRule) (es : List (Entry Count)) → IsArrangement es → AreLinksFor fill rule es (map (overlay_link_of value) links) → (left : List Border)
-      → left ≡ borders_of_links rule (map (overlay_link_of value) links)
-      → GoOn course (length links) (walks_by course (borders_of_links rule (map (overlay_link_of value) links))) [] left
+      (course : Course) (fill : FillRule) (rule : OverlayRule) (es : List (Entry Count)) → IsArrangement es → AreLinksFor fill rule es (map overlay_link_of links) → (left : List Border)
+      → left ≡ borders_of_links rule (map overlay_link_of links)
+      → GoOn course (length links) (walks_by course (borders_of_links rule (map overlay_link_of links))) [] left
   go_on_first course fill rule es arranged links_for left is =
-      let told : borders_of_links rule (map (overlay_link_of value) links) ≡ borders fill rule es = links_tell fills_tell_borders fill rule es (map (overlay_link_of value) links) links_for in
+      let told : borders_of_links rule (map overlay_link_of links) ≡ borders fill rule es = links_tell fills_tell_borders fill rule es (map overlay_link_of links) links_for in
       let bounds : left ≡ borders fill rule es = is ∙ told in
       record {
         steps = length left;
         enough = omega arith;
         is = ap (walks_by course) is;
         are = subst AreLinks (sym bounds) (borders_are_links fill rule es course.output arranged);
-        few = subst (λ ls. length ls ≤ length links) (sym is) (let long = length-map links (overlay_link_of value) in let few = fewer_kept rule (map (overlay_link_of value) links) in omega arith);
+        few = subst (λ ls. length ls ≤ length links) (sym is) (let long = length-map links overlay_link_of in let few = fewer_kept rule (map overlay_link_of links) in omega arith);
         wheels = subst (λ ls. Alternates false (Along course.output ls) (Along course.output ls)) (sym bounds) (borders_alternate fill rule es course.output arranged points_have_rings node_ring);
       }
 
 -- One contour more, where the first link that is left is known.
 module _ {I D : Type 0} (value : I → ℤ) (rule : OverlayRule) (links : List (OverlayLink I D)) where
-  long : length (link_borders value rule links) ≡ length links
-  long = length-map links (λ l. border_of_link rule (overlay_link_of value l))
+  long : length (link_borders rule links) ≡ length links
+  long = length-map links (λ l. border_of_link rule (overlay_link_of l))
 
   pub contour_more :
       (course : Course) (all contours : List Contour) (states states' : List VisitState) (first : ℕ) (contour : Contour) → length states ≡ length links → first < length links → is_left (get_or states first Skipped) ≡ true
-      → ((j : ℕ) → j < first → is_left (get_or states j Skipped) ≡ false) → (h : GoOn course (length links) all contours (left_of (link_borders value rule links) states))
-      → ((d : Border) → (l : Border) × (top_link (get_or (link_borders value rule links) first d).edge.a (left_of (link_borders value rule links) states) ≡ Some l)
-      × (contour ≡ contour_within (length links) course (left_of (link_borders value rule links) states) l)
-      × (left_of (link_borders value rule links) states' ≡ left_by_within (length links) course (left_of (link_borders value rule links) states) l))
-      → OneMore course (length links) all contours (left_of (link_borders value rule links) states) h contour (left_of (link_borders value rule links) states')
+      → ((j : ℕ) → j < first → is_left (get_or states j Skipped) ≡ false) → (h : GoOn course (length links) all contours (left_of (link_borders rule links) states))
+      → ((d : Border) → (l : Border) × (top_link (get_or (link_borders rule links) first d).edge.a (left_of (link_borders rule links) states) ≡ Some l)
+      × (contour ≡ contour_within (length links) course (left_of (link_borders rule links) states) l)
+      × (left_of (link_borders rule links) states' ≡ left_by_within (length links) course (left_of (link_borders rule links) states) l))
+      → OneMore course (length links) all contours (left_of (link_borders rule links) states) h contour (left_of (link_borders rule links) states')
   contour_more course all contours states states' first contour beside inside left passed h told =
-      let borders = link_borders value rule links in
+      let borders = link_borders rule links in
       let d : Border = record { edge = record { a = record { x = pos 0; y = pos 0 }; b = record { x = pos 0; y = pos 0 } }; above = true } in
       let t = told d in
       let begin = first_left borders states first d (omega (arith, long, inside)) (beside ∙ sym long) left passed in
@@ -146,7 +146,7 @@ module _ {I D : Type 0} (value : I → ℤ) (rule : OverlayRule) (links : List (
 
   pub all_contours :
       (course : Course) (all contours : List Contour) (states : List VisitState) (first : ℕ) → length links ≤ first → ((j : ℕ) → j < first → is_left (get_or states j Skipped) ≡ false)
-      → GoOn course (length links) all contours (left_of (link_borders value rule links) states) → contours ≡ all
+      → GoOn course (length links) all contours (left_of (link_borders rule links) states) → contours ≡ all
   all_contours course all contours states first over passed h =
-      all_walked course (length links) all contours (left_of (link_borders value rule links) states) h
-      (none_left (link_borders value rule links) states (λ j m. passed j (omega (arith, long, m, over))))
+      all_walked course (length links) all contours (left_of (link_borders rule links) states) h
+      (none_left (link_borders rule links) states (λ j m. passed j (omega (arith, long, m, over))))

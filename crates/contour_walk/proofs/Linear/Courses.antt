@@ -2,7 +2,7 @@
 use Rattle.std.proofs.Common.{◌≡◌, ℕ, zero, suc, Bool, true, false, not, cond, List, [], ◌∷◌, map, length, Option, Some, None, refl, ap, ◌∙◌}
 use Rattle.plane_base.specs.Plane.{Point}
 use Rattle.contour_walk.specs.Walks.{Border, Contour, walk_from, is_same, contour_from, top_link, left_by, walks_within, walks}
-use Rattle.contour_walk.specs.WalkLaws.{step_along, walk_along}
+use Rattle.contour_walk.specs.WalkLaws.{walk_along}
 use Rattle.contour_walk.specs.LinearWalks.{contour_by, walks_by_within, walks_by}
 use Rattle.contour_walk.specs.Parted.{region_walks_within, region_walks}
 use Rattle.contour_walk.specs.declared.walk.course.Course.{Course}

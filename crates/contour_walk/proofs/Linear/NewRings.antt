@@ -5,7 +5,6 @@ use Rattle.std.proofs.lemmas.Int.{ints}
 use Rattle.std.proofs.lemmas.List.{get_or-map, length-map, get_or_default, map-append, take_more}
 use Rattle.std.proofs.lemmas.List.Sorted.{IsPermutation-sym, Contains-permutation}
 use Rattle.plane_base.specs.Plane.{Point, Edge, turn, is_before, point_order}
-use Rattle.plane_base.specs.Views.{point_of}
 use Rattle.plane_base.proofs.Facts.Numbers.Polynomials.{var, plus, minus, by_ring}
 use Rattle.plane_base.proofs.Facts.Points.Orders.{point_less, before_is_less, point_less_by_x, point_less_by_y}
 use Rattle.plane_base.proofs.Facts.Points.Turns.{Place, place, a_turn, coordinates}
@@ -119,41 +118,41 @@ module _ {I : Type 0} (value : I → ℤ) (v : Point) (edges : List Edge) (state
       subst (λ q. is_before q v ≡ true) (at.other e) (subst (λ q. is_before (get_or edges (get_or ns i d).id e).a q ≡ true) (at.near e) (forward (get_or ns i d).id e at.inside))
 
   abbrev NextToLeft : List (Spoke I) → Type 0
-  NextToLeft ss = (i : ℕ) (d : Spoke I) → i + 1 < length ss → pos 0 <ℤ turn v (point_of value (get_or ss i d).far) (point_of value (get_or ss (i + 1) d).far)
+  NextToLeft ss = (i : ℕ) (d : Spoke I) → i + 1 < length ss → pos 0 <ℤ turn v (get_or ss i d).far (get_or ss (i + 1) d).far
 
   some_spoke : (ss : List (Spoke I)) (i : ℕ) → i < length ss → Spoke I
   some_spoke [] i l = absurd (omega (arith, l))
   some_spoke (s ∷ ss) i l = s
 
-  seen_next : (ss : List (Spoke I)) → NextToLeft ss → (i : ℕ) (d : Numbered) → i + 1 < length (numbered_spokes value ss)
-      → pos 0 <ℤ turn v (get_or (numbered_spokes value ss) i d).point (get_or (numbered_spokes value ss) (i + 1) d).point
+  seen_next : (ss : List (Spoke I)) → NextToLeft ss → (i : ℕ) (d : Numbered) → i + 1 < length (numbered_spokes ss)
+      → pos 0 <ℤ turn v (get_or (numbered_spokes ss) i d).point (get_or (numbered_spokes ss) (i + 1) d).point
   seen_next ss h i d l =
-      let long = length-map ss (λ (s : Spoke I). numbered value s.far s.place) in
+      let long = length-map ss (λ (s : Spoke I). numbered s.far s.place) in
       let next : i + 1 < length ss = omega (arith, l, long) in
       let this : i < length ss = omega (arith, next) in
       let k = some_spoke ss i this in
-      subst (λ (z : Numbered). pos 0 <ℤ turn v z.point (get_or (numbered_spokes value ss) (i + 1) d).point) (sym (get_or-map (λ (s : Spoke I). numbered value s.far s.place) ss i k d this))
-      (subst (λ (z : Numbered). pos 0 <ℤ turn v (point_of value (get_or ss i k).far) z.point) (sym (get_or-map (λ (s : Spoke I). numbered value s.far s.place) ss (i + 1) k d next)) (h i k next))
+      subst (λ (z : Numbered). pos 0 <ℤ turn v z.point (get_or (numbered_spokes ss) (i + 1) d).point) (sym (get_or-map (λ (s : Spoke I). numbered s.far s.place) ss i k d this))
+      (subst (λ (z : Numbered). pos 0 <ℤ turn v (get_or ss i k).far z.point) (sym (get_or-map (λ (s : Spoke I). numbered s.far s.place) ss (i + 1) k d next)) (h i k next))
 
-  starts_to_left : (ss : List (Spoke I)) → IsPermutation (spokes_from 0 true v edges states) (numbered_spokes value ss) → NextToLeft ss → AreToLeft v (numbered_spokes value ss)
+  starts_to_left : (ss : List (Spoke I)) → IsPermutation (spokes_from 0 true v edges states) (numbered_spokes ss) → NextToLeft ss → AreToLeft v (numbered_spokes ss)
   starts_to_left ss p h =
-      rise_far (λ n m. pos 0 <ℤ turn v n.point m.point) (numbered_spokes value ss) (λ n. is_before v n.point ≡ true)
-      (λ n m k a b c. left_through v n.point m.point k.point a b c) (start_lies (numbered_spokes value ss) p) (seen_next ss h)
+      rise_far (λ n m. pos 0 <ℤ turn v n.point m.point) (numbered_spokes ss) (λ n. is_before v n.point ≡ true)
+      (λ n m k a b c. left_through v n.point m.point k.point a b c) (start_lies (numbered_spokes ss) p) (seen_next ss h)
 
-  ends_to_left : (ss : List (Spoke I)) → IsPermutation (spokes_from 0 false v edges states) (numbered_spokes value ss) → NextToLeft ss → AreToLeft v (numbered_spokes value ss)
+  ends_to_left : (ss : List (Spoke I)) → IsPermutation (spokes_from 0 false v edges states) (numbered_spokes ss) → NextToLeft ss → AreToLeft v (numbered_spokes ss)
   ends_to_left ss p h =
-      rise_far (λ n m. pos 0 <ℤ turn v n.point m.point) (numbered_spokes value ss) (λ n. is_before n.point v ≡ true)
-      (λ n m k a b c. left_through_before v n.point m.point k.point a b c) (end_lies (numbered_spokes value ss) p) (seen_next ss h)
+      rise_far (λ n m. pos 0 <ℤ turn v n.point m.point) (numbered_spokes ss) (λ n. is_before n.point v ≡ true)
+      (λ n m k a b c. left_through_before v n.point m.point k.point a b c) (end_lies (numbered_spokes ss) p) (seen_next ss h)
 
   pub round_from :
       (ss starts ends : List (Spoke I)) (n : ℕ) → ss ≡ starts ++ ends → n ≡ length starts
-      → IsPermutation (spokes_from 0 true v edges states) (numbered_spokes value starts) → IsPermutation (spokes_from 0 false v edges states) (numbered_spokes value ends)
-      → NextToLeft starts → NextToLeft ends → AreRound value edges states v ss n
+      → IsPermutation (spokes_from 0 true v edges states) (numbered_spokes starts) → IsPermutation (spokes_from 0 false v edges states) (numbered_spokes ends)
+      → NextToLeft starts → NextToLeft ends → AreRound edges states v ss n
   round_from ss starts ends n parts count all_starts all_ends next_starts next_ends = record {
-    starts = numbered_spokes value starts;
-    ends = numbered_spokes value ends;
-    parts = ap (numbered_spokes value) parts ∙ map-append (λ (s : Spoke I). numbered value s.far s.place) starts ends;
-    as_many = length-map starts (λ (s : Spoke I). numbered value s.far s.place) ∙ sym count;
+    starts = numbered_spokes starts;
+    ends = numbered_spokes ends;
+    parts = ap numbered_spokes parts ∙ map-append (λ (s : Spoke I). numbered s.far s.place) starts ends;
+    as_many = length-map starts (λ (s : Spoke I). numbered s.far s.place) ∙ sym count;
     all_starts = all_starts;
     all_ends = all_ends;
     starts_rise = starts_to_left starts all_starts next_starts;
@@ -162,16 +161,16 @@ module _ {I : Type 0} (value : I → ℤ) (v : Point) (edges : List Edge) (state
 
 module _ {I : Type 0} (value : I → ℤ) (edges : List Edge) (states : List VisitState) (beside : length states ≡ length edges) where
   pub new_ring :
-      (r : Ring I) (v : Point) (ss : List (Spoke I)) (first : ℕ) → point_of value r.center ≡ v → r.spokes.items ≡ ss → r.starts ≡ first → AreRound value edges states v ss first
+      (r : Ring I) (v : Point) (ss : List (Spoke I)) (first : ℕ) → r.center ≡ v → r.spokes.items ≡ ss → r.starts ≡ first → AreRound edges states v ss first
       → length r.ahead.items ≡ length ss → length r.back.items ≡ length ss → ((i : ℕ) → i < length ss → get_or r.ahead.items i 0 ≡ 1 + i)
-      → ((i : ℕ) → i < length ss → get_or r.back.items i 0 ≡ 0 + i) → IsRing value edges states r
+      → ((i : ℕ) → i < length ss → get_or r.back.items i 0 ≡ 0 + i) → IsRing edges states r
   new_ring r v ss first center same starts round ahead_beside back_beside ahead back = record {
     older = states;
     beside = beside;
     since = λ i h. h;
     round =
-        subst (λ p. AreRound value edges states p r.spokes.items r.starts) (sym center)
-        (subst (λ l. AreRound value edges states v l r.starts) (sym same) (subst (AreRound value edges states v ss) (sym starts) round));
+        subst (λ p. AreRound edges states p r.spokes.items r.starts) (sym center)
+        (subst (λ l. AreRound edges states v l r.starts) (sym same) (subst (AreRound edges states v ss) (sym starts) round));
     inside = subst (All (λ (s : Spoke I). s.place < length edges)) (sym same) (λ i d l. let at = stands value edges states v ss first round i d l in (at.1).inside);
     ahead = subst (λ l. LeadAhead (length l) (IsPassed states l) r.ahead.items) (sym same) lead_ahead;
     back = subst (λ l. LeadBack (length l) (IsPassed states l) r.back.items) (sym same) lead_back;

@@ -5,7 +5,6 @@ use Rattle.std.proofs.lemmas.Bool.{cases_order}
 use Rattle.std.proofs.lemmas.List.{get_or_default, get_or_append_left}
 use Rattle.std.proofs.lemmas.List.Sorted.{IsPermutation-sym}
 use Rattle.plane_base.specs.Plane.{Point, Edge, turn, is_before}
-use Rattle.plane_base.specs.Views.{point_of}
 use Rattle.segment_arrangement.specs.declared.graph.VisitState.{VisitState}
 use Rattle.segment_arrangement.specs.declared.graph.VisitState.TheVariants.{Skipped}
 use Rattle.contour_walk.specs.declared.walk.rings.Ring.{Ring}
@@ -28,15 +27,15 @@ module _ {A : Type 0} where
   none_from (x ∷ xs) h = absurd (h x (inl refl))
 
 module _ {I : Type 0} (value : I → ℤ) (edges : List Edge) (states : List VisitState) (beside : length states ≡ length edges) (directed : Each (λ s. is_before s.a s.b ≡ true) edges)
-    (r : Ring I) (ring : IsRing value edges states r) where
+    (r : Ring I) (ring : IsRing edges states r) where
   abbrev v : Point
-  v = point_of value r.center
+  v = r.center
 
   abbrev links : List (Spoke I)
   links = r.spokes.items
 
   abbrev number : Spoke I → Numbered
-  number s = numbered value s.far s.place
+  number s = numbered s.far s.place
 
   abbrev all : List Numbered
   all = ring.round.starts ++ ring.round.ends
@@ -48,7 +47,7 @@ module _ {I : Type 0} (value : I → ℤ) (edges : List Edge) (states : List Vis
   at = seen value edges ring.older v links r.starts ring.round
 
   abbrev far : ℕ → Spoke I → Point
-  far i d = point_of value (get_or links i d).far
+  far i d = (get_or links i d).far
 
   -- ---- which are left
 
@@ -129,7 +128,7 @@ module _ {I : Type 0} (value : I → ℤ) (edges : List Edge) (states : List Vis
 
   -- ---- the next link
 
-  pub next_is : (c : Bool) (a : Point) (from place : ℕ) (d : Spoke I) → IsCameBy value states a r from → IsNextPlace c states links from place → nearest c v a (spokes v edges states) ≡ Some (number (get_or links place d))
+  pub next_is : (c : Bool) (a : Point) (from place : ℕ) (d : Spoke I) → IsCameBy states a r from → IsNextPlace c states links from place → nearest c v a (spokes v edges states) ≡ Some (number (get_or links place d))
   next_is c a from place d came next =
       nearest_is c v a (number (get_or links place d)) (spokes v edges states) (stays (number (get_or links place d)) (here place d next.inside) (next.left d))
       (λ n h. by n (found n h))
@@ -148,7 +147,7 @@ module _ {I : Type 0} (value : I → ℤ) (edges : List Edge) (states : List Vis
   none_next c a passed = ap (nearest c v a) (none_from (spokes v edges states) (λ n h. let p = found n h in never_both states links p.place p.inside (passed p.place p.inside) p.left))
 
   -- what a search in the ring answers
-  pub answered : (c : Bool) (a : Point) (from : ℕ) → IsCameBy value states a r from → (o : Option ℕ)
+  pub answered : (c : Bool) (a : Point) (from : ℕ) → IsCameBy states a r from → (o : Option ℕ)
       → IfSome o (λ link. (place : ℕ) × IsNextPlace c states links from place × ((d : Spoke I) → link ≡ (get_or links place d).place))
       → (o ≡ None → (i : ℕ) → i < length links → IsPassed states links i) → o ≡ id_if_any (nearest c v a (spokes v edges states))
   answered c a from came None some none = ap id_if_any (sym (none_next c a (none refl)))
@@ -201,21 +200,21 @@ module _ {I : Type 0} (value : I → ℤ) (edges : List Edge) (states : List Vis
 
   -- the ring with ways that are longer
   pub ring_kept : (k : Ring I) → k.center ≡ r.center → k.spokes.items ≡ r.spokes.items → k.starts ≡ r.starts
-      → LeadAhead (length r.spokes.items) (IsPassed states r.spokes.items) k.ahead.items → LeadBack (length r.spokes.items) (IsPassed states r.spokes.items) k.back.items → IsRing value edges states k
+      → LeadAhead (length r.spokes.items) (IsPassed states r.spokes.items) k.ahead.items → LeadBack (length r.spokes.items) (IsPassed states r.spokes.items) k.back.items → IsRing edges states k
   ring_kept k center same starts ahead back = record {
     older = ring.older;
     beside = ring.beside;
     since = ring.since;
     round =
-        subst (λ p. AreRound value edges ring.older (point_of value p) k.spokes.items k.starts) (sym center)
-        (subst (λ ss. AreRound value edges ring.older v ss k.starts) (sym same) (subst (AreRound value edges ring.older v links) (sym starts) ring.round));
+        subst (λ p. AreRound edges ring.older p k.spokes.items k.starts) (sym center)
+        (subst (λ ss. AreRound edges ring.older v ss k.starts) (sym same) (subst (AreRound edges ring.older v links) (sym starts) ring.round));
     inside = subst (All (λ (s : Spoke I). s.place < length edges)) (sym same) ring.inside;
     ahead = subst (λ ss. LeadAhead (length ss) (IsPassed states ss) k.ahead.items) (sym same) ahead;
     back = subst (λ ss. LeadBack (length ss) (IsPassed states ss) k.back.items) (sym same) back;
   }
 
   -- the same ring when more links are passed
-  pub ring_stays : (new : List VisitState) → StayPassed states new → IsRing value edges new r
+  pub ring_stays : (new : List VisitState) → StayPassed states new → IsRing edges new r
   ring_stays new stay = record {
     older = ring.older;
     beside = ring.beside;
@@ -235,5 +234,5 @@ module _ {I : Type 0} (value : I → ℤ) (edges : List Edge) (states : List Vis
     };
   }
 
-pub rings_stay : {I : Type 0} (value : I → ℤ) (edges : List Edge) (old new : List VisitState) (rs : List (Ring I)) → length old ≡ length edges → Each (λ s. is_before s.a s.b ≡ true) edges → StayPassed old new → AreRings value edges old rs → AreRings value edges new rs
+pub rings_stay : {I : Type 0} (value : I → ℤ) (edges : List Edge) (old new : List VisitState) (rs : List (Ring I)) → length old ≡ length edges → Each (λ s. is_before s.a s.b ≡ true) edges → StayPassed old new → AreRings edges old rs → AreRings edges new rs
 rings_stay value edges old new rs beside directed stay rings k d l = ring_stays value edges old beside directed (get_or rs k d) (rings k d l) new stay

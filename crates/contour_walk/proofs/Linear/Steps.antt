@@ -98,97 +98,97 @@ met_of v es ss m directed h = by (has_append_cases (spokes_from 0 false v es ss)
 -- ---- the links of a graph
 
 module _ {I D : Type 0} (value : I → ℤ) where
-  pub borders_edges : (rule : OverlayRule) (links : List (OverlayLink I D)) → edges_of_links (link_borders value rule links) ≡ link_edges value links
+  pub borders_edges : (rule : OverlayRule) (links : List (OverlayLink I D)) → edges_of_links (link_borders rule links) ≡ link_edges links
   borders_edges rule [] = refl
-  borders_edges rule (l ∷ ls) = ap (λ es. link_edge_of value l ∷ es) (borders_edges rule ls)
+  borders_edges rule (l ∷ ls) = ap (λ es. link_edge_of l ∷ es) (borders_edges rule ls)
 
-  each_border : (P : Edge → Type 0) (rule : OverlayRule) (links : List (OverlayLink I D)) → Each P (link_edges value links) → Each (λ l. P l.edge) (link_borders value rule links)
+  each_border : (P : Edge → Type 0) (rule : OverlayRule) (links : List (OverlayLink I D)) → Each P (link_edges links) → Each (λ l. P l.edge) (link_borders rule links)
   each_border P rule [] h = tt
   each_border P rule (l ∷ ls) h = (h.0, each_border P rule ls h.1)
 
-  pairs_border : (R : Edge → Edge → Type 0) (rule : OverlayRule) (links : List (OverlayLink I D)) → Pairs R (link_edges value links) → Pairs (λ l m. R l.edge m.edge) (link_borders value rule links)
+  pairs_border : (R : Edge → Edge → Type 0) (rule : OverlayRule) (links : List (OverlayLink I D)) → Pairs R (link_edges links) → Pairs (λ l m. R l.edge m.edge) (link_borders rule links)
   pairs_border R rule [] h = tt
-  pairs_border R rule (l ∷ ls) h = (each_border (R (link_edge_of value l)) rule ls h.0, pairs_border R rule ls h.1)
+  pairs_border R rule (l ∷ ls) h = (each_border (R (link_edge_of l)) rule ls h.0, pairs_border R rule ls h.1)
 
-  module _ {least greatest : ℤ} {nodes : List OverlayNode} (links : List (OverlayLink I D)) (walkable : IsWalkable value least greatest links nodes) where
-    pub forward_edges : Each (λ s. is_before s.a s.b ≡ true) (link_edges value links)
-    forward_edges = each_from_all (λ s. is_before s.a s.b ≡ true) (link_edges value links) walkable.directed
+  module _ {least greatest : ℤ} {nodes : List OverlayNode} (links : List (OverlayLink I D)) (walkable : IsWalkable least greatest links nodes) where
+    pub forward_edges : Each (λ s. is_before s.a s.b ≡ true) (link_edges links)
+    forward_edges = each_from_all (λ s. is_before s.a s.b ≡ true) (link_edges links) walkable.directed
 
-    pub apart_edges : Pairs (λ s t. s ≡ t → ⊥) (link_edges value links)
+    pub apart_edges : Pairs (λ s t. s ≡ t → ⊥) (link_edges links)
     apart_edges =
-        pairs_weaker (λ s t. edge_order s t ≡ Less) (λ s t. s ≡ t → ⊥) (λ s t less. less_apart edge_total s t less) (link_edges value links)
-        (pairs_from_all (λ s t. edge_order s t ≡ Less) (link_edges value links) walkable.rising)
+        pairs_weaker (λ s t. edge_order s t ≡ Less) (λ s t. s ≡ t → ⊥) (λ s t less. less_apart edge_total s t less) (link_edges links)
+        (pairs_from_all (λ s t. edge_order s t ≡ Less) (link_edges links) walkable.rising)
 
-    pub walkable_links : (rule : OverlayRule) → AreLinks (link_borders value rule links)
+    pub walkable_links : (rule : OverlayRule) → AreLinks (link_borders rule links)
     walkable_links rule =
-        let rising : Pairs (λ l m. edge_order l.edge m.edge ≡ Less) (link_borders value rule links) =
-        pairs_border (λ s t. edge_order s t ≡ Less) rule links (pairs_from_all (λ s t. edge_order s t ≡ Less) (link_edges value links) walkable.rising) in
+        let rising : Pairs (λ l m. edge_order l.edge m.edge ≡ Less) (link_borders rule links) =
+        pairs_border (λ s t. edge_order s t ≡ Less) rule links (pairs_from_all (λ s t. edge_order s t ≡ Less) (link_edges links) walkable.rising) in
         record {
           directed = each_border (λ s. is_before s.a s.b ≡ true) rule links forward_edges;
           rising = rising;
-          distinct = pairs_weaker (λ l m. edge_order l.edge m.edge ≡ Less) (λ l m. l.edge ≡ m.edge → ⊥) (λ l m less. less_apart edge_total l.edge m.edge less) (link_borders value rule links) rising;
+          distinct = pairs_weaker (λ l m. edge_order l.edge m.edge ≡ Less) (λ l m. l.edge ≡ m.edge → ⊥) (λ l m less. less_apart edge_total l.edge m.edge less) (link_borders rule links) rising;
         }
 
     module _ (ss : List VisitState) (beside : length ss ≡ length links) (c : Bool) (v from : Point) where
       -- the walk goes on by the link at a place
       pub record Goes (i : ℕ) : Type 0 where
         pub to : Point
-        pub met : IsMet (link_edges value links) ss i v to
-        pub next : (rule : OverlayRule) → next_point c (left_of (link_borders value rule links) ss) v from ≡ Some to
+        pub met : IsMet (link_edges links) ss i v to
+        pub next : (rule : OverlayRule) → next_point c (left_of (link_borders rule links) ss) v from ≡ Some to
         pub gone :
             (rule : OverlayRule) (passed : VisitState) → is_left passed ≡ false →
-            left_of (link_borders value rule links) (set ss i passed) ≡ without (between v to) (left_of (link_borders value rule links) ss)
+            left_of (link_borders rule links) (set ss i passed) ≡ without (between v to) (left_of (link_borders rule links) ss)
 
-      next_seen : (rule : OverlayRule) (o : Option Numbered) → nearest c v from (spokes v (link_edges value links) ss) ≡ o → next_point c (left_of (link_borders value rule links) ss) v from ≡ point_seen o
+      next_seen : (rule : OverlayRule) (o : Option Numbered) → nearest c v from (spokes v (link_edges links) ss) ≡ o → next_point c (left_of (link_borders rule links) ss) v from ≡ point_seen o
       next_seen rule o e =
-          next_is_nearest c v from (link_borders value rule links) ss (walkable_links rule)
+          next_is_nearest c v from (link_borders rule links) ss (walkable_links rule)
           ∙ (ap (λ es. point_seen (nearest c v from (spokes v es ss))) (borders_edges rule links) ∙ ap point_seen e)
 
-      goes_to : (m : Numbered) → nearest c v from (spokes v (link_edges value links) ss) ≡ Some m → Goes m.id
+      goes_to : (m : Numbered) → nearest c v from (spokes v (link_edges links) ss) ≡ Some m → Goes m.id
       goes_to m e = record {
         to = m.point;
         met = met;
         next = λ rule. next_seen rule (Some m) e;
         gone = λ rule passed is_passed.
-            let borders = link_borders value rule links in
+            let borders = link_borders rule links in
             let are : AreLinks borders = walkable_links rule in
             let inside : m.id < length borders = within rule in
             left_set borders ss m.id passed (between v m.point) is_passed are.distinct inside (as_many rule) met.left (at rule inside);
       }
         where
-          met : IsMet (link_edges value links) ss m.id v m.point
-          met = met_of v (link_edges value links) ss m forward_edges (nearest_has c v from (spokes v (link_edges value links) ss) m e)
+          met : IsMet (link_edges links) ss m.id v m.point
+          met = met_of v (link_edges links) ss m forward_edges (nearest_has c v from (spokes v (link_edges links) ss) m e)
 
-          long : (rule : OverlayRule) → length (link_borders value rule links) ≡ length (link_edges value links)
-          long rule = sym (length-map (link_borders value rule links) (λ (l : Border). l.edge)) ∙ ap length (borders_edges rule links)
+          long : (rule : OverlayRule) → length (link_borders rule links) ≡ length (link_edges links)
+          long rule = sym (length-map (link_borders rule links) (λ (l : Border). l.edge)) ∙ ap length (borders_edges rule links)
 
-          within : (rule : OverlayRule) → m.id < length (link_borders value rule links)
+          within : (rule : OverlayRule) → m.id < length (link_borders rule links)
           within rule = omega (arith, long rule, met.inside)
 
-          as_many : (rule : OverlayRule) → length ss ≡ length (link_borders value rule links)
-          as_many rule = beside ∙ (sym (length-map links (link_edge_of value)) ∙ sym (long rule))
+          as_many : (rule : OverlayRule) → length ss ≡ length (link_borders rule links)
+          as_many rule = beside ∙ (sym (length-map links link_edge_of) ∙ sym (long rule))
 
-          at : (rule : OverlayRule) → m.id < length (link_borders value rule links) → (d : Border) → (get_or (link_borders value rule links) m.id d).edge ≡ between v m.point
-          at rule inside d = sym (get_or-map (λ (l : Border). l.edge) (link_borders value rule links) m.id d d.edge inside) ∙ (ap (λ es. get_or es m.id d.edge) (borders_edges rule links) ∙ met.edge d.edge)
+          at : (rule : OverlayRule) → m.id < length (link_borders rule links) → (d : Border) → (get_or (link_borders rule links) m.id d).edge ≡ between v m.point
+          at rule inside d = sym (get_or-map (λ (l : Border). l.edge) (link_borders rule links) m.id d d.edge inside) ∙ (ap (λ es. get_or es m.id d.edge) (borders_edges rule links) ∙ met.edge d.edge)
 
-      pub goes : (i : ℕ) → Some i ≡ id_if_any (nearest c v from (spokes v (link_edges value links) ss)) → Goes i
-      goes i = by (nearest c v from (spokes v (link_edges value links) ss)) refl
+      pub goes : (i : ℕ) → Some i ≡ id_if_any (nearest c v from (spokes v (link_edges links) ss)) → Goes i
+      goes i = by (nearest c v from (spokes v (link_edges links) ss)) refl
         where
-          by : (o : Option Numbered) → nearest c v from (spokes v (link_edges value links) ss) ≡ o → Some i ≡ id_if_any o → Goes i
+          by : (o : Option Numbered) → nearest c v from (spokes v (link_edges links) ss) ≡ o → Some i ≡ id_if_any o → Goes i
           by None e f = absurd (cc)
           by (Some m) e f = let same : m.id ≡ i = cc in subst Goes same (goes_to m e)
 
-      pub goes_inside : (i : ℕ) → Some i ≡ id_if_any (nearest c v from (spokes v (link_edges value links) ss)) → i < length links
+      pub goes_inside : (i : ℕ) → Some i ≡ id_if_any (nearest c v from (spokes v (link_edges links) ss)) → i < length links
       goes_inside i e =
           let k = goes i e in
-          let long = length-map links (link_edge_of value) in
+          let long = length-map links link_edge_of in
           let inside = (k.met).inside in
           omega (arith, long, inside)
 
-      pub stops : None ≡ id_if_any (nearest c v from (spokes v (link_edges value links) ss)) → (rule : OverlayRule) → next_point c (left_of (link_borders value rule links) ss) v from ≡ None
-      stops = by (nearest c v from (spokes v (link_edges value links) ss)) refl
+      pub stops : None ≡ id_if_any (nearest c v from (spokes v (link_edges links) ss)) → (rule : OverlayRule) → next_point c (left_of (link_borders rule links) ss) v from ≡ None
+      stops = by (nearest c v from (spokes v (link_edges links) ss)) refl
         where
-          by : (o : Option Numbered) → nearest c v from (spokes v (link_edges value links) ss) ≡ o → None ≡ id_if_any o → (rule : OverlayRule) → next_point c (left_of (link_borders value rule links) ss) v from ≡ None
+          by : (o : Option Numbered) → nearest c v from (spokes v (link_edges links) ss) ≡ o → None ≡ id_if_any o → (rule : OverlayRule) → next_point c (left_of (link_borders rule links) ss) v from ≡ None
           by None e f rule = next_seen rule None e
           by (Some m) e f rule = absurd (cc)
 

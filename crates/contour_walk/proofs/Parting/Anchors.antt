@@ -1,5 +1,5 @@
 -- The anchor of a contour is the same wherever it begins, and so is its least point, which stands where it should.
-use Rattle.std.proofs.Common.{◌≡◌, ◌≢◌, ℕ, zero, suc, ◌+◌, ◌-◌, ◌<◌, ◌≤◌, Bool, true, false, cond, List, [], ◌∷◌, ◌++◌, map, length, take, drop, get_or, All, Contains, Option, Some, None}
+use Rattle.std.proofs.Common.{◌≡◌, ◌≢◌, ℕ, ◌-◌, ◌<◌, ◌≤◌, Bool, true, false, List, [], ◌∷◌, map, length, take, drop, get_or, Contains, Option, Some, None}
 use Rattle.std.proofs.Common.{IsPermutation, ℤ, pos, ◌≤ℤ◌, refl, sym, ap, ◌∙◌, subst, length-drop, arith}
 use Rattle.std.specs.declared.cmp.Ordering.{Ordering}
 use Rattle.std.specs.declared.cmp.Ordering.TheVariants.{Less, Equal, Greater}
@@ -8,7 +8,7 @@ use Rattle.std.proofs.lemmas.Int.{ints}
 use Rattle.std.proofs.Math.ListN.{get_or-append}
 use Rattle.std.proofs.lemmas.List.{get_or-drop, get_or-take, get_or-append_right}
 use Rattle.std.proofs.lemmas.List.Elements.{All-contains}
-use Rattle.std.proofs.lemmas.List.Sorted.{IsPermutation-sym, IsPermutation-map, All-permutation, Contains-permutation, length_permutation}
+use Rattle.std.proofs.lemmas.List.Sorted.{IsPermutation-sym, IsPermutation-map, Contains-permutation, length_permutation}
 use Rattle.plane_base.specs.Plane.{Point, Edge, turn, is_before, point_order}
 use Rattle.plane_base.proofs.Facts.Columns.Levels.{unless_same}
 use Rattle.plane_base.proofs.Facts.Points.Orders.{point_total, point_equal, less_from_greater}

@@ -1,5 +1,5 @@
 -- What the program that parts walks stands on.
-use Rattle.std.proofs.Common.{◌≡◌, ℕ, zero, suc, ◌+◌, ◌-◌, ◌<◌, ◌≤◌, ◌/◌, Bool, true, false, not, ◌&&◌, cond, List, [], ◌∷◌, ◌++◌, map, filter, flat_map, length, take, drop, get_or, slice_get, All, Contains, Option, Some, None, int_lt, pos, nat_le, unsigned_abs}
+use Rattle.std.proofs.Common.{◌≡◌, ℕ, zero, suc, ◌+◌, ◌-◌, ◌<◌, ◌≤◌, ◌/◌, Bool, true, false, ◌&&◌, cond, List, [], ◌∷◌, ◌++◌, map, filter, flat_map, length, take, drop, get_or, All, Contains, Option, Some, None, int_lt, pos, nat_le, unsigned_abs}
 use Rattle.std.proofs.Common.{refl, sym, ap, ap₂, ◌∙◌, subst, append_assoc, length-drop, arith}
 use Rattle.std.specs.Prelude.{Result, OnOk}
 use Rattle.std.specs.Cmp.{IsStrictWeakOrder}
@@ -7,17 +7,17 @@ use Rattle.std.specs.Option.{is_some}
 use Rattle.std.specs.List.Sorted.{IsSortedBy, IsStableBy}
 use Rattle.std.proofs.Math.ListN.{drop_of_length-le}
 use Rattle.std.proofs.lemmas.Bool.Decides.{nat_tests}
-use Rattle.std.proofs.lemmas.List.{length-map, length-append, length-take, get_or-take, map-append, take-map, take_more, take_all, drop-map, get_or-map}
+use Rattle.std.proofs.lemmas.List.{length-append, length-take, get_or-take, take_more, take_all}
 use Rattle.std.proofs.lemmas.List.Elements.{All-nil, All-cons, All-head, All-tail, All-filter, All-drop, All-take}
 use Rattle.plane_base.specs.Plane.{Point, Edge, turn}
 use Rattle.plane_base.specs.Areas.{area}
 use Rattle.plane_base.proofs.Facts.Lists.Cycles.{All-front, All-back}
-use Rattle.plane_base.proofs.Facts.Lists.Views.{All-mapped, drop-mapped}
+use Rattle.plane_base.proofs.Facts.Lists.Views.{All-mapped, drop-mapped, drop_at}
 use Rattle.segment_arrangement.proofs.Facts.GreatestEntry.{Contains-head, Contains-later}
-use Rattle.contour_walk.specs.Walks.{Border, Contour, same_point, contour_edges, is_same}
+use Rattle.contour_walk.specs.Walks.{Border, Contour, same_point, contour_edges}
 use Rattle.contour_walk.specs.Binding.{least_point, lowest_from, lower, anchor}
 use Rattle.contour_walk.specs.Loops.{one_later, place_of, loops_from, loops, is_long, long_loops}
-use Rattle.contour_walk.specs.Parted.{is_earlier, comes_first, by_least, begun_at, begun_at_least, least_first, is_hole, part_of}
+use Rattle.contour_walk.specs.Parted.{is_earlier, comes_first, by_least, begun_at, begun_at_least, least_first, part_of}
 use Rattle.contour_walk.specs.PartedViews.{IsTold, AreCut, point_at_least, Stands}
 use Rattle.contour_walk.proofs.Cutting.Places.{cuts_out, goes_on, place_none, place_same, place_within}
 use Rattle.contour_walk.proofs.Parting.Order.{earlier_one_way, not_earlier_through, by_least_seen}
@@ -47,23 +47,16 @@ not_among p r (q ∷ rs) none apart = by (same_point p q) (place_of p rs) none (
     by false None e more = ap one_later (more refl)
     by false (Some j) e more = absurd (cc)
 
-module _ {X : Type 0} (f : X → Point) where
-  pub place_found : (p : Point) (xs : List X) (i : ℕ) (x : X) → i < length xs → x ≡ get_or xs i x → place_of p (map f (take i xs)) ≡ None → same_point p (f x) ≡ true
-      → place_of p (map f xs) ≡ Some i
-  place_found p xs i x inside at none same =
-      found_among p (map f xs) i (f x) (omega (arith, inside, length-map xs f)) (ap (place_of p) (take-map f i xs) ∙ none)
-      (ap (same_point p) (get_or-map f xs i x (f x) inside ∙ ap f (sym at)) ∙ same)
+pub place_found : (p : Point) (xs : List Point) (i : ℕ) (x : Point) → i < length xs → x ≡ get_or xs i x → place_of p (take i xs) ≡ None → same_point p x ≡ true
+    → place_of p xs ≡ Some i
+place_found p xs i x inside at none same = found_among p xs i x inside none (ap (same_point p) (sym at) ∙ same)
 
-  pub none_pushed : (p : Point) (xs : List X) (i : ℕ) (x : X) → i < length xs → x ≡ get_or xs i x → place_of p (map f (take i xs)) ≡ None → same_point p (f x) ≡ false
-      → place_of p (map f (take (i + 1) xs)) ≡ None
-  none_pushed p xs i x inside at none apart =
-      ap (λ ys. place_of p (map f ys)) (take_more xs i x inside ∙ ap (λ y. take i xs ++ y ∷ []) (sym at))
-      ∙ (ap (place_of p) (map-append f (take i xs) (x ∷ [])) ∙ not_among p (f x) (map f (take i xs)) none apart)
+pub none_pushed : (p : Point) (xs : List Point) (i : ℕ) (x : Point) → i < length xs → x ≡ get_or xs i x → place_of p (take i xs) ≡ None → same_point p x ≡ false
+    → place_of p (take (i + 1) xs) ≡ None
+none_pushed p xs i x inside at none apart =
+    ap (place_of p) (take_more xs i x inside ∙ ap (λ y. take i xs ++ y ∷ []) (sym at)) ∙ not_among p x (take i xs) none apart
 
 -- ---- begun elsewhere
-
-pub rotated : {X : Type 0} (f : X → Point) (k : ℕ) (xs : List X) → map f (drop k xs ++ take k xs) ≡ begun_at k (map f xs)
-rotated f k xs = map-append f (drop k xs) (take k xs) ∙ ap₂ (λ ys zs. ys ++ zs) (sym (drop-map f k xs)) (sym (take-map f k xs))
 
 pub least_first_is : (ps : List Point) (v : Point) (i : ℕ) → least_point ps ≡ Some v → place_of v ps ≡ Some i → least_first ps ≡ begun_at i ps
 least_first_is ps v i found at =
@@ -72,69 +65,62 @@ least_first_is ps v i found at =
 
 -- ---- a path that comes back to no point
 
-module _ {X : Type 0} (f : X → Point) (xs : List X) where
-  pub nothing_cut : (i : ℕ) (x : X) → i < length xs → x ≡ get_or xs i x → place_of (f x) (map f (take (i - 2) xs)) ≡ None → All (λ l. 3 ≤ length l) (loops (map f xs))
-      → loops_from (take i (map f xs)) (drop i (map f xs)) ≡ loops (map f xs) → loops_from (take (i + 1) (map f xs)) (drop (i + 1) (map f xs)) ≡ loops (map f xs)
+module _ (xs : List Point) where
+  pub nothing_cut : (i : ℕ) (x : Point) → i < length xs → x ≡ get_or xs i x → place_of x (take (i - 2) xs) ≡ None → All (λ l. 3 ≤ length l) (loops xs)
+      → loops_from (take i xs) (drop i xs) ≡ loops xs → loops_from (take (i + 1) xs) (drop (i + 1) xs) ≡ loops xs
   nothing_cut i x inside at behind long so_far =
-      let rest = drop (i + 1) ps in
-      let next : take (i + 1) ps ≡ take i ps ++ f x ∷ [] =
-      take-map f (i + 1) xs
-      ∙ (ap (map f) (take_more xs i x inside)
-      ∙ (map-append f (take i xs) (get_or xs i x ∷ []) ∙ (ap (λ qs. qs ++ f (get_or xs i x) ∷ []) (sym (take-map f i xs)) ∙ ap (λ y. take i ps ++ f y ∷ []) (sym at)))) in
-      ap (λ ks. loops_from ks rest) next ∙ (sym (goes_on (take i ps) (f x) rest none) ∙ here)
+      let rest = drop (i + 1) xs in
+      let next : take (i + 1) xs ≡ take i xs ++ x ∷ [] =
+      take_more xs i x inside ∙ ap (λ y. take i xs ++ y ∷ []) (sym at) in
+      ap (λ ks. loops_from ks rest) next ∙ (sym (goes_on (take i xs) x rest none) ∙ here)
     where
-      ps : List Point
-      ps = map f xs
+      here : loops_from (take i xs) (x ∷ drop (i + 1) xs) ≡ loops xs
+      here = ap (loops_from (take i xs)) (sym (drop_at xs i x inside at)) ∙ so_far
 
-      here : loops_from (take i ps) (f x ∷ drop (i + 1) ps) ≡ loops ps
-      here = ap (loops_from (take i ps)) (sym (drop-mapped f xs i x inside at)) ∙ so_far
-
-      short : length (take i ps) ≡ i
-      short = omega (arith, length-take i ps, inside, length-map xs f)
+      short : length (take i xs) ≡ i
+      short = omega (arith, length-take i xs, inside)
 
       -- a loop that ends here would have two points or less
-      none : place_of (f x) (take i ps) ≡ None
-      none = by (place_of (f x) (take i ps)) refl
+      none : place_of x (take i xs) ≡ None
+      none = by (place_of x (take i xs)) refl
         where
-          by : (o : Option ℕ) → place_of (f x) (take i ps) ≡ o → place_of (f x) (take i ps) ≡ None
+          by : (o : Option ℕ) → place_of x (take i xs) ≡ o → place_of x (take i xs) ≡ None
           by None e = e
-          by (Some j) e = absurd (too_long (far (place_of (f x) (take (i - 2) ps)) refl))
+          by (Some j) e = absurd (too_long (far (place_of x (take (i - 2) xs)) refl))
             where
               within : j < i
-              within = omega (arith, short, place_within (f x) (take i ps) j e)
+              within = omega (arith, short, place_within x (take i xs) j e)
 
-              far : (o : Option ℕ) → place_of (f x) (take (i - 2) ps) ≡ o → i ≤ j + 2
+              far : (o : Option ℕ) → place_of x (take (i - 2) xs) ≡ o → i ≤ j + 2
               far None h = near (nat_le i (j + 2)) refl
                 where
                   near : (b : Bool) → nat_le i (j + 2) ≡ b → i ≤ j + 2
                   near true k = grind (arith, nat_tests)
                   near false k =
                       let before : j < i - 2 = grind (arith, nat_tests) in
-                      absurd (place_none (f x) (take (i - 2) ps) j (f x) (omega (arith, before, short, length-take (i - 2) ps, length-take i ps))
-                      (ap (same_point (f x)) (get_or-take (i - 2) ps j (f x) before ∙ sym (get_or-take i ps j (f x) within)) ∙ place_same (f x) (take i ps) j (f x) e) h)
-              far (Some k) h = absurd (let z = sym h ∙ (ap (place_of (f x)) (take-map f (i - 2) xs) ∙ behind) in cc)
+                      absurd (place_none x (take (i - 2) xs) j x (omega (arith, before, short, length-take (i - 2) xs, length-take i xs))
+                      (ap (same_point x) (get_or-take (i - 2) xs j x before ∙ sym (get_or-take i xs j x within)) ∙ place_same x (take i xs) j x e) h)
+              far (Some k) h = absurd (let z = sym h ∙ behind in cc)
 
-              cut : loops ps ≡ (drop (j + 1) (take i ps) ++ f x ∷ []) ∷ loops_from (take (j + 1) (take i ps)) (drop (i + 1) ps)
-              cut = sym here ∙ cuts_out (take i ps) (f x) (drop (i + 1) ps) j e
+              cut : loops xs ≡ (drop (j + 1) (take i xs) ++ x ∷ []) ∷ loops_from (take (j + 1) (take i xs)) (drop (i + 1) xs)
+              cut = sym here ∙ cuts_out (take i xs) x (drop (i + 1) xs) j e
 
               too_long : i ≤ j + 2 → ⊥
               too_long close =
-                  let first : 3 ≤ length (drop (j + 1) (take i ps) ++ f x ∷ []) =
-                  All-head (λ l. 3 ≤ length l) (drop (j + 1) (take i ps) ++ f x ∷ []) (loops_from (take (j + 1) (take i ps)) (drop (i + 1) ps)) (subst (All (λ l. 3 ≤ length l)) cut long) in
-                  omega (arith, close, first, short, length-append (drop (j + 1) (take i ps)) (f x ∷ []), length-drop (j + 1) (take i ps))
+                  let first : 3 ≤ length (drop (j + 1) (take i xs) ++ x ∷ []) =
+                  All-head (λ l. 3 ≤ length l) (drop (j + 1) (take i xs) ++ x ∷ []) (loops_from (take (j + 1) (take i xs)) (drop (i + 1) xs)) (subst (All (λ l. 3 ≤ length l)) cut long) in
+                  omega (arith, close, first, short, length-append (drop (j + 1) (take i xs)) (x ∷ []), length-drop (j + 1) (take i xs))
 
-  pub looked_behind : (i n : ℕ) (x : X) (o : Option ℕ) → n ≡ i - 2 → o ≡ place_of (f x) (map f (take n xs)) → false ≡ is_some o → place_of (f x) (map f (take (i - 2) xs)) ≡ None
-  looked_behind i n x o behind is missed = subst (λ k. place_of (f x) (map f (take k xs)) ≡ None) behind (sym is ∙ by o missed)
+  pub looked_behind : (i n : ℕ) (x : Point) (o : Option ℕ) → n ≡ i - 2 → o ≡ place_of x (take n xs) → false ≡ is_some o → place_of x (take (i - 2) xs) ≡ None
+  looked_behind i n x o behind is missed = subst (λ k. place_of x (take k xs) ≡ None) behind (sym is ∙ by o missed)
     where
       by : (o : Option ℕ) → false ≡ is_some o → o ≡ None
       by None e = refl
       by (Some k) e = absurd (cc)
 
-  pub none_cut : (i : ℕ) → length xs ≤ i → loops_from (take i (map f xs)) (drop i (map f xs)) ≡ loops (map f xs) → loops (map f xs) ≡ map f xs ∷ []
+  pub none_cut : (i : ℕ) → length xs ≤ i → loops_from (take i xs) (drop i xs) ≡ loops xs → loops xs ≡ xs ∷ []
   none_cut i over so_far =
-      let ps = map f xs in
-      let many : length ps ≤ i = omega (arith, over, length-map xs f) in
-      sym so_far ∙ (ap (loops_from (take i ps)) (drop_of_length-le ps many) ∙ ap (λ qs. qs ∷ []) (take_all i ps many))
+      sym so_far ∙ (ap (loops_from (take i xs)) (drop_of_length-le xs over) ∙ ap (λ qs. qs ∷ []) (take_all i xs over))
 
 -- a loop more, which is a whole path
 pub one_more : (output : Bool) (links : List Border) (ps : List Point) (old new : List Contour) (d : Contour) → (All (λ l. 3 ≤ length l) (loops ps) → loops ps ≡ ps ∷ []) → AreCut output links (loops ps)

@@ -1,14 +1,11 @@
 -- The steps that come to a loop's least point and leave it tell whether the loop is a hole.
-use Rattle.std.proofs.Common.{◌≡◌, ◌≢◌, ℕ, zero, suc, ◌+◌, ◌<◌, ◌≤◌, Bool, true, false, not, cond, List, [], ◌∷◌, ◌++◌, map, length, take, drop, get_or, All, AllPairs, Contains, ◌-◌, Option, Some, None, int_lt, pos, ◌≤ℤ◌}
-use Rattle.std.proofs.Common.{IsPermutation, refl, sym, ap, ap₂, ◌∙◌, subst, append-nil, append_assoc, length-drop, arith}
-use Rattle.std.specs.Ordering.{is_eq}
+use Rattle.std.proofs.Common.{◌≡◌, ℕ, ◌+◌, ◌<◌, ◌≤◌, Bool, true, false, not, cond, List, [], ◌∷◌, ◌++◌, map, length, take, drop, get_or, All, AllPairs, Contains, ◌-◌, Option, Some, None, int_lt, pos}
+use Rattle.std.proofs.Common.{refl, sym, ap, ap₂, ◌∙◌, subst, append-nil, append_assoc, length-drop, arith}
 use Rattle.std.proofs.Math.Seq.{drop-append_seam, take-append_seam}
-use Rattle.std.proofs.lemmas.List.{get_or-map, drop_more, take_more, get_or-drop, get_or-take, length-append, length-take}
-use Rattle.std.proofs.lemmas.List.Elements.{All-head, All-tail, All-contains}
-use Rattle.std.proofs.lemmas.List.Sorted.{IsPermutation-sym, All-permutation, Contains-permutation, length_permutation}
-use Rattle.plane_base.specs.Plane.{Point, Edge, turn, is_before, edge_order}
-use Rattle.plane_base.specs.Segments.{parted}
-use Rattle.plane_base.proofs.Facts.Lists.Totals.{total_permutation}
+use Rattle.std.proofs.lemmas.List.{drop_more, take_more, get_or-drop, get_or-take, length-append, length-take}
+use Rattle.std.proofs.lemmas.List.Elements.{All-head, All-tail}
+use Rattle.std.proofs.lemmas.List.Sorted.{All-permutation, length_permutation}
+use Rattle.plane_base.specs.Plane.{Point, Edge, turn, is_before}
 use Rattle.contour_walk.specs.Walks.{Border, Contour, is_same, between, same_point, contour_edges}
 use Rattle.contour_walk.specs.WalkLaws.{steps_to, contour_steps}
 use Rattle.contour_walk.specs.Binding.{least_point, lower, lowest_from, anchor, is_above}
@@ -241,21 +238,21 @@ before_later (d ∷ ds) i some inside =
     ∙ ap last_first (append_assoc (drop (j + 1) ps) (take j ps) (p ∷ [])
     ∙ (ap (λ qs. drop (j + 1) ps ++ qs) (sym (take_more ps j d within)) ∙ ap (λ n. begun_at n ps) on)))
 
-module _ {X : Type 0} (f : X → Point) (output : Bool) (xs : List X) where
-  at_of : (i : ℕ) (x : X) (ps : List Point) → map f xs ≡ ps → i < length xs → x ≡ get_or xs i x → f x ≡ get_or ps i (f x)
-  at_of i x ps e inside is = ap f is ∙ (sym (get_or-map f xs i x (f x) inside) ∙ ap (λ qs. get_or qs i (f x)) e)
+module _ (output : Bool) (xs : List Point) where
+  at_of : (i : ℕ) (x : Point) (ps : List Point) → xs ≡ ps → x ≡ get_or xs i x → x ≡ get_or ps i x
+  at_of i x ps e is = is ∙ ap (λ qs. get_or qs i x) e
 
   -- what a look at three points tells
-  pub told_at : (x y z : X) (a b : Bool) → 3 ≤ length xs → x ≡ get_or xs 0 x → y ≡ get_or xs 1 y → z ≡ get_or xs 2 z
-      → b ≡ int_lt (turn (f y) (f z) (f x)) (pos 0) → a ≡ cond b (above_step output (record { a = f x; b = f y })) (above_step output (record { a = f y; b = f z }))
-      → (last v next : Point) (rest : List Point) → map f xs ≡ last ∷ v ∷ next ∷ rest → not a ≡ told_hole output last v next
-  told_at x y z a b long at_x at_y at_z right above last v next rest e =
-      subst (λ p. not a ≡ told_hole output last v p) (at_of 2 z (last ∷ v ∷ next ∷ rest) e (omega (arith, long)) at_z)
-      (subst (λ p. not a ≡ told_hole output last p (f z)) (at_of 1 y (last ∷ v ∷ next ∷ rest) e (omega (arith, long)) at_y)
-      (subst (λ p. not a ≡ told_hole output p (f y) (f z)) (at_of 0 x (last ∷ v ∷ next ∷ rest) e (omega (arith, long)) at_x) here))
+  pub told_at : (x y z : Point) (a b : Bool) → x ≡ get_or xs 0 x → y ≡ get_or xs 1 y → z ≡ get_or xs 2 z
+      → b ≡ int_lt (turn y z x) (pos 0) → a ≡ cond b (above_step output (record { a = x; b = y })) (above_step output (record { a = y; b = z }))
+      → (last v next : Point) (rest : List Point) → xs ≡ last ∷ v ∷ next ∷ rest → not a ≡ told_hole output last v next
+  told_at x y z a b at_x at_y at_z right above last v next rest e =
+      subst (λ p. not a ≡ told_hole output last v p) (at_of 2 z (last ∷ v ∷ next ∷ rest) e at_z)
+      (subst (λ p. not a ≡ told_hole output last p z) (at_of 1 y (last ∷ v ∷ next ∷ rest) e at_y)
+      (subst (λ p. not a ≡ told_hole output p y z) (at_of 0 x (last ∷ v ∷ next ∷ rest) e at_x) here))
     where
-      here : not a ≡ told_hole output (f x) (f y) (f z)
-      here = ap not (above ∙ ap (λ c. cond c (above_step output (record { a = f x; b = f y })) (above_step output (record { a = f y; b = f z }))) right)
+      here : not a ≡ told_hole output x y z
+      here = ap not (above ∙ ap (λ c. cond c (above_step output (record { a = x; b = y })) (above_step output (record { a = y; b = z }))) right)
 
 -- the points of a part have what the loop's points have
 pub all_begun_at : (P : Point → Type 0) (i : ℕ) (ps : List Point) → All P ps → All P (begun_at i ps)

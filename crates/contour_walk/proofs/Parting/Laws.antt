@@ -1,9 +1,9 @@
 -- Parted contours run along their boundary, repeat no point, and come by their least points.
-use Rattle.std.proofs.Common.{◌≡◌, ℕ, ◌<◌, ◌≤◌, Bool, true, false, not, cond, List, [], ◌∷◌, map, flat_map, length, get_or, All, AllPairs, Contains, Option, Some, None}
-use Rattle.std.proofs.Common.{IsPermutation, refl, sym, ap, ◌∙◌, subst, arith}
+use Rattle.std.proofs.Common.{◌≡◌, ◌<◌, ◌≤◌, Bool, true, false, not, List, [], ◌∷◌, map, flat_map, length, get_or, All, AllPairs, Contains, Some, None}
+use Rattle.std.proofs.Common.{IsPermutation, refl, sym, ap, ◌∙◌, subst}
 use Rattle.std.proofs.lemmas.List.Elements.{All-map, All-contains_itself, All-contains}
 use Rattle.std.proofs.lemmas.List.Folds.{flat_map-map}
-use Rattle.std.proofs.lemmas.List.Sorted.{IsPermutation-sym, IsPermutation-trans, All-permutation, Contains-permutation, length_permutation}
+use Rattle.std.proofs.lemmas.List.Sorted.{IsPermutation-trans, All-permutation, Contains-permutation, length_permutation}
 use Rattle.plane_base.specs.Plane.{Point, Edge}
 use Rattle.plane_base.specs.Counts.{Count, Entry}
 use Rattle.plane_base.specs.Regions.{FillRule, OverlayRule}
@@ -22,7 +22,7 @@ use Rattle.contour_walk.specs.Parted.{region_walks, is_hole, part_of, by_least, 
 use Rattle.contour_walk.specs.PartedViews.{above_step, StepsTell, AreCut}
 use Rattle.contour_walk.proofs.Binder.Laws.{walks_run_along}
 use Rattle.contour_walk.proofs.Cutting.Points.{loops_repeat_no_point}
-use Rattle.contour_walk.proofs.Binding.Passed.{clean, have_anchors}
+use Rattle.contour_walk.proofs.Binding.Passed.{clean}
 use Rattle.contour_walk.proofs.Binding.Walks.{edges_once, contours_are_long}
 use Rattle.contour_walk.proofs.Facts.Binding.Anchors.{IsClean, has_anchor}
 use Rattle.contour_walk.proofs.Walks.Nodes.{borders_are_links, borders_alternate}

@@ -1,11 +1,11 @@
 -- Walks that turn through the region pass each link, and so do their loops.
-use Rattle.std.proofs.Common.{◌≡◌, ℕ, zero, suc, ◌+◌, ◌<◌, ◌≤◌, Bool, true, false, not, cond, List, [], ◌∷◌, ◌++◌, map, flat_map, length, take, drop, All, Option, Some, None}
-use Rattle.std.proofs.Common.{IsPermutation, refl, sym, ap, ◌∙◌, subst, length-drop, arith}
+use Rattle.std.proofs.Common.{◌≡◌, ℕ, zero, suc, ◌+◌, ◌<◌, ◌≤◌, Bool, false, not, cond, List, [], ◌∷◌, ◌++◌, map, flat_map, length, take, drop, All, Option, Some, None}
+use Rattle.std.proofs.Common.{IsPermutation, refl, sym, ap, ◌∙◌, subst, arith}
 use Rattle.std.proofs.lemmas.Grind.{flat_map-append}
 use Rattle.std.proofs.lemmas.List.{length-append, length-take}
 use Rattle.std.proofs.lemmas.List.Elements.{All-nil, All-cons, All-head, All-tail}
 use Rattle.std.proofs.lemmas.List.Sorted.{IsPermutation-refl, IsPermutation-trans, IsPermutation-append}
-use Rattle.plane_base.specs.Plane.{Point, Edge}
+use Rattle.plane_base.specs.Plane.{Point}
 use Rattle.contour_walk.specs.Walks.{Border, top_link, upper, is_one_of, contour_edges, left_by}
 use Rattle.contour_walk.specs.WalkLaws.{step_along, contour_steps, walk_along, AnyWalks, none, one_more, PassAll}
 use Rattle.contour_walk.specs.Loops.{place_of, loops_from, loops}

@@ -4,8 +4,6 @@
 ghost use Rattle.std.specs.Prelude.{◌≡◌, All, IfOk, IfSome, IsOkUnless};
 ghost use Rattle.plane_base.specs.Plane.{IsWithin};
 ghost use Rattle.plane_base.specs.Segments.{IsEdgeWithin};
-ghost use Rattle.plane_base.specs.Views.{point_of, points_of};
-ghost use Rattle.plane_base.specs.SegmentViews.{edge_of};
 ghost use Rattle.contour_walk.specs.Binding.{lower, lowest_from, anchor};
 ghost use Rattle.contour_walk.specs.ShapeViews.{edges_of, edge_if_any, lowest_beside};
 
@@ -22,9 +20,9 @@ pub(super) fn anchor<I: OverlayInt>(
     alloc: Global,
     points: &[IntPoint<I>],
 ) -> Result<Option<XSegment<I>>, Fault>
-    requires { All (IsWithin I.least I.greatest) (points_of I.value points.now) }
-    ensures is { IfOk result (λ edge. edge_if_any I.value edge ≡ anchor (points_of I.value points.now)) }
-    ensures in_range { IfOk result (λ edge. IfSome edge (λ s. IsEdgeWithin I.least I.greatest (edge_of I.value s))) }
+    requires { All (IsWithin I.least I.greatest) points.now }
+    ensures is { IfOk result (λ edge. edge_if_any edge ≡ anchor points.now) }
+    ensures in_range { IfOk result (λ edge. IfSome edge (λ s. IsEdgeWithin I.least I.greatest s)) }
     ensures memory { IsOkUnless result Fault.Memory }
 {
     let Some(v) = least_point(points) else {
@@ -36,9 +34,9 @@ pub(super) fn anchor<I: OverlayInt>(
 
 // The lowest edge that starts at the point.
 fn lowest_from<I: OverlayInt>(v: IntPoint<I>, edges: &[XSegment<I>]) -> Option<XSegment<I>>
-    requires { All (IsEdgeWithin I.least I.greatest) (edges_of I.value edges.now) }
-    ensures is { edge_if_any I.value result ≡ lowest_from (point_of I.value v) (edges_of I.value edges.now) }
-    ensures in_range { IfSome result (λ s. IsEdgeWithin I.least I.greatest (edge_of I.value s)) }
+    requires { All (IsEdgeWithin I.least I.greatest) (edges_of edges.now) }
+    ensures is { edge_if_any result ≡ lowest_from v (edges_of edges.now) }
+    ensures in_range { IfSome result (λ s. IsEdgeWithin I.least I.greatest s) }
 {
     let n = edges.len();
     let mut lowest = None;
@@ -54,11 +52,11 @@ fn lowest_with<I: OverlayInt>(
     edge: XSegment<I>,
     lowest: Option<XSegment<I>>,
 ) -> Option<XSegment<I>>
-    requires edge_in_range { IsEdgeWithin I.least I.greatest (edge_of I.value edge) }
-    requires lowest_in_range { IfSome lowest (λ s. IsEdgeWithin I.least I.greatest (edge_of I.value s)) }
-    ensures is { edge_if_any I.value result ≡
-        lowest_beside (point_of I.value v) (edge_of I.value edge) (edge_if_any I.value lowest) }
-    ensures in_range { IfSome result (λ s. IsEdgeWithin I.least I.greatest (edge_of I.value s)) }
+    requires edge_in_range { IsEdgeWithin I.least I.greatest edge }
+    requires lowest_in_range { IfSome lowest (λ s. IsEdgeWithin I.least I.greatest s) }
+    ensures is { edge_if_any result ≡
+        lowest_beside v edge (edge_if_any lowest) }
+    ensures in_range { IfSome result (λ s. IsEdgeWithin I.least I.greatest s) }
 {
     if !is_same_point(edge.a, v) {
         return lowest;
@@ -68,10 +66,10 @@ fn lowest_with<I: OverlayInt>(
 
 // Of two edges from one point that to the right of the other.
 fn lower<I: OverlayInt>(edge: XSegment<I>, other: Option<XSegment<I>>) -> XSegment<I>
-    requires edge_in_range { IsEdgeWithin I.least I.greatest (edge_of I.value edge) }
-    requires other_in_range { IfSome other (λ s. IsEdgeWithin I.least I.greatest (edge_of I.value s)) }
-    ensures is { edge_of I.value result ≡ lower (edge_of I.value edge) (edge_if_any I.value other) }
-    ensures in_range { IsEdgeWithin I.least I.greatest (edge_of I.value result) }
+    requires edge_in_range { IsEdgeWithin I.least I.greatest edge }
+    requires other_in_range { IfSome other (λ s. IsEdgeWithin I.least I.greatest s) }
+    ensures is { result ≡ lower edge (edge_if_any other) }
+    ensures in_range { IsEdgeWithin I.least I.greatest result }
 {
     match other {
         None => edge,

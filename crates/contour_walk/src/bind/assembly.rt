@@ -5,7 +5,6 @@
 
 ghost use Rattle.std.specs.Prelude.{◌≡◌, ◌<◌, ◌+◌, List, All, IfOk, OnOk, IsOkUnless, [], ◌∷◌, true, false, map, take, length};
 ghost use Rattle.plane_base.specs.Plane.{IsWithin};
-ghost use Rattle.plane_base.specs.Views.{points_of};
 ghost use Rattle.plane_base.specs.GivenViews.{contours_of};
 ghost use Rattle.contour_walk.specs.Walks.{Border};
 ghost use Rattle.contour_walk.specs.Shapes.{finished, shapes_from};
@@ -27,11 +26,11 @@ pub(crate) fn shapes_with_holes<I: OverlayInt>(
     owners: &[Option<usize>],
     contours: &mut [Contour<I>],
 ) -> Result<IntShapes<I>, Fault>
-    requires in_range { ContoursAreWithin I.least I.greatest (walks_of I.value contours.old) }
+    requires in_range { ContoursAreWithin I.least I.greatest (walks_of contours.old) }
     requires all_owned { length owners.now ≡ length contours.old }
-    ensures is { (links : List Border) → AreOwners links (walks_of I.value contours.old) owners.now →
-        IfOk result (λ shapes. shapes_of I.value shapes.shapes.items ≡
-        map (map (finished keep_all)) (shapes_from links (walks_of I.value contours.old) 0 (walks_of I.value contours.old))) }
+    ensures is { (links : List Border) → AreOwners links (walks_of contours.old) owners.now →
+        IfOk result (λ shapes. shapes_of shapes.shapes.items ≡
+        map (map (finished keep_all)) (shapes_from links (walks_of contours.old) 0 (walks_of contours.old))) }
     ensures memory { IsOkUnless result Fault.Memory }
 {
     let mut shapes = places(alloc, keep_all, contours)?;
@@ -48,11 +47,11 @@ fn places<I: OverlayInt>(
     keep_all: bool,
     contours: &mut [Contour<I>],
 ) -> Result<Vec<IntShape<I>>, Fault>
-    requires in_range { ContoursAreWithin I.least I.greatest (walks_of I.value contours.old) }
-    ensures is { (links : List Border) → IfOk result (λ shapes. shapes_of I.value shapes.items ≡
-        map (map (finished keep_all)) (places_from links (walks_of I.value contours.old) [] 0 (walks_of I.value contours.old))) }
-    ensures holes { OnOk result (HoldsHoles 0 (walks_of I.value contours.old) (walks_of I.value contours.new)) }
-    ensures in_range { OnOk result (ContoursAreWithin I.least I.greatest (walks_of I.value contours.new)) }
+    requires in_range { ContoursAreWithin I.least I.greatest (walks_of contours.old) }
+    ensures is { (links : List Border) → IfOk result (λ shapes. shapes_of shapes.items ≡
+        map (map (finished keep_all)) (places_from links (walks_of contours.old) [] 0 (walks_of contours.old))) }
+    ensures holes { OnOk result (HoldsHoles 0 (walks_of contours.old) (walks_of contours.new)) }
+    ensures in_range { OnOk result (ContoursAreWithin I.least I.greatest (walks_of contours.new)) }
     ensures memory { IsOkUnless result Fault.Memory }
 {
     let mut shapes = Vec::with_capacity(alloc, contours.len())?;
@@ -68,13 +67,13 @@ fn place<I: OverlayInt>(
     keep_all: bool,
     contour: &mut Contour<I>,
 ) -> Result<IntShape<I>, Fault>
-    requires { All (IsWithin I.least I.greatest) (points_of I.value contour.old.points.items) }
-    ensures hole { contour.old.is_hole ≡ true → IfOk result (λ shape. contours_of I.value shape.contours.items ≡ []) }
-    ensures outline { contour.old.is_hole ≡ false → IfOk result (λ shape. contours_of I.value shape.contours.items ≡
-        finished keep_all (points_of I.value contour.old.points.items) ∷ []) }
+    requires { All (IsWithin I.least I.greatest) contour.old.points.items }
+    ensures hole { contour.old.is_hole ≡ true → IfOk result (λ shape. contours_of shape.contours.items ≡ []) }
+    ensures outline { contour.old.is_hole ≡ false → IfOk result (λ shape. contours_of shape.contours.items ≡
+        finished keep_all contour.old.points.items ∷ []) }
     ensures stays { contour.old.is_hole ≡ true → contour.new ≡ contour.old }
     ensures same { contour.new.is_hole ≡ contour.old.is_hole }
-    ensures in_range { All (IsWithin I.least I.greatest) (points_of I.value contour.new.points.items) }
+    ensures in_range { All (IsWithin I.least I.greatest) contour.new.points.items }
     ensures memory { IsOkUnless result Fault.Memory }
 {
     if contour.is_hole {
@@ -89,8 +88,8 @@ fn place<I: OverlayInt>(
 
 // The points of a contour as they are answered, in the memory in which they were walked. The contour stays without points.
 fn take_path<I: OverlayInt>(alloc: Global, keep_all: bool, contour: &mut Contour<I>) -> IntPath<I>
-    requires { All (IsWithin I.least I.greatest) (points_of I.value contour.old.points.items) }
-    ensures is { points_of I.value result.points.items ≡ finished keep_all (points_of I.value contour.old.points.items) }
+    requires { All (IsWithin I.least I.greatest) contour.old.points.items }
+    ensures is { result.points.items ≡ finished keep_all contour.old.points.items }
     ensures none { contour.new.points.items ≡ [] }
     ensures same { contour.new.is_hole ≡ contour.old.is_hole }
 {
@@ -111,18 +110,18 @@ fn join_hole<I: OverlayInt>(
     hole: usize,
     shapes: &mut [IntShape<I>],
 ) -> Result<(), Fault>
-    requires in_range { ContoursAreWithin I.least I.greatest (walks_of I.value contours.old) }
+    requires in_range { ContoursAreWithin I.least I.greatest (walks_of contours.old) }
     requires within { hole < length contours.old }
     requires all_owned { length owners.now ≡ length contours.old }
     requires all_placed { length shapes.old ≡ length contours.old }
     ensures len { length shapes.new ≡ length contours.old }
     ensures same { length contours.new ≡ length contours.old }
-    ensures is { (links : List Border) (cs : List _) → HoldsHoles hole cs (walks_of I.value contours.old) → AreOwners links cs owners.now →
-        shapes_of I.value shapes.old ≡ map (map (finished keep_all)) (places_from links cs (take hole cs) 0 cs) →
-        OnOk result (shapes_of I.value shapes.new ≡ map (map (finished keep_all)) (places_from links cs (take (hole + 1) cs) 0 cs)) }
-    ensures holes { (cs : List _) → HoldsHoles hole cs (walks_of I.value contours.old) →
-        OnOk result (HoldsHoles (hole + 1) cs (walks_of I.value contours.new)) }
-    ensures in_range { OnOk result (ContoursAreWithin I.least I.greatest (walks_of I.value contours.new)) }
+    ensures is { (links : List Border) (cs : List _) → HoldsHoles hole cs (walks_of contours.old) → AreOwners links cs owners.now →
+        shapes_of shapes.old ≡ map (map (finished keep_all)) (places_from links cs (take hole cs) 0 cs) →
+        OnOk result (shapes_of shapes.new ≡ map (map (finished keep_all)) (places_from links cs (take (hole + 1) cs) 0 cs)) }
+    ensures holes { (cs : List _) → HoldsHoles hole cs (walks_of contours.old) →
+        OnOk result (HoldsHoles (hole + 1) cs (walks_of contours.new)) }
+    ensures in_range { OnOk result (ContoursAreWithin I.least I.greatest (walks_of contours.new)) }
     ensures memory { IsOkUnless result Fault.Memory }
 {
     if !contours[hole].is_hole {

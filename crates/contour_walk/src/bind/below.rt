@@ -39,16 +39,16 @@ pub(crate) fn contours_below<I: OverlayInt>(
     anchors: &[OwnedEdge<I>],
     number: usize,
 ) -> Result<Vec<Option<usize>>, Fault>
-    requires in_range { OwnedAreWithin I.least I.greatest (owned_edges_of I.value edges.now) }
-    requires anchors_in_range { OwnedAreWithin I.least I.greatest (owned_edges_of I.value anchors.now) }
+    requires in_range { OwnedAreWithin I.least I.greatest (owned_edges_of edges.now) }
+    requires anchors_in_range { OwnedAreWithin I.least I.greatest (owned_edges_of anchors.now) }
     requires few { length edges.now < 2 ^ 31 }
-    requires sweepable { AreSweepable (owned_edges_of I.value edges.now) }
-    requires sought { All (λ a. IsSought (owned_edges_of I.value edges.now) a.edge) (owned_edges_of I.value anchors.now) }
-    requires rising { AreRising (owned_edges_of I.value anchors.now) }
+    requires sweepable { AreSweepable (owned_edges_of edges.now) }
+    requires sought { All (λ a. IsSought (owned_edges_of edges.now) a.edge) (owned_edges_of anchors.now) }
+    requires rising { AreRising (owned_edges_of anchors.now) }
     requires numbers { All (λ a. a.contour < number) anchors.now }
     ensures len { IfOk result (λ below. length below.items ≡ number) }
     ensures is { (met : ℕ → Option ℕ) →
-        All (λ a. number_met (way_down (owned_edges_of I.value edges.now) true a.edge) ≡ met a.contour) (owned_edges_of I.value anchors.now) →
+        All (λ a. number_met (way_down (owned_edges_of edges.now) true a.edge) ≡ met a.contour) (owned_edges_of anchors.now) →
         IfOk result (λ below. All (λ a. (d : _) → slice_index_or below.items a.contour d ≡ met a.contour) anchors.now) }
     ensures rest { IfOk result (λ below. (n : ℕ) (d : _) → n < number → All (λ a. a.contour ≢ n) anchors.now → slice_index_or below.items n d ≡ None) }
     ensures memory { IsOkUnless result Fault.Memory }
@@ -66,16 +66,16 @@ fn sweep_edges<I: OverlayInt>(
     below: &mut [Option<usize>],
     contours: usize,
 ) -> Result<(), Fault>
-    requires in_range { OwnedAreWithin I.least I.greatest (owned_edges_of I.value edges.now) }
-    requires anchors_in_range { OwnedAreWithin I.least I.greatest (owned_edges_of I.value anchors.now) }
+    requires in_range { OwnedAreWithin I.least I.greatest (owned_edges_of edges.now) }
+    requires anchors_in_range { OwnedAreWithin I.least I.greatest (owned_edges_of anchors.now) }
     requires few { length edges.now < 2 ^ 31 }
-    requires sweepable { AreSweepable (owned_edges_of I.value edges.now) }
-    requires sought { All (λ a. IsSought (owned_edges_of I.value edges.now) a.edge) (owned_edges_of I.value anchors.now) }
-    requires rising { AreRising (owned_edges_of I.value anchors.now) }
+    requires sweepable { AreSweepable (owned_edges_of edges.now) }
+    requires sought { All (λ a. IsSought (owned_edges_of edges.now) a.edge) (owned_edges_of anchors.now) }
+    requires rising { AreRising (owned_edges_of anchors.now) }
     requires numbers { All (λ a. a.contour < length below.old) anchors.now }
     ensures len { length below.new ≡ length below.old }
     ensures is { (met : ℕ → Option ℕ) →
-        All (λ a. number_met (way_down (owned_edges_of I.value edges.now) true a.edge) ≡ met a.contour) (owned_edges_of I.value anchors.now) →
+        All (λ a. number_met (way_down (owned_edges_of edges.now) true a.edge) ≡ met a.contour) (owned_edges_of anchors.now) →
         OnOk result (All (λ a. (d : _) → slice_index_or below.new a.contour d ≡ met a.contour) anchors.now) }
     ensures rest { OnOk result ((n : ℕ) (d : _) → All (λ a. a.contour ≢ n) anchors.now →
         slice_index_or below.new n d ≡ slice_index_or below.old n d) }
@@ -98,16 +98,16 @@ fn sweep_by_list<I: OverlayInt, L: Ledger>(
     requires name { blank.name ≡ L.name }
     requires parts { blank.parts ≡ L.parts }
     requires two { blank.parts ≡ 2 }
-    requires in_range { OwnedAreWithin I.least I.greatest (owned_edges_of I.value edges.now) }
-    requires anchors_in_range { OwnedAreWithin I.least I.greatest (owned_edges_of I.value anchors.now) }
+    requires in_range { OwnedAreWithin I.least I.greatest (owned_edges_of edges.now) }
+    requires anchors_in_range { OwnedAreWithin I.least I.greatest (owned_edges_of anchors.now) }
     requires few { length edges.now < 2 ^ 31 }
-    requires sweepable { AreSweepable (owned_edges_of I.value edges.now) }
-    requires sought { All (λ a. IsSought (owned_edges_of I.value edges.now) a.edge) (owned_edges_of I.value anchors.now) }
-    requires rising { AreRising (owned_edges_of I.value anchors.now) }
+    requires sweepable { AreSweepable (owned_edges_of edges.now) }
+    requires sought { All (λ a. IsSought (owned_edges_of edges.now) a.edge) (owned_edges_of anchors.now) }
+    requires rising { AreRising (owned_edges_of anchors.now) }
     requires numbers { All (λ a. a.contour < length below.old) anchors.now }
     ensures len { length below.new ≡ length below.old }
     ensures is { (met : ℕ → Option ℕ) →
-        All (λ a. number_met (way_down (owned_edges_of I.value edges.now) true a.edge) ≡ met a.contour) (owned_edges_of I.value anchors.now) →
+        All (λ a. number_met (way_down (owned_edges_of edges.now) true a.edge) ≡ met a.contour) (owned_edges_of anchors.now) →
         OnOk result (All (λ a. (d : _) → slice_index_or below.new a.contour d ≡ met a.contour) anchors.now) }
     ensures rest { OnOk result ((n : ℕ) (d : _) → All (λ a. a.contour ≢ n) anchors.now →
         slice_index_or below.new n d ≡ slice_index_or below.old n d) }
@@ -129,16 +129,16 @@ fn sweep_by_tree<I: OverlayInt, L: Ledger>(
     requires name { blank.name ≡ L.name }
     requires parts { blank.parts ≡ L.parts }
     requires two { blank.parts ≡ 2 }
-    requires in_range { OwnedAreWithin I.least I.greatest (owned_edges_of I.value edges.now) }
-    requires anchors_in_range { OwnedAreWithin I.least I.greatest (owned_edges_of I.value anchors.now) }
+    requires in_range { OwnedAreWithin I.least I.greatest (owned_edges_of edges.now) }
+    requires anchors_in_range { OwnedAreWithin I.least I.greatest (owned_edges_of anchors.now) }
     requires few { length edges.now < 2 ^ 31 }
-    requires sweepable { AreSweepable (owned_edges_of I.value edges.now) }
-    requires sought { All (λ a. IsSought (owned_edges_of I.value edges.now) a.edge) (owned_edges_of I.value anchors.now) }
-    requires rising { AreRising (owned_edges_of I.value anchors.now) }
+    requires sweepable { AreSweepable (owned_edges_of edges.now) }
+    requires sought { All (λ a. IsSought (owned_edges_of edges.now) a.edge) (owned_edges_of anchors.now) }
+    requires rising { AreRising (owned_edges_of anchors.now) }
     requires numbers { All (λ a. a.contour < length below.old) anchors.now }
     ensures len { length below.new ≡ length below.old }
     ensures is { (met : ℕ → Option ℕ) →
-        All (λ a. number_met (way_down (owned_edges_of I.value edges.now) true a.edge) ≡ met a.contour) (owned_edges_of I.value anchors.now) →
+        All (λ a. number_met (way_down (owned_edges_of edges.now) true a.edge) ≡ met a.contour) (owned_edges_of anchors.now) →
         OnOk result (All (λ a. (d : _) → slice_index_or below.new a.contour d ≡ met a.contour) anchors.now) }
     ensures rest { OnOk result ((n : ℕ) (d : _) → All (λ a. a.contour ≢ n) anchors.now →
         slice_index_or below.new n d ≡ slice_index_or below.old n d) }
@@ -157,17 +157,17 @@ fn sweep<I: OverlayInt, C: KeyExpCollection<VSegment<I>, I, Option<usize>>, L: L
     below: &mut [Option<usize>],
     steps: &mut Steps<L>,
 ) -> Result<(), Fault>
-    requires in_range { OwnedAreWithin I.least I.greatest (owned_edges_of I.value edges.now) }
-    requires anchors_in_range { OwnedAreWithin I.least I.greatest (owned_edges_of I.value anchors.now) }
+    requires in_range { OwnedAreWithin I.least I.greatest (owned_edges_of edges.now) }
+    requires anchors_in_range { OwnedAreWithin I.least I.greatest (owned_edges_of anchors.now) }
     requires few { length edges.now < 2 ^ 31 }
-    requires sweepable { AreSweepable (owned_edges_of I.value edges.now) }
-    requires sought { All (λ a. IsSought (owned_edges_of I.value edges.now) a.edge) (owned_edges_of I.value anchors.now) }
-    requires rising { AreRising (owned_edges_of I.value anchors.now) }
+    requires sweepable { AreSweepable (owned_edges_of edges.now) }
+    requires sought { All (λ a. IsSought (owned_edges_of edges.now) a.edge) (owned_edges_of anchors.now) }
+    requires rising { AreRising (owned_edges_of anchors.now) }
     requires numbers { All (λ a. a.contour < length below.old) anchors.now }
     requires nothing { C.live_list live.old ≡ nothing_kept }
     ensures len { length below.new ≡ length below.old }
     ensures is { (met : ℕ → Option ℕ) →
-        All (λ a. number_met (way_down (owned_edges_of I.value edges.now) true a.edge) ≡ met a.contour) (owned_edges_of I.value anchors.now) →
+        All (λ a. number_met (way_down (owned_edges_of edges.now) true a.edge) ≡ met a.contour) (owned_edges_of anchors.now) →
         OnOk result (All (λ a. (d : _) → slice_index_or below.new a.contour d ≡ met a.contour) anchors.now) }
     ensures rest { OnOk result ((n : ℕ) (d : _) → All (λ a. a.contour ≢ n) anchors.now →
         slice_index_or below.new n d ≡ slice_index_or below.old n d) }
@@ -192,16 +192,16 @@ fn make_live<I: OverlayInt, C: KeyExpCollection<VSegment<I>, I, Option<usize>>, 
     live: &mut C,
     steps: &mut Steps<L>,
 ) -> Result<usize, Fault>
-    requires in_range { OwnedAreWithin I.least I.greatest (owned_edges_of I.value edges.now) }
+    requires in_range { OwnedAreWithin I.least I.greatest (owned_edges_of edges.now) }
     requires few { length edges.now < 2 ^ 31 }
-    requires sweepable { AreSweepable (owned_edges_of I.value edges.now) }
+    requires sweepable { AreSweepable (owned_edges_of edges.now) }
     requires within { from ≤ length edges.now }
-    requires swept { IsSwept I.value I.cmp ⟦<VSegment<I> as ExpiredKey<I>>⟧.expires (edge_of I.value)
-        (owned_edges_of I.value edges.now) from (I.value x) (C.live_list live.old) }
+    requires swept { IsSwept I.value I.cmp ⟦<VSegment<I> as ExpiredKey<I>>⟧.expires edge_of
+        (owned_edges_of edges.now) from (I.value x) (C.live_list live.old) }
     ensures within { IfOk result (λ next. next ≤ length edges.now) }
-    ensures swept { IfOk result (λ next. IsSwept I.value I.cmp ⟦<VSegment<I> as ExpiredKey<I>>⟧.expires (edge_of I.value)
-        (owned_edges_of I.value edges.now) next (I.value x) (C.live_list live.new)) }
-    ensures later { IfOk result (λ next. All (λ o. I.value x <ℤ o.edge.a.x) (drop next (owned_edges_of I.value edges.now))) }
+    ensures swept { IfOk result (λ next. IsSwept I.value I.cmp ⟦<VSegment<I> as ExpiredKey<I>>⟧.expires edge_of
+        (owned_edges_of edges.now) next (I.value x) (C.live_list live.new)) }
+    ensures later { IfOk result (λ next. All (λ o. I.value x <ℤ o.edge.a.x) (drop next (owned_edges_of edges.now))) }
     ensures memory { IsOkUnless result Fault.Memory }
 {
     for place in from..edges.len() {
@@ -221,15 +221,15 @@ fn insert_edge<I: OverlayInt, C: KeyExpCollection<VSegment<I>, I, Option<usize>>
     live: &mut C,
     steps: &mut Steps<L>,
 ) -> Result<(), Fault>
-    requires in_range { OwnedAreWithin I.least I.greatest (owned_edges_of I.value edges.now) }
+    requires in_range { OwnedAreWithin I.least I.greatest (owned_edges_of edges.now) }
     requires few { length edges.now < 2 ^ 31 }
-    requires sweepable { AreSweepable (owned_edges_of I.value edges.now) }
+    requires sweepable { AreSweepable (owned_edges_of edges.now) }
     requires within { place < length edges.now }
-    requires begun { (d : _) → I.value (slice_index_or edges.now place d).edge.a.x ≤ℤ I.value x }
-    requires swept { IsSwept I.value I.cmp ⟦<VSegment<I> as ExpiredKey<I>>⟧.expires (edge_of I.value)
-        (owned_edges_of I.value edges.now) place (I.value x) (C.live_list live.old) }
-    ensures swept { OnOk result (IsSwept I.value I.cmp ⟦<VSegment<I> as ExpiredKey<I>>⟧.expires (edge_of I.value)
-        (owned_edges_of I.value edges.now) (place + 1) (I.value x) (C.live_list live.new)) }
+    requires begun { (d : _) → (slice_index_or edges.now place d).edge.a.x ≤ℤ I.value x }
+    requires swept { IsSwept I.value I.cmp ⟦<VSegment<I> as ExpiredKey<I>>⟧.expires edge_of
+        (owned_edges_of edges.now) place (I.value x) (C.live_list live.old) }
+    ensures swept { OnOk result (IsSwept I.value I.cmp ⟦<VSegment<I> as ExpiredKey<I>>⟧.expires edge_of
+        (owned_edges_of edges.now) (place + 1) (I.value x) (C.live_list live.new)) }
     ensures memory { IsOkUnless result Fault.Memory }
 {
     entries_are_new_or_old::<VSegment<I>, I, Option<usize>>();
@@ -242,19 +242,19 @@ fn insert_edge<I: OverlayInt, C: KeyExpCollection<VSegment<I>, I, Option<usize>>
 
 // The column at which an edge begins.
 fn start_of<I: OverlayInt>(edge: XSegment<I>) -> I
-    ensures { result ≡ edge.a.x }
+    ensures { I.value result ≡ edge.a.x }
 {
     edge.a.x
 }
 
 fn begins_beyond<I: OverlayInt>(edge: XSegment<I>, x: I) -> bool
-    ensures { result ≡ int_lt (I.value x) (I.value edge.a.x) }
+    ensures { result ≡ int_lt (I.value x) edge.a.x }
 {
     is_less(x, edge.a.x)
 }
 
 fn ends_beyond<I: OverlayInt>(edge: XSegment<I>, x: I) -> bool
-    ensures { result ≡ int_lt (I.value x) (I.value edge.b.x) }
+    ensures { result ≡ int_lt (I.value x) edge.b.x }
 {
     is_less(x, edge.b.x)
 }

@@ -26,9 +26,9 @@ pub(crate) fn child_links<I: OverlayInt>(
     clockwise: bool,
     shapes: &[IntShape<I>],
 ) -> Result<Vec<ChildLink>, Fault>
-    requires in_range { ShapesAreWithin I.least I.greatest (shapes_of I.value shapes.now) }
-    requires can_be_bound { CanBeBound clockwise (contours_in (shapes_of I.value shapes.now)) }
-    ensures is { IfOk result (λ links. links.items ≡ child_links clockwise (shapes_of I.value shapes.now)) }
+    requires in_range { ShapesAreWithin I.least I.greatest (shapes_of shapes.now) }
+    requires can_be_bound { CanBeBound clockwise (contours_in (shapes_of shapes.now)) }
+    ensures is { IfOk result (λ links. links.items ≡ child_links clockwise (shapes_of shapes.now)) }
     ensures memory { IsOkUnless result Fault.Memory }
 {
     let contours = contours_inside_out(alloc, shapes)?;
@@ -44,7 +44,7 @@ fn contours_inside_out<I: OverlayInt>(
     alloc: Global,
     shapes: &[IntShape<I>],
 ) -> Result<Vec<Contour<I>>, Fault>
-    ensures is { IfOk result (λ contours. walks_of I.value contours.items ≡ map inside_out (contours_in (shapes_of I.value shapes.now))) }
+    ensures is { IfOk result (λ contours. walks_of contours.items ≡ map inside_out (contours_in (shapes_of shapes.now))) }
     ensures memory { IsOkUnless result Fault.Memory }
 {
     let mut contours = Vec::new(alloc);
@@ -60,8 +60,8 @@ fn add_inside_out<I: OverlayInt>(
     shape: &[IntContour<I>],
     contours: &mut Vec<Contour<I>>,
 ) -> Result<(), Fault>
-    ensures is { OnOk result (walks_of I.value contours.new.items
-        ≡ walks_of I.value contours.old.items ++ map inside_out (contours_of_shape (contours_of I.value shape.now))) }
+    ensures is { OnOk result (walks_of contours.new.items
+        ≡ walks_of contours.old.items ++ map inside_out (contours_of_shape (contours_of shape.now))) }
     ensures memory { IsOkUnless result Fault.Memory }
 {
     let (outline, holes) = shape.split_at(shape.len().min(1));
@@ -77,8 +77,8 @@ fn owners_of_holes<I: OverlayInt>(
 ) -> Result<Vec<Option<usize>>, Fault>
     requires all { length owners.now ≡ length contours.now }
     ensures is { (owner : ℕ → Option ℕ) →
-        ((n : ℕ) (d : _) → IsHole (walks_of I.value contours.now) n → slice_index_or owners.now n d ≡ owner n) →
-        IfOk result (λ found. found.items ≡ map owner (hole_numbers 0 (walks_of I.value contours.now))) }
+        ((n : ℕ) (d : _) → IsHole (walks_of contours.now) n → slice_index_or owners.now n d ≡ owner n) →
+        IfOk result (λ found. found.items ≡ map owner (hole_numbers 0 (walks_of contours.now))) }
     ensures memory { IsOkUnless result Fault.Memory }
 {
     let mut found = Vec::new(alloc);

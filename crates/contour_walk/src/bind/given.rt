@@ -26,11 +26,11 @@ pub(crate) fn owners_among<I: OverlayInt>(
     clockwise: bool,
     contours: &[Contour<I>],
 ) -> Result<Vec<Option<usize>>, Fault>
-    requires in_range { ContoursAreWithin I.least I.greatest (walks_of I.value contours.now) }
-    requires bound { CanBeBound clockwise (walks_of I.value contours.now) }
+    requires in_range { ContoursAreWithin I.least I.greatest (walks_of contours.now) }
+    requires bound { CanBeBound clockwise (walks_of contours.now) }
     ensures len { IfOk result (λ owners. length owners.items ≡ length contours.now) }
-    ensures is { IfOk result (λ owners. (n : ℕ) (d : _) → IsHole (walks_of I.value contours.now) n → slice_index_or owners.items n d
-        ≡ owner_below (stepped_from clockwise 0 (walks_of I.value contours.now)) (walks_of I.value contours.now) (length contours.now) n) }
+    ensures is { IfOk result (λ owners. (n : ℕ) (d : _) → IsHole (walks_of contours.now) n → slice_index_or owners.items n d
+        ≡ owner_below (stepped_from clockwise 0 (walks_of contours.now)) (walks_of contours.now) (length contours.now) n) }
     ensures memory { IsOkUnless result Fault.Memory }
 {
     let below = below_holes(alloc, clockwise, contours)?;
@@ -43,10 +43,10 @@ fn below_holes<I: OverlayInt>(
     clockwise: bool,
     contours: &[Contour<I>],
 ) -> Result<Vec<Option<usize>>, Fault>
-    requires in_range { ContoursAreWithin I.least I.greatest (walks_of I.value contours.now) }
-    requires bound { CanBeBound clockwise (walks_of I.value contours.now) }
+    requires in_range { ContoursAreWithin I.least I.greatest (walks_of contours.now) }
+    requires bound { CanBeBound clockwise (walks_of contours.now) }
     ensures len { IfOk result (λ below. length below.items ≡ length contours.now) }
-    ensures is { IfOk result (λ below. AreBelow (stepped_from clockwise 0 (walks_of I.value contours.now)) (walks_of I.value contours.now) below.items) }
+    ensures is { IfOk result (λ below. AreBelow (stepped_from clockwise 0 (walks_of contours.now)) (walks_of contours.now) below.items) }
     ensures memory { IsOkUnless result Fault.Memory }
 {
     let edges = swept_edges(alloc, clockwise, contours)?;
@@ -59,7 +59,7 @@ fn below_holes<I: OverlayInt>(
 
 // Whether one of the edges is vertical.
 fn has_vertical<I: OverlayInt>(edges: &[OwnedEdge<I>]) -> bool
-    ensures { IsFalse result → All (λ o. int_lt o.edge.a.x o.edge.b.x ≡ true) (owned_edges_of I.value edges.now) }
+    ensures { IsFalse result → All (λ o. int_lt o.edge.a.x o.edge.b.x ≡ true) (owned_edges_of edges.now) }
 {
     for place in 0..edges.len() {
         if !is_wide(edges[place].edge) {
@@ -75,11 +75,11 @@ fn below_slowly<I: OverlayInt>(
     edges: &[OwnedEdge<I>],
     contours: &[Contour<I>],
 ) -> Result<Vec<Option<usize>>, Fault>
-    requires edges_in_range { OwnedAreWithin I.least I.greatest (owned_edges_of I.value edges.now) }
-    requires in_range { ContoursAreWithin I.least I.greatest (walks_of I.value contours.now) }
+    requires edges_in_range { OwnedAreWithin I.least I.greatest (owned_edges_of edges.now) }
+    requires in_range { ContoursAreWithin I.least I.greatest (walks_of contours.now) }
     ensures len { IfOk result (λ below. length below.items ≡ length contours.now) }
     ensures is { IfOk result (λ below. (n : ℕ) (d : _) → n < length contours.now → slice_index_or below.items n d
-        ≡ contour_below (owned_edges_of I.value edges.now) (walks_of I.value contours.now) n) }
+        ≡ contour_below (owned_edges_of edges.now) (walks_of contours.now) n) }
     ensures memory { IsOkUnless result Fault.Memory }
 {
     let mut below = Vec::new(alloc);

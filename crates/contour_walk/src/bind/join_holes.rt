@@ -4,13 +4,11 @@
 //! to the first shape. It takes n log n time, but quadratic time where an anchor is vertical, from 2^31 edges on, and at worst where holes
 //! don't come in the order of their anchors.
 
-ghost use Rattle.std.specs.Prelude.{◌≡◌, ◌≤◌, ◌<◌, ◌+◌, ◌++◌, ◌∷◌, [], List, ℕ, Bool, IfOk, OnOk, OnErr, IsOkUnless, length, map, replicate, slice_index_or};
+ghost use Rattle.std.specs.Prelude.{◌≡◌, ◌≤◌, ◌<◌, ◌+◌, ◌++◌, ◌∷◌, [], List, ℕ, IfOk, OnOk, OnErr, IsOkUnless, length, map, replicate, slice_index_or};
 ghost use Rattle.plane_base.specs.Plane.{Point};
-ghost use Rattle.plane_base.specs.Views.{points_of};
 ghost use Rattle.plane_base.specs.GivenViews.{contours_of};
-ghost use Rattle.contour_walk.specs.BindingLaws.{all_contours};
 ghost use Rattle.contour_walk.specs.ShapeViews.{walks_of, shapes_of, ContoursAreWithin};
-ghost use Rattle.contour_walk.specs.JoinedHoles.{as_bound, contours_among, shape_numbers, shape_met, joined_by, joined, CanBeBound};
+ghost use Rattle.contour_walk.specs.JoinedHoles.{contours_among, shape_numbers, shape_met, joined_by, joined, CanBeBound};
 
 use crate::bind::given::owners_among;
 use crate::contour::Contour;
@@ -38,16 +36,16 @@ pub trait JoinHoles<I: OverlayInt> {
         clockwise: bool,
     ) -> Result<(), Fault>
         requires in_range { 2 ≤ length (contours self.old) →
-            ContoursAreWithin I.least I.greatest (contours_among (contours self.old) (contours_of I.value holes.now)) }
+            ContoursAreWithin I.least I.greatest (contours_among (contours self.old) (contours_of holes.now)) }
         requires can_be_bound { 2 ≤ length (contours self.old) →
-            CanBeBound clockwise (contours_among (contours self.old) (contours_of I.value holes.now)) }
-        ensures is { OnOk result (contours self.new ≡ joined clockwise (contours self.old) (contours_of I.value holes.now)) }
+            CanBeBound clockwise (contours_among (contours self.old) (contours_of holes.now)) }
+        ensures is { OnOk result (contours self.new ≡ joined clockwise (contours self.old) (contours_of holes.now)) }
         ensures refused { OnErr result (contours self.new ≡ []) }
         ensures memory { IsOkUnless result Fault.Memory };
 }
 
 impl<I: OverlayInt> JoinHoles<I> for IntShapes<I> {
-    ghost contours = { λ s. shapes_of I.value s.shapes.items };
+    ghost contours = { λ s. shapes_of s.shapes.items };
 
     fn join_unsorted_holes(
         &mut self,
@@ -71,11 +69,11 @@ fn join<I: OverlayInt>(
     shapes: &mut [IntShape<I>],
 ) -> Result<(), Fault>
     requires in_range { 2 ≤ length shapes.old →
-        ContoursAreWithin I.least I.greatest (contours_among (shapes_of I.value shapes.old) (contours_of I.value holes.now)) }
+        ContoursAreWithin I.least I.greatest (contours_among (shapes_of shapes.old) (contours_of holes.now)) }
     requires can_be_bound { 2 ≤ length shapes.old →
-        CanBeBound clockwise (contours_among (shapes_of I.value shapes.old) (contours_of I.value holes.now)) }
+        CanBeBound clockwise (contours_among (shapes_of shapes.old) (contours_of holes.now)) }
     ensures len { length shapes.new ≡ length shapes.old }
-    ensures is { OnOk result (shapes_of I.value shapes.new ≡ joined clockwise (shapes_of I.value shapes.old) (contours_of I.value holes.now)) }
+    ensures is { OnOk result (shapes_of shapes.new ≡ joined clockwise (shapes_of shapes.old) (contours_of holes.now)) }
     ensures memory { IsOkUnless result Fault.Memory }
 {
     if shapes.is_empty() {
@@ -92,8 +90,8 @@ fn join<I: OverlayInt>(
 
 // Adds all holes to one shape.
 fn add_all<I: OverlayInt>(holes: &[IntContour<I>], shape: &mut IntShape<I>) -> Result<(), Fault>
-    ensures is { OnOk result (contours_of I.value shape.new.contours.items
-        ≡ contours_of I.value shape.old.contours.items ++ contours_of I.value holes.now) }
+    ensures is { OnOk result (contours_of shape.new.contours.items
+        ≡ contours_of shape.old.contours.items ++ contours_of holes.now) }
     ensures memory { IsOkUnless result Fault.Memory }
 {
     for hole in 0..holes.len() {
@@ -107,7 +105,7 @@ pub(crate) fn shape_numbers<I: OverlayInt>(
     alloc: Global,
     shapes: &[IntShape<I>],
 ) -> Result<Vec<usize>, Fault>
-    ensures is { IfOk result (λ numbers. numbers.items ≡ shape_numbers 0 (shapes_of I.value shapes.now)) }
+    ensures is { IfOk result (λ numbers. numbers.items ≡ shape_numbers 0 (shapes_of shapes.now)) }
     ensures memory { IsOkUnless result Fault.Memory }
 {
     let mut numbers = Vec::new(alloc);
@@ -134,8 +132,8 @@ fn contours_among<I: OverlayInt>(
     shapes: &[IntShape<I>],
     holes: &[IntContour<I>],
 ) -> Result<Vec<Contour<I>>, Fault>
-    ensures is { IfOk result (λ contours. walks_of I.value contours.items
-        ≡ contours_among (shapes_of I.value shapes.now) (contours_of I.value holes.now)) }
+    ensures is { IfOk result (λ contours. walks_of contours.items
+        ≡ contours_among (shapes_of shapes.now) (contours_of holes.now)) }
     ensures memory { IsOkUnless result Fault.Memory }
 {
     let mut contours = Vec::new(alloc);
@@ -153,8 +151,8 @@ pub(crate) fn add_contours<I: OverlayInt>(
     is_hole: bool,
     contours: &mut Vec<Contour<I>>,
 ) -> Result<(), Fault>
-    ensures is { OnOk result (walks_of I.value contours.new.items
-        ≡ walks_of I.value contours.old.items ++ map (λ points. record { points = points; is_hole = is_hole }) (contours_of I.value added.now)) }
+    ensures is { OnOk result (walks_of contours.new.items
+        ≡ walks_of contours.old.items ++ map (λ points. record { points = points; is_hole = is_hole }) (contours_of added.now)) }
     ensures memory { IsOkUnless result Fault.Memory }
 {
     for place in 0..added.len() {
@@ -175,7 +173,7 @@ fn join_by<I: OverlayInt>(
     ensures len { length shapes.new ≡ length shapes.old }
     ensures is { (owner : ℕ → ℕ) → ((n : ℕ) (d : _) → n < length holes.now →
         shape_met numbers.now (slice_index_or owners.now (length numbers.now + n) d) ≡ owner n) →
-        OnOk result (shapes_of I.value shapes.new ≡ joined_by owner (contours_of I.value holes.now) 0 (shapes_of I.value shapes.old)) }
+        OnOk result (shapes_of shapes.new ≡ joined_by owner (contours_of holes.now) 0 (shapes_of shapes.old)) }
     ensures memory { IsOkUnless result Fault.Memory }
 {
     let first = numbers.len();
@@ -204,8 +202,8 @@ fn add_at<I: OverlayInt>(
 ) -> Result<(), Fault>
     ensures len { length shapes.new ≡ length shapes.old }
     ensures is { (owner : ℕ → ℕ) (first : List (List Point)) (before : List (List (List Point))) → owner (length first) ≡ at →
-        shapes_of I.value shapes.old ≡ joined_by owner first 0 before →
-        OnOk result (shapes_of I.value shapes.new ≡ joined_by owner (first ++ points_of I.value hole.now.points.items ∷ []) 0 before) }
+        shapes_of shapes.old ≡ joined_by owner first 0 before →
+        OnOk result (shapes_of shapes.new ≡ joined_by owner (first ++ hole.now.points.items ∷ []) 0 before) }
     ensures memory { IsOkUnless result Fault.Memory }
 {
     if at >= shapes.len() {
@@ -218,7 +216,7 @@ fn add_at<I: OverlayInt>(
 }
 
 fn copied<I: OverlayInt>(hole: &IntContour<I>) -> Result<IntContour<I>, Fault>
-    ensures is { IfOk result (λ path. points_of I.value path.points.items ≡ points_of I.value hole.now.points.items) }
+    ensures is { IfOk result (λ path. path.points.items ≡ hole.now.points.items) }
     ensures memory { IsOkUnless result Fault.Memory }
 {
     Ok(hole.clone()?)

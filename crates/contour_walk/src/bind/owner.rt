@@ -20,9 +20,9 @@ pub(crate) fn owners_by<I: OverlayInt>(
 ) -> Result<Vec<Option<usize>>, Fault>
     requires all { length below.now ≡ length contours.now }
     ensures len { IfOk result (λ owners. length owners.items ≡ length contours.now) }
-    ensures is { (edges : List Owned) → AreBelow edges (walks_of I.value contours.now) below.now →
-        IfOk result (λ owners. (n : ℕ) (d : _) → IsHole (walks_of I.value contours.now) n →
-        slice_index_or owners.items n d ≡ owner_below edges (walks_of I.value contours.now) (length contours.now) n) }
+    ensures is { (edges : List Owned) → AreBelow edges (walks_of contours.now) below.now →
+        IfOk result (λ owners. (n : ℕ) (d : _) → IsHole (walks_of contours.now) n →
+        slice_index_or owners.items n d ≡ owner_below edges (walks_of contours.now) (length contours.now) n) }
     ensures memory { IsOkUnless result Fault.Memory }
 {
     let mut owners = Vec::new(alloc);
@@ -45,9 +45,9 @@ fn follow<I: OverlayInt>(
     requires all { length below.now ≡ length contours.now }
     requires known { length owners.now ≡ length contours.now }
     requires within { hole < length contours.now }
-    ensures { (edges : List Owned) → AreBelow edges (walks_of I.value contours.now) below.now →
-        AreKnown edges (walks_of I.value contours.now) hole owners.now → IsHole (walks_of I.value contours.now) hole →
-        result ≡ owner_below edges (walks_of I.value contours.now) (length contours.now) hole }
+    ensures { (edges : List Owned) → AreBelow edges (walks_of contours.now) below.now →
+        AreKnown edges (walks_of contours.now) hole owners.now → IsHole (walks_of contours.now) hole →
+        result ≡ owner_below edges (walks_of contours.now) (length contours.now) hole }
 {
     let mut at = hole;
     for _step in 0..contours.len() {

@@ -3,8 +3,6 @@
 
 ghost use Rattle.std.specs.Prelude.{◌≡◌, List, ◌++◌, ◌&&◌, cond, not, int_le, int_lt, IfOk, OnOk, IfSome, IsOkUnless, length, map};
 ghost use Rattle.plane_base.specs.Segments.{IsEdgeWithin, precedes};
-ghost use Rattle.plane_base.specs.Views.{points_of};
-ghost use Rattle.plane_base.specs.SegmentViews.{edge_of};
 ghost use Rattle.contour_walk.specs.Walks.{contour_edges};
 ghost use Rattle.contour_walk.specs.Binding.{is_above, owned_from, is_under, higher, way_down, hole_owner};
 ghost use Rattle.contour_walk.specs.WalkViews.{borders_of};
@@ -15,14 +13,14 @@ use crate::bind::anchor::anchor;
 use crate::borders::Border;
 use crate::contour::{Contour, contour_edges};
 use plane_base::fault::Fault;
-use plane_base::int::OverlayInt;
+use plane_base::int::{IntNumber, OverlayInt};
 use plane_base::point::IntPoint;
 use plane_base::segment::{VSegment, XSegment, is_same_edge};
 use std::alloc::Global;
 
 /// An edge of an answer, whether the region is above it, and the number of its contour.
 #[derive(Clone, Copy, Debug, PartialEq, Eq)]
-pub(crate) struct OwnedEdge<I> {
+pub(crate) struct OwnedEdge<I: IntNumber> {
     pub(crate) edge: XSegment<I>,
     pub(crate) above: bool,
     pub(crate) contour: usize,
@@ -34,9 +32,9 @@ pub fn owners<I: OverlayInt>(
     links: &[Border<I>],
     contours: &[Contour<I>],
 ) -> Result<Vec<Option<usize>>, Fault>
-    requires { ContoursAreWithin I.least I.greatest (walks_of I.value contours.now) }
+    requires { ContoursAreWithin I.least I.greatest (walks_of contours.now) }
     ensures is { IfOk result (λ owners. owners.items ≡
-        owners_from (borders_of I.value links.now) (walks_of I.value contours.now) 0 (walks_of I.value contours.now)) }
+        owners_from (borders_of links.now) (walks_of contours.now) 0 (walks_of contours.now)) }
     ensures memory { IsOkUnless result Fault.Memory }
 {
     let edges = owned_from(alloc, links, contours)?;
@@ -54,10 +52,10 @@ fn owner_among<I: OverlayInt>(
     contours: &[Contour<I>],
     hole: usize,
 ) -> Result<Option<usize>, Fault>
-    requires edges_in_range { OwnedAreWithin I.least I.greatest (owned_edges_of I.value edges.now) }
-    requires contours_in_range { ContoursAreWithin I.least I.greatest (walks_of I.value contours.now) }
-    ensures is { (links : List _) → owned_edges_of I.value edges.now ≡ owned_from links 0 (walks_of I.value contours.now) →
-        IfOk result (λ owner. owner ≡ hole_owner links (walks_of I.value contours.now) (length contours.now) hole) }
+    requires edges_in_range { OwnedAreWithin I.least I.greatest (owned_edges_of edges.now) }
+    requires contours_in_range { ContoursAreWithin I.least I.greatest (walks_of contours.now) }
+    ensures is { (links : List _) → owned_edges_of edges.now ≡ owned_from links 0 (walks_of contours.now) →
+        IfOk result (λ owner. owner ≡ hole_owner links (walks_of contours.now) (length contours.now) hole) }
     ensures memory { IsOkUnless result Fault.Memory }
 {
     let mut at = hole;
@@ -83,10 +81,10 @@ pub(super) fn contour_below<I: OverlayInt>(
     contours: &[Contour<I>],
     number: usize,
 ) -> Result<Option<usize>, Fault>
-    requires edges_in_range { OwnedAreWithin I.least I.greatest (owned_edges_of I.value edges.now) }
-    requires contours_in_range { ContoursAreWithin I.least I.greatest (walks_of I.value contours.now) }
+    requires edges_in_range { OwnedAreWithin I.least I.greatest (owned_edges_of edges.now) }
+    requires contours_in_range { ContoursAreWithin I.least I.greatest (walks_of contours.now) }
     ensures is { IfOk result (λ found. found ≡
-        contour_below (owned_edges_of I.value edges.now) (walks_of I.value contours.now) number) }
+        contour_below (owned_edges_of edges.now) (walks_of contours.now) number) }
     ensures memory { IsOkUnless result Fault.Memory }
 {
     if number >= contours.len() {
@@ -107,8 +105,8 @@ fn owned_from<I: OverlayInt>(
     links: &[Border<I>],
     contours: &[Contour<I>],
 ) -> Result<Vec<OwnedEdge<I>>, Fault>
-    ensures is { IfOk result (λ edges. owned_edges_of I.value edges.items ≡
-        owned_from (borders_of I.value links.now) 0 (walks_of I.value contours.now)) }
+    ensures is { IfOk result (λ edges. owned_edges_of edges.items ≡
+        owned_from (borders_of links.now) 0 (walks_of contours.now)) }
     ensures memory { IsOkUnless result Fault.Memory }
 {
     let mut edges = Vec::new(alloc);
@@ -126,8 +124,8 @@ fn add_owned<I: OverlayInt>(
     points: &[IntPoint<I>],
     number: usize,
 ) -> Result<(), Fault>
-    ensures is { OnOk result (owned_edges_of I.value edges.new.items ≡ owned_edges_of I.value edges.old.items ++
-        map (owned (borders_of I.value links.now) number) (contour_edges (points_of I.value points.now))) }
+    ensures is { OnOk result (owned_edges_of edges.new.items ≡ owned_edges_of edges.old.items ++
+        map (owned (borders_of links.now) number) (contour_edges points.now)) }
     ensures memory { IsOkUnless result Fault.Memory }
 {
     for edge in &contour_edges(alloc, points)? {
@@ -137,7 +135,7 @@ fn add_owned<I: OverlayInt>(
 }
 
 fn owned<I: OverlayInt>(links: &[Border<I>], edge: XSegment<I>, contour: usize) -> OwnedEdge<I>
-    ensures { owned_of I.value result ≡ owned (borders_of I.value links.now) contour (edge_of I.value edge) }
+    ensures { owned_of result ≡ owned (borders_of links.now) contour edge }
 {
     OwnedEdge {
         edge,
@@ -148,7 +146,7 @@ fn owned<I: OverlayInt>(links: &[Border<I>], edge: XSegment<I>, contour: usize) 
 
 // Whether the region is above the link that is this edge.
 fn is_above<I: OverlayInt>(links: &[Border<I>], edge: XSegment<I>) -> bool
-    ensures { result ≡ is_above (borders_of I.value links.now) (edge_of I.value edge) }
+    ensures { result ≡ is_above (borders_of links.now) edge }
 {
     for i in 0..links.len() {
         let link = links[i];
@@ -166,11 +164,11 @@ fn way_down<I: OverlayInt>(
     above: bool,
     from: XSegment<I>,
 ) -> Option<OwnedEdge<I>>
-    requires edges_in_range { OwnedAreWithin I.least I.greatest (owned_edges_of I.value edges.now) }
-    requires from_in_range { IsEdgeWithin I.least I.greatest (edge_of I.value from) }
-    ensures is { owned_if_any I.value result ≡
-        way_down (owned_edges_of I.value edges.now) above (edge_of I.value from) }
-    ensures in_range { IfSome result (λ o. IsEdgeWithin I.least I.greatest (edge_of I.value o.edge)) }
+    requires edges_in_range { OwnedAreWithin I.least I.greatest (owned_edges_of edges.now) }
+    requires from_in_range { IsEdgeWithin I.least I.greatest from }
+    ensures is { owned_if_any result ≡
+        way_down (owned_edges_of edges.now) above from }
+    ensures in_range { IfSome result (λ o. IsEdgeWithin I.least I.greatest o.edge) }
 {
     let n = edges.len();
     let mut highest = None;
@@ -187,12 +185,12 @@ fn highest_with<I: OverlayInt>(
     edge: OwnedEdge<I>,
     highest: Option<OwnedEdge<I>>,
 ) -> Option<OwnedEdge<I>>
-    requires from_in_range { IsEdgeWithin I.least I.greatest (edge_of I.value from) }
-    requires edge_in_range { IsEdgeWithin I.least I.greatest (edge_of I.value edge.edge) }
-    requires highest_in_range { IfSome highest (λ o. IsEdgeWithin I.least I.greatest (edge_of I.value o.edge)) }
-    ensures is { owned_if_any I.value result ≡
-        highest_beside above (edge_of I.value from) (owned_of I.value edge) (owned_if_any I.value highest) }
-    ensures in_range { IfSome result (λ o. IsEdgeWithin I.least I.greatest (edge_of I.value o.edge)) }
+    requires from_in_range { IsEdgeWithin I.least I.greatest from }
+    requires edge_in_range { IsEdgeWithin I.least I.greatest edge.edge }
+    requires highest_in_range { IfSome highest (λ o. IsEdgeWithin I.least I.greatest o.edge) }
+    ensures is { owned_if_any result ≡
+        highest_beside above from (owned_of edge) (owned_if_any highest) }
+    ensures in_range { IfSome result (λ o. IsEdgeWithin I.least I.greatest o.edge) }
 {
     if !is_wanted(above, edge.above) || !is_under(from, edge.edge) {
         return highest;
@@ -208,16 +206,16 @@ fn is_wanted(above: bool, edge: bool) -> bool
 
 // Whether an edge reaches over the column that begins at another's first end, and passes below it there.
 fn is_under<I: OverlayInt>(from: XSegment<I>, edge: XSegment<I>) -> bool
-    requires from_in_range { IsEdgeWithin I.least I.greatest (edge_of I.value from) }
-    requires edge_in_range { IsEdgeWithin I.least I.greatest (edge_of I.value edge) }
-    ensures { result ≡ is_under (edge_of I.value from) (edge_of I.value edge) }
+    requires from_in_range { IsEdgeWithin I.least I.greatest from }
+    requires edge_in_range { IsEdgeWithin I.least I.greatest edge }
+    ensures { result ≡ is_under from edge }
 {
     spans_start(edge, from) && precedes(edge, from)
 }
 
 // Whether an edge reaches over the column that begins at another's first end.
 fn spans_start<I: OverlayInt>(edge: XSegment<I>, other: XSegment<I>) -> bool
-    ensures { result ≡ int_le (I.value edge.a.x) (I.value other.a.x) && int_lt (I.value other.a.x) (I.value edge.b.x) }
+    ensures { result ≡ int_le edge.a.x other.a.x && int_lt other.a.x edge.b.x }
 {
     spans(edge.a.x, edge.b.x, other.a.x)
 }
@@ -242,9 +240,9 @@ pub(super) fn is_less<I: OverlayInt>(a: I, b: I) -> bool
 
 // Whether an edge passes below another.
 fn precedes<I: OverlayInt>(edge: XSegment<I>, other: XSegment<I>) -> bool
-    requires edge_in_range { IsEdgeWithin I.least I.greatest (edge_of I.value edge) }
-    requires other_in_range { IsEdgeWithin I.least I.greatest (edge_of I.value other) }
-    ensures { result ≡ precedes (edge_of I.value edge) (edge_of I.value other) }
+    requires edge_in_range { IsEdgeWithin I.least I.greatest edge }
+    requires other_in_range { IsEdgeWithin I.least I.greatest other }
+    ensures { result ≡ precedes edge other }
 {
     VSegment::from_segment(edge)
         .column_order(VSegment::from_segment(other))
@@ -253,10 +251,10 @@ fn precedes<I: OverlayInt>(edge: XSegment<I>, other: XSegment<I>) -> bool
 
 // Of two edges that reach over one column the upper.
 fn higher<I: OverlayInt>(edge: OwnedEdge<I>, other: Option<OwnedEdge<I>>) -> OwnedEdge<I>
-    requires edge_in_range { IsEdgeWithin I.least I.greatest (edge_of I.value edge.edge) }
-    requires other_in_range { IfSome other (λ o. IsEdgeWithin I.least I.greatest (edge_of I.value o.edge)) }
-    ensures is { owned_of I.value result ≡ higher (owned_of I.value edge) (owned_if_any I.value other) }
-    ensures in_range { IsEdgeWithin I.least I.greatest (edge_of I.value result.edge) }
+    requires edge_in_range { IsEdgeWithin I.least I.greatest edge.edge }
+    requires other_in_range { IfSome other (λ o. IsEdgeWithin I.least I.greatest o.edge) }
+    ensures is { owned_of result ≡ higher (owned_of edge) (owned_if_any other) }
+    ensures in_range { IsEdgeWithin I.least I.greatest result.edge }
 {
     match other {
         None => edge,

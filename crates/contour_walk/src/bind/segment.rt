@@ -2,8 +2,8 @@
 //! begin. Degenerate cases: vertical edges are left out, vertical anchors aren't. It takes n log n time.
 
 ghost use Rattle.std.specs.Prelude.{◌≡◌, ◌++◌, ◌∷◌, [], IfOk, OnOk, IsOkUnless, IsPermutation, All, int_lt, map, filter};
+ghost use Rattle.std.specs.Ordering.{int_cmp};
 ghost use Rattle.plane_base.specs.Plane.{IsWithin};
-ghost use Rattle.plane_base.specs.Views.{point_of, points_of};
 ghost use Rattle.contour_walk.specs.WalkLaws.{contour_steps};
 ghost use Rattle.contour_walk.specs.ShapeViews.{contour_of, walks_of, ContoursAreWithin, owned_of, owned_edges_of};
 ghost use Rattle.contour_walk.specs.BinderSweep.{owned_step, stepped_from, is_swept, hole_anchors, AreRising};
@@ -17,6 +17,7 @@ use plane_base::int::OverlayInt;
 use plane_base::point::IntPoint;
 use plane_base::segment::{XSegment, comes_before};
 use std::alloc::Global;
+use std::cmp::Ordering;
 
 /// The edges that have the region above them and aren't vertical, by rising first ends. The steps of contours tell the sides.
 pub(crate) fn swept_edges<I: OverlayInt>(
@@ -25,8 +26,8 @@ pub(crate) fn swept_edges<I: OverlayInt>(
     contours: &[Contour<I>],
 ) -> Result<Vec<OwnedEdge<I>>, Fault>
     ensures is { IfOk result (λ edges.
-        IsPermutation (filter is_swept (stepped_from output 0 (walks_of I.value contours.now))) (owned_edges_of I.value edges.items)) }
-    ensures rising { IfOk result (λ edges. AreRising (owned_edges_of I.value edges.items)) }
+        IsPermutation (filter is_swept (stepped_from output 0 (walks_of contours.now))) (owned_edges_of edges.items)) }
+    ensures rising { IfOk result (λ edges. AreRising (owned_edges_of edges.items)) }
     ensures memory { IsOkUnless result Fault.Memory }
 {
     let mut edges = Vec::new(alloc);
@@ -44,8 +45,8 @@ fn add_swept<I: OverlayInt>(
     points: &[IntPoint<I>],
     number: usize,
 ) -> Result<(), Fault>
-    ensures is { OnOk result (owned_edges_of I.value edges.new.items ≡ owned_edges_of I.value edges.old.items
-        ++ filter is_swept (map (owned_step output number) (contour_steps (points_of I.value points.now)))) }
+    ensures is { OnOk result (owned_edges_of edges.new.items ≡ owned_edges_of edges.old.items
+        ++ filter is_swept (map (owned_step output number) (contour_steps points.now))) }
     ensures memory { IsOkUnless result Fault.Memory }
 {
     for place in 0..points.len() {
@@ -56,8 +57,8 @@ fn add_swept<I: OverlayInt>(
 }
 
 fn keep_swept<I: OverlayInt>(edges: &mut Vec<OwnedEdge<I>>, edge: OwnedEdge<I>) -> Result<(), Fault>
-    ensures is { OnOk result (owned_edges_of I.value edges.new.items ≡ owned_edges_of I.value edges.old.items
-        ++ filter is_swept (owned_of I.value edge ∷ [])) }
+    ensures is { OnOk result (owned_edges_of edges.new.items ≡ owned_edges_of edges.old.items
+        ++ filter is_swept (owned_of edge ∷ [])) }
     ensures memory { IsOkUnless result Fault.Memory }
 {
     if edge.above && is_wide(edge.edge) {
@@ -67,7 +68,7 @@ fn keep_swept<I: OverlayInt>(edges: &mut Vec<OwnedEdge<I>>, edge: OwnedEdge<I>) 
 }
 
 pub(crate) fn is_wide<I: OverlayInt>(edge: XSegment<I>) -> bool
-    ensures { result ≡ int_lt (I.value edge.a.x) (I.value edge.b.x) }
+    ensures { result ≡ int_lt edge.a.x edge.b.x }
 {
     is_less(edge.a.x, edge.b.x)
 }
@@ -78,7 +79,7 @@ fn owned_step<I: OverlayInt>(
     to: IntPoint<I>,
     contour: usize,
 ) -> OwnedEdge<I>
-    ensures { owned_of I.value result ≡ owned_step output contour (record { a = point_of I.value from; b = point_of I.value to }) }
+    ensures { owned_of result ≡ owned_step output contour (record { a = from; b = to }) }
 {
     let is_forward = comes_before(from, to);
     OwnedEdge {
@@ -93,9 +94,9 @@ pub(crate) fn sorted_anchors<I: OverlayInt>(
     alloc: Global,
     contours: &[Contour<I>],
 ) -> Result<Vec<OwnedEdge<I>>, Fault>
-    requires { ContoursAreWithin I.least I.greatest (walks_of I.value contours.now) }
-    ensures is { IfOk result (λ anchors. IsPermutation (hole_anchors 0 (walks_of I.value contours.now)) (owned_edges_of I.value anchors.items)) }
-    ensures rising { IfOk result (λ anchors. AreRising (owned_edges_of I.value anchors.items)) }
+    requires { ContoursAreWithin I.least I.greatest (walks_of contours.now) }
+    ensures is { IfOk result (λ anchors. IsPermutation (hole_anchors 0 (walks_of contours.now)) (owned_edges_of anchors.items)) }
+    ensures rising { IfOk result (λ anchors. AreRising (owned_edges_of anchors.items)) }
     ensures memory { IsOkUnless result Fault.Memory }
 {
     let mut anchors = Vec::new(alloc);
@@ -113,9 +114,9 @@ fn add_anchor<I: OverlayInt>(
     contour: &Contour<I>,
     number: usize,
 ) -> Result<(), Fault>
-    requires { All (IsWithin I.least I.greatest) (points_of I.value contour.now.points.items) }
-    ensures is { OnOk result (owned_edges_of I.value anchors.new.items ≡ owned_edges_of I.value anchors.old.items
-        ++ hole_anchors number (contour_of I.value contour.now ∷ [])) }
+    requires { All (IsWithin I.least I.greatest) contour.now.points.items }
+    ensures is { OnOk result (owned_edges_of anchors.new.items ≡ owned_edges_of anchors.old.items
+        ++ hole_anchors number (contour_of contour.now ∷ [])) }
     ensures memory { IsOkUnless result Fault.Memory }
 {
     if !contour.is_hole {
@@ -135,9 +136,13 @@ fn add_anchor<I: OverlayInt>(
 // By the columns at which edges begin.
 fn sort_by_start<I: OverlayInt>(edges: &mut [OwnedEdge<I>])
     ensures permutation { IsPermutation edges.old edges.new }
-    ensures rising { AreRising (owned_edges_of I.value edges.new) }
+    ensures rising { AreRising (owned_edges_of edges.new) }
 {
-    edges.sort_unstable_by(|one: &OwnedEdge<I>, other: &OwnedEdge<I>| {
-        one.edge.a.x.cmp(&other.edge.a.x)
-    });
+    edges.sort_unstable_by(|one: &OwnedEdge<I>, other: &OwnedEdge<I>| start_order(one, other));
+}
+
+fn start_order<I: OverlayInt>(one: &OwnedEdge<I>, other: &OwnedEdge<I>) -> Ordering
+    ensures { result ≡ int_cmp one.now.edge.a.x other.now.edge.a.x }
+{
+    one.edge.a.x.cmp(&other.edge.a.x)
 }

@@ -3,7 +3,6 @@
 
 ghost use Rattle.std.specs.Prelude.{◌∷◌, [], All, IfOk, OnOk, IsOkUnless, map};
 ghost use Rattle.plane_base.specs.Plane.{IsWithin};
-ghost use Rattle.plane_base.specs.Views.{points_of};
 ghost use Rattle.plane_base.specs.GivenViews.{contours_of};
 ghost use Rattle.contour_walk.specs.HierarchyViews.{AreLaidShapes};
 ghost use Rattle.contour_walk.specs.Shapes.{finished};
@@ -25,8 +24,8 @@ pub(crate) fn laid_flat<I: OverlayInt>(
     keep_all: bool,
     shapes: &[IntShape<I>],
 ) -> Result<FlatShapesBuffer<I>, Fault>
-    requires { ShapesAreWithin I.least I.greatest (shapes_of I.value shapes.now) }
-    ensures laid { IfOk result (AreLaidShapes I.value (map (map (finished keep_all)) (shapes_of I.value shapes.now))) }
+    requires { ShapesAreWithin I.least I.greatest (shapes_of shapes.now) }
+    ensures laid { IfOk result (AreLaidShapes (map (map (finished keep_all)) (shapes_of shapes.now))) }
     ensures memory { IsOkUnless result Fault.Memory }
 {
     let mut laid = FlatContoursBuffer::new(alloc);
@@ -50,8 +49,8 @@ fn add_shape<I: OverlayInt>(
     shape: &[IntContour<I>],
     laid: &mut FlatContoursBuffer<I>,
 ) -> Result<(), Fault>
-    requires in_range { All (All (IsWithin I.least I.greatest)) (contours_of I.value shape.now) }
-    ensures laid { OnOk result (LaysBehind I.value (map (finished keep_all) (contours_of I.value shape.now)) laid.old laid.new) }
+    requires in_range { All (All (IsWithin I.least I.greatest)) (contours_of shape.now) }
+    ensures laid { OnOk result (LaysBehind (map (finished keep_all) (contours_of shape.now)) laid.old laid.new) }
     ensures memory { IsOkUnless result Fault.Memory }
 {
     for contour in 0..shape.len() {
@@ -67,8 +66,8 @@ fn add_contour<I: OverlayInt>(
     points: &[IntPoint<I>],
     laid: &mut FlatContoursBuffer<I>,
 ) -> Result<(), Fault>
-    requires in_range { All (IsWithin I.least I.greatest) (points_of I.value points.now) }
-    ensures laid { OnOk result (LaysBehind I.value (finished keep_all (points_of I.value points.now) ∷ []) laid.old laid.new) }
+    requires in_range { All (IsWithin I.least I.greatest) points.now }
+    ensures laid { OnOk result (LaysBehind (finished keep_all points.now ∷ []) laid.old laid.new) }
     ensures memory { IsOkUnless result Fault.Memory }
 {
     if keep_all {

@@ -4,7 +4,6 @@
 
 ghost use Rattle.std.specs.Prelude.{◌≡◌, ◌++◌, ◌∷◌, [], All, IfOk, OnOk, IsOkUnless, map, filter};
 ghost use Rattle.plane_base.specs.Plane.{IsWithin};
-ghost use Rattle.plane_base.specs.Views.{points_of};
 ghost use Rattle.plane_base.specs.GivenViews.{contours_of};
 ghost use Rattle.contour_walk.specs.Least.{reaches, outline_reaches, behind_first, reaching};
 ghost use Rattle.contour_walk.specs.LeastViews.{shape_if_reaching, holes_if_left};
@@ -28,9 +27,9 @@ pub(crate) fn shapes_reaching<I: OverlayInt>(
     options: IntOverlayOptions,
     shapes: &mut [IntShape<I>],
 ) -> Result<IntShapes<I>, Fault>
-    requires { ShapesAreWithin I.least I.greatest (shapes_of I.value shapes.old) }
-    ensures is { IfOk result (λ kept. shapes_of I.value kept.shapes.items ≡
-        map (map (finished options.preserve_output_collinear)) (reaching options.min_output_area (shapes_of I.value shapes.old))) }
+    requires { ShapesAreWithin I.least I.greatest (shapes_of shapes.old) }
+    ensures is { IfOk result (λ kept. shapes_of kept.shapes.items ≡
+        map (map (finished options.preserve_output_collinear)) (reaching options.min_output_area (shapes_of shapes.old))) }
     ensures memory { IsOkUnless result Fault.Memory }
 {
     let mut kept = Vec::new(alloc);
@@ -51,11 +50,11 @@ fn sort_out<I: OverlayInt>(
     kept: &mut Vec<IntShape<I>>,
     left: &mut Vec<IntPath<I>>,
 ) -> Result<(), Fault>
-    requires { All (All (IsWithin I.least I.greatest)) (contours_of I.value contours.items) }
-    ensures kept { OnOk result (shapes_of I.value kept.new.items ≡ shapes_of I.value kept.old.items ++
-        map (map (finished options.preserve_output_collinear)) (shape_if_reaching options.min_output_area (contours_of I.value contours.items))) }
-    ensures left { OnOk result (contours_of I.value left.new.items ≡ contours_of I.value left.old.items ++
-        map (finished options.preserve_output_collinear) (holes_if_left options.min_output_area (contours_of I.value contours.items))) }
+    requires { All (All (IsWithin I.least I.greatest)) (contours_of contours.items) }
+    ensures kept { OnOk result (shapes_of kept.new.items ≡ shapes_of kept.old.items ++
+        map (map (finished options.preserve_output_collinear)) (shape_if_reaching options.min_output_area (contours_of contours.items))) }
+    ensures left { OnOk result (contours_of left.new.items ≡ contours_of left.old.items ++
+        map (finished options.preserve_output_collinear) (holes_if_left options.min_output_area (contours_of contours.items))) }
     ensures memory { IsOkUnless result Fault.Memory }
 {
     let mut contours = contours;
@@ -71,8 +70,8 @@ fn sort_out<I: OverlayInt>(
 
 // Whether the first contour is there and reaches the least area.
 fn outline_reaches<I: OverlayInt>(least: u64, contours: &[IntPath<I>]) -> bool
-    requires { All (All (IsWithin I.least I.greatest)) (contours_of I.value contours.now) }
-    ensures { result ≡ outline_reaches least (contours_of I.value contours.now) }
+    requires { All (All (IsWithin I.least I.greatest)) (contours_of contours.now) }
+    ensures { result ≡ outline_reaches least (contours_of contours.now) }
 {
     if contours.is_empty() {
         return false;
@@ -86,9 +85,9 @@ fn contours_reaching<I: OverlayInt>(
     options: IntOverlayOptions,
     contours: &mut [IntPath<I>],
 ) -> Result<Vec<IntPath<I>>, Fault>
-    requires { All (All (IsWithin I.least I.greatest)) (contours_of I.value contours.old) }
-    ensures is { IfOk result (λ found. contours_of I.value found.items ≡
-        map (finished options.preserve_output_collinear) (filter (reaches options.min_output_area) (contours_of I.value contours.old))) }
+    requires { All (All (IsWithin I.least I.greatest)) (contours_of contours.old) }
+    ensures is { IfOk result (λ found. contours_of found.items ≡
+        map (finished options.preserve_output_collinear) (filter (reaches options.min_output_area) (contours_of contours.old))) }
     ensures memory { IsOkUnless result Fault.Memory }
 {
     let mut found = Vec::new(alloc);
@@ -105,9 +104,9 @@ fn add_if_reaching<I: OverlayInt>(
     points: Vec<IntPoint<I>>,
     found: &mut Vec<IntPath<I>>,
 ) -> Result<(), Fault>
-    requires { All (IsWithin I.least I.greatest) (points_of I.value points.items) }
-    ensures is { OnOk result (contours_of I.value found.new.items ≡ contours_of I.value found.old.items ++
-        map (finished options.preserve_output_collinear) (filter (reaches options.min_output_area) (points_of I.value points.items ∷ []))) }
+    requires { All (IsWithin I.least I.greatest) points.items }
+    ensures is { OnOk result (contours_of found.new.items ≡ contours_of found.old.items ++
+        map (finished options.preserve_output_collinear) (filter (reaches options.min_output_area) (points.items ∷ []))) }
     ensures memory { IsOkUnless result Fault.Memory }
 {
     let mut points = points;
@@ -126,7 +125,7 @@ fn add_behind_first<I: OverlayInt>(
     holes: Vec<IntPath<I>>,
     shapes: &mut Vec<IntShape<I>>,
 ) -> Result<(), Fault>
-    ensures is { OnOk result (shapes_of I.value shapes.new.items ≡ behind_first (contours_of I.value holes.items) (shapes_of I.value shapes.old.items)) }
+    ensures is { OnOk result (shapes_of shapes.new.items ≡ behind_first (contours_of holes.items) (shapes_of shapes.old.items)) }
     ensures memory { IsOkUnless result Fault.Memory }
 {
     let mut holes = holes;

@@ -7,7 +7,6 @@
 ghost use Rattle.std.specs.Prelude.{◌≡◌, ◌≤◌, ◌<◌, ℕ, true, Some, List, [], ◌∷◌, ◌++◌, All, IfOk, OnOk, IsOkUnless, IfSome, length, map, flat_map};
 ghost use Rattle.std.specs.Ordering.{is_lt};
 ghost use Rattle.plane_base.specs.Plane.{Point, IsWithin};
-ghost use Rattle.plane_base.specs.Views.{point_of, points_of};
 ghost use Rattle.plane_base.specs.GivenViews.{contours_of};
 ghost use Rattle.contour_walk.specs.Walks.{Border};
 ghost use Rattle.contour_walk.specs.Binding.{least_point};
@@ -39,11 +38,11 @@ pub(crate) fn parted<I: OverlayInt>(
     output: bool,
     walks: &mut [Contour<I>],
 ) -> Result<Vec<Contour<I>>, Fault>
-    requires { ContoursAreWithin I.least I.greatest (walks_of I.value walks.old) }
-    ensures is { (links : List Border) → AreCut output links (flat_map (λ c. loops c.points) (walks_of I.value walks.old)) →
-        IfOk result (λ contours. walks_of I.value contours.items ≡
-        by_least (map (part_of output links) (flat_map (λ c. loops c.points) (walks_of I.value walks.old)))) }
-    ensures in_range { IfOk result (λ contours. ContoursAreWithin I.least I.greatest (walks_of I.value contours.items)) }
+    requires { ContoursAreWithin I.least I.greatest (walks_of walks.old) }
+    ensures is { (links : List Border) → AreCut output links (flat_map (λ c. loops c.points) (walks_of walks.old)) →
+        IfOk result (λ contours. walks_of contours.items ≡
+        by_least (map (part_of output links) (flat_map (λ c. loops c.points) (walks_of walks.old)))) }
+    ensures in_range { IfOk result (λ contours. ContoursAreWithin I.least I.greatest (walks_of contours.items)) }
     ensures memory { IsOkUnless result Fault.Memory }
 {
     let mut contours = Vec::new(alloc);
@@ -62,12 +61,12 @@ fn add_parts<I: OverlayInt>(
     path: Vec<IntPoint<I>>,
     contours: &mut Vec<Contour<I>>,
 ) -> Result<(), Fault>
-    requires in_range { All (IsWithin I.least I.greatest) (points_of I.value path.items) }
-    requires contours_in_range { ContoursAreWithin I.least I.greatest (walks_of I.value contours.old.items) }
-    ensures is { (links : List Border) → AreCut output links (loops (points_of I.value path.items)) →
-        OnOk result (walks_of I.value contours.new.items ≡
-        walks_of I.value contours.old.items ++ map (part_of output links) (loops (points_of I.value path.items))) }
-    ensures in_range { OnOk result (ContoursAreWithin I.least I.greatest (walks_of I.value contours.new.items)) }
+    requires in_range { All (IsWithin I.least I.greatest) path.items }
+    requires contours_in_range { ContoursAreWithin I.least I.greatest (walks_of contours.old.items) }
+    ensures is { (links : List Border) → AreCut output links (loops path.items) →
+        OnOk result (walks_of contours.new.items ≡
+        walks_of contours.old.items ++ map (part_of output links) (loops path.items)) }
+    ensures in_range { OnOk result (ContoursAreWithin I.least I.greatest (walks_of contours.new.items)) }
     ensures memory { IsOkUnless result Fault.Memory }
 {
     if is_one_loop(&path) {
@@ -81,8 +80,8 @@ fn add_parts<I: OverlayInt>(
 // Whether a short path comes back to no point, where none of its loops has less than three points: a point is then looked for behind the
 // two before it.
 fn is_one_loop<I: OverlayInt>(path: &[IntPoint<I>]) -> bool
-    ensures { result ≡ true → All (λ l. 3 ≤ length l) (loops (points_of I.value path.now)) →
-        loops (points_of I.value path.now) ≡ points_of I.value path.now ∷ [] }
+    ensures { result ≡ true → All (λ l. 3 ≤ length l) (loops path.now) →
+        loops path.now ≡ path.now ∷ [] }
 {
     let n = path.len();
     if n > SHORT {
@@ -104,12 +103,12 @@ fn add_loops<I: OverlayInt>(
     loops: &mut [IntPath<I>],
     contours: &mut Vec<Contour<I>>,
 ) -> Result<(), Fault>
-    requires in_range { All (All (IsWithin I.least I.greatest)) (contours_of I.value loops.old) }
-    requires contours_in_range { ContoursAreWithin I.least I.greatest (walks_of I.value contours.old.items) }
-    ensures is { (links : List Border) → AreCut output links (contours_of I.value loops.old) →
-        OnOk result (walks_of I.value contours.new.items ≡
-        walks_of I.value contours.old.items ++ map (part_of output links) (contours_of I.value loops.old)) }
-    ensures in_range { OnOk result (ContoursAreWithin I.least I.greatest (walks_of I.value contours.new.items)) }
+    requires in_range { All (All (IsWithin I.least I.greatest)) (contours_of loops.old) }
+    requires contours_in_range { ContoursAreWithin I.least I.greatest (walks_of contours.old.items) }
+    ensures is { (links : List Border) → AreCut output links (contours_of loops.old) →
+        OnOk result (walks_of contours.new.items ≡
+        walks_of contours.old.items ++ map (part_of output links) (contours_of loops.old)) }
+    ensures in_range { OnOk result (ContoursAreWithin I.least I.greatest (walks_of contours.new.items)) }
     ensures memory { IsOkUnless result Fault.Memory }
 {
     for number in 0..loops.len() {
@@ -121,10 +120,10 @@ fn add_loops<I: OverlayInt>(
 
 // A loop as a contour.
 fn part_of<I: OverlayInt>(output: bool, points: Vec<IntPoint<I>>) -> Contour<I>
-    requires in_range { All (IsWithin I.least I.greatest) (points_of I.value points.items) }
-    ensures is { (links : List Border) → IsTold output links (points_of I.value points.items) →
-        contour_of I.value result ≡ part_of output links (points_of I.value points.items) }
-    ensures in_range { All (IsWithin I.least I.greatest) (points_of I.value result.points.items) }
+    requires in_range { All (IsWithin I.least I.greatest) points.items }
+    ensures is { (links : List Border) → IsTold output links points.items →
+        contour_of result ≡ part_of output links points.items }
+    ensures in_range { All (IsWithin I.least I.greatest) result.points.items }
 {
     let mut points = points;
     begin_before_least(&mut points);
@@ -135,8 +134,8 @@ fn part_of<I: OverlayInt>(output: bool, points: Vec<IntPoint<I>>) -> Contour<I>
 
 // Whether the region is below the anchor of a loop that begins with the point before its least and doesn't come back there.
 fn is_hole<I: OverlayInt>(output: bool, points: &[IntPoint<I>]) -> bool
-    requires in_range { All (IsWithin I.least I.greatest) (points_of I.value points.now) }
-    ensures is { (last v next : Point) (rest : List Point) → points_of I.value points.now ≡ last ∷ v ∷ next ∷ rest →
+    requires in_range { All (IsWithin I.least I.greatest) points.now }
+    ensures is { (last v next : Point) (rest : List Point) → points.now ≡ last ∷ v ∷ next ∷ rest →
         result ≡ told_hole output last v next }
 {
     let n = points.len();
@@ -152,7 +151,7 @@ fn is_hole<I: OverlayInt>(output: bool, points: &[IntPoint<I>]) -> bool
 
 // Whether the region is above the edge of a step that has it on the hand.
 fn is_above_step<I: OverlayInt>(output: bool, from: IntPoint<I>, to: IntPoint<I>) -> bool
-    ensures { result ≡ above_step output (record { a = point_of I.value from; b = point_of I.value to }) }
+    ensures { result ≡ above_step output (record { a = from; b = to }) }
 {
     let is_forward = comes_before(from, to);
     if output { !is_forward } else { is_forward }
@@ -160,7 +159,7 @@ fn is_above_step<I: OverlayInt>(output: bool, from: IntPoint<I>, to: IntPoint<I>
 
 // Begins a contour with its second point, or leaves it as it is.
 fn begin<I: OverlayInt>(second: bool, points: &mut Vec<IntPoint<I>>)
-    ensures { points_of I.value points.new.items ≡ begun second (points_of I.value points.old.items) }
+    ensures { points.new.items ≡ begun second points.old.items }
 {
     if second && !points.is_empty() {
         points.rotate_left(1);
@@ -169,10 +168,10 @@ fn begin<I: OverlayInt>(second: bool, points: &mut Vec<IntPoint<I>>)
 
 // Begins a contour with the point before its least.
 fn begin_before_least<I: OverlayInt>(points: &mut Vec<IntPoint<I>>)
-    ensures is { (v : Point) (i : ℕ) → least_point (points_of I.value points.old.items) ≡ Some v → place_of v (points_of I.value points.old.items) ≡ Some i →
-        points_of I.value points.new.items ≡ last_first (least_first (points_of I.value points.old.items)) }
-    ensures in_range { All (IsWithin I.least I.greatest) (points_of I.value points.old.items) →
-        All (IsWithin I.least I.greatest) (points_of I.value points.new.items) }
+    ensures is { (v : Point) (i : ℕ) → least_point points.old.items ≡ Some v → place_of v points.old.items ≡ Some i →
+        points.new.items ≡ last_first (least_first points.old.items) }
+    ensures in_range { All (IsWithin I.least I.greatest) points.old.items →
+        All (IsWithin I.least I.greatest) points.new.items }
 {
     let Some(least) = least_point(points) else {
         return;
@@ -189,7 +188,7 @@ fn begin_before_least<I: OverlayInt>(points: &mut Vec<IntPoint<I>>)
 
 // The place at which a point stands first.
 fn place_of<I: OverlayInt>(points: &[IntPoint<I>], point: IntPoint<I>) -> Option<usize>
-    ensures is { result ≡ place_of (point_of I.value point) (points_of I.value points.now) }
+    ensures is { result ≡ place_of point points.now }
     ensures within { IfSome result (λ place. place < length points.now) }
 {
     for place in 0..points.len() {
@@ -202,10 +201,10 @@ fn place_of<I: OverlayInt>(points: &[IntPoint<I>], point: IntPoint<I>) -> Option
 
 // By the least points of contours, which stand where they should. Contours with one least point stay in their order.
 fn sort_by_least<I: OverlayInt>(output: bool, contours: &mut Vec<Contour<I>>) -> Result<(), Fault>
-    ensures is { All (Stands output) (walks_of I.value contours.old.items) →
-        OnOk result (walks_of I.value contours.new.items ≡ by_least (walks_of I.value contours.old.items)) }
-    ensures in_range { ContoursAreWithin I.least I.greatest (walks_of I.value contours.old.items) →
-        ContoursAreWithin I.least I.greatest (walks_of I.value contours.new.items) }
+    ensures is { All (Stands output) (walks_of contours.old.items) →
+        OnOk result (walks_of contours.new.items ≡ by_least (walks_of contours.old.items)) }
+    ensures in_range { ContoursAreWithin I.least I.greatest (walks_of contours.old.items) →
+        ContoursAreWithin I.least I.greatest (walks_of contours.new.items) }
     ensures memory { IsOkUnless result Fault.Memory }
 {
     contours.sort_by(|one: &Contour<I>, other: &Contour<I>| {
@@ -217,14 +216,14 @@ fn sort_by_least<I: OverlayInt>(output: bool, contours: &mut Vec<Contour<I>>) ->
 // Which of two contours' least points comes first.
 fn order_by_least<I: OverlayInt>(output: bool, one: &Contour<I>, other: &Contour<I>) -> Ordering
     ensures { is_lt result ≡
-        is_earlier (point_at_least output (contour_of I.value one.now)) (point_at_least output (contour_of I.value other.now)) }
+        is_earlier (point_at_least output (contour_of one.now)) (point_at_least output (contour_of other.now)) }
 {
     order_of_points_if_any(least_of(output, one), least_of(output, other))
 }
 
 // The point at the place of the least.
 fn least_of<I: OverlayInt>(output: bool, contour: &Contour<I>) -> Option<IntPoint<I>>
-    ensures { point_if_any I.value result ≡ point_at_least output (contour_of I.value contour.now) }
+    ensures { point_if_any result ≡ point_at_least output (contour_of contour.now) }
 {
     let place = if is_same(contour.is_hole, output) {
         1
@@ -242,7 +241,7 @@ fn order_of_points_if_any<I: OverlayInt>(
     one: Option<IntPoint<I>>,
     other: Option<IntPoint<I>>,
 ) -> Ordering
-    ensures { is_lt result ≡ is_earlier (point_if_any I.value one) (point_if_any I.value other) }
+    ensures { is_lt result ≡ is_earlier (point_if_any one) (point_if_any other) }
 {
     order_of_points::<I>();
     let Some(r) = other else {

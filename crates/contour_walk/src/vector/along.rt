@@ -3,11 +3,10 @@
 //! A step begins at the node at which the step before ended, so its link is one of the few at that node. Where there are many, and at a contour's first step,
 //! it is found among all links by binary search: of n links in log n steps.
 
-ghost use Rattle.std.specs.Prelude.{◌≡◌, ◌<◌, Bool, true, List, All, Contains, IfOk, IfSome, IsOkUnless, length, map, slice_index_or};
-ghost use Rattle.plane_base.specs.Plane.{Edge, edge_order};
+ghost use Rattle.std.specs.Prelude.{◌≡◌, ◌<◌, true, All, Contains, IfOk, IfSome, IsOkUnless, length, map, slice_index_or};
+ghost use Rattle.plane_base.specs.Plane.{edge_order};
 ghost use Rattle.plane_base.specs.GivenViews.{contours_of};
 ghost use Rattle.plane_base.specs.Segments.{IsEdgeWithin};
-ghost use Rattle.plane_base.specs.Views.{point_of, points_of};
 ghost use Rattle.segment_split.specs.Data.{MayBeTurned};
 ghost use Rattle.segment_arrangement.specs.LinkViews.{link_edge_of, overlay_link_of};
 ghost use Rattle.contour_walk.specs.LinearViews.{link_edges};
@@ -42,12 +41,12 @@ pub(crate) fn vector_shapes<I: OverlayInt, D: OverlayEdgeData<ShapeCountBoolean>
     shapes: &[IntShape<I>],
     store: &mut D::Store,
 ) -> Result<Vec<DataVectorShape<I, D>>, Fault>
-    requires rising { LinksRise I.value links.now }
-    requires in_range { All (λ l. IsEdgeWithin I.least I.greatest (link_edge_of I.value l)) links.now }
-    requires linked { All (All (AreLinked I.value links.now)) (shapes_of I.value shapes.now) }
-    ensures is { IfOk result (λ vectors. vectors_of I.value (edges_of_shapes vectors.items)
-        ≡ map (map (vector_contour (map (overlay_link_of I.value) links.now))) (shapes_of I.value shapes.now)) }
-    ensures of_links { IfOk result (λ vectors. All (All (All (IsOfLink I.value I.least I.greatest (MayBeTurned D.JOINS D.turns_to) links.now)))
+    requires rising { LinksRise links.now }
+    requires in_range { All (λ l. IsEdgeWithin I.least I.greatest (link_edge_of l)) links.now }
+    requires linked { All (All (AreLinked links.now)) (shapes_of shapes.now) }
+    ensures is { IfOk result (λ vectors. vectors_of (edges_of_shapes vectors.items)
+        ≡ map (map (vector_contour (map overlay_link_of links.now))) (shapes_of shapes.now)) }
+    ensures of_links { IfOk result (λ vectors. All (All (All (IsOfLink I.least I.greatest (MayBeTurned D.JOINS D.turns_to) links.now)))
         (edges_of_shapes vectors.items)) }
     ensures memory { IsOkUnless result Fault.Memory }
 {
@@ -66,12 +65,12 @@ fn vector_paths<I: OverlayInt, D: OverlayEdgeData<ShapeCountBoolean>>(
     contours: &[IntContour<I>],
     store: &mut D::Store,
 ) -> Result<Vec<DataVectorPath<I, D>>, Fault>
-    requires rising { LinksRise I.value links.now }
-    requires in_range { All (λ l. IsEdgeWithin I.least I.greatest (link_edge_of I.value l)) links.now }
-    requires linked { All (AreLinked I.value links.now) (contours_of I.value contours.now) }
-    ensures is { IfOk result (λ paths. map (map (vector_of I.value)) (edges_of_paths paths.items)
-        ≡ map (vector_contour (map (overlay_link_of I.value) links.now)) (contours_of I.value contours.now)) }
-    ensures of_links { IfOk result (λ paths. All (All (IsOfLink I.value I.least I.greatest (MayBeTurned D.JOINS D.turns_to) links.now))
+    requires rising { LinksRise links.now }
+    requires in_range { All (λ l. IsEdgeWithin I.least I.greatest (link_edge_of l)) links.now }
+    requires linked { All (AreLinked links.now) (contours_of contours.now) }
+    ensures is { IfOk result (λ paths. map (map vector_of) (edges_of_paths paths.items)
+        ≡ map (vector_contour (map overlay_link_of links.now)) (contours_of contours.now)) }
+    ensures of_links { IfOk result (λ paths. All (All (IsOfLink I.least I.greatest (MayBeTurned D.JOINS D.turns_to) links.now))
         (edges_of_paths paths.items)) }
     ensures memory { IsOkUnless result Fault.Memory }
 {
@@ -91,12 +90,12 @@ fn vector_path<I: OverlayInt, D: OverlayEdgeData<ShapeCountBoolean>>(
     points: &[IntPoint<I>],
     store: &mut D::Store,
 ) -> Result<Vec<DataVectorEdge<I, D>>, Fault>
-    requires rising { LinksRise I.value links.now }
-    requires in_range { All (λ l. IsEdgeWithin I.least I.greatest (link_edge_of I.value l)) links.now }
-    requires linked { AreLinked I.value links.now (points_of I.value points.now) }
-    ensures is { IfOk result (λ edges. map (vector_of I.value) edges.items
-        ≡ vector_contour (map (overlay_link_of I.value) links.now) (points_of I.value points.now)) }
-    ensures of_links { IfOk result (λ edges. All (IsOfLink I.value I.least I.greatest (MayBeTurned D.JOINS D.turns_to) links.now) edges.items) }
+    requires rising { LinksRise links.now }
+    requires in_range { All (λ l. IsEdgeWithin I.least I.greatest (link_edge_of l)) links.now }
+    requires linked { AreLinked links.now points.now }
+    ensures is { IfOk result (λ edges. map vector_of edges.items
+        ≡ vector_contour (map overlay_link_of links.now) points.now) }
+    ensures of_links { IfOk result (λ edges. All (IsOfLink I.least I.greatest (MayBeTurned D.JOINS D.turns_to) links.now) edges.items) }
     ensures memory { IsOkUnless result Fault.Memory }
 {
     let mut edges = Vec::with_capacity(alloc, points.len())?;
@@ -124,12 +123,12 @@ fn vector_along<I: OverlayInt, D: OverlayEdgeData<ShapeCountBoolean>>(
     b: IntPoint<I>,
     store: &mut D::Store,
 ) -> DataVectorEdge<I, D>
-    requires rising { LinksRise I.value links.now }
-    requires in_range { All (λ l. IsEdgeWithin I.least I.greatest (link_edge_of I.value l)) links.now }
-    requires linked { IsLinked I.value links.now (record { a = point_of I.value a; b = point_of I.value b }) }
-    ensures is { vector_of I.value result
-        ≡ vector_along (map (overlay_link_of I.value) links.now) (record { a = point_of I.value a; b = point_of I.value b }) }
-    ensures of_link { IsOfLink I.value I.least I.greatest (MayBeTurned D.JOINS D.turns_to) links.now result }
+    requires rising { LinksRise links.now }
+    requires in_range { All (λ l. IsEdgeWithin I.least I.greatest (link_edge_of l)) links.now }
+    requires linked { IsLinked links.now (record { a = a; b = b }) }
+    ensures is { vector_of result
+        ≡ vector_along (map overlay_link_of links.now) (record { a = a; b = b }) }
+    ensures of_link { IsOfLink I.least I.greatest (MayBeTurned D.JOINS D.turns_to) links.now result }
 {
     if comes_before(b, a) {
         let link = links[place_near(links, nodes, *at, b, a)];
@@ -159,11 +158,11 @@ fn place_near<I: OverlayInt, D>(
     a: IntPoint<I>,
     b: IntPoint<I>,
 ) -> usize
-    requires rising { LinksRise I.value links.now }
-    requires there { Contains (link_edges I.value links.now) (record { a = point_of I.value a; b = point_of I.value b }) }
+    requires rising { LinksRise links.now }
+    requires there { Contains (link_edges links.now) (record { a = a; b = b }) }
     ensures within { result < length links.now }
-    ensures is { (l : OverlayLink I D) → link_edge_of I.value (slice_index_or links.now result l)
-        ≡ record { a = point_of I.value a; b = point_of I.value b } }
+    ensures is { (l : OverlayLink I D) → link_edge_of (slice_index_or links.now result l)
+        ≡ record { a = a; b = b } }
 {
     let Some(place) = place_among(links, few_places_at(nodes, at), a, b) else {
         return place_of_link(links, a, b);
@@ -191,8 +190,8 @@ fn place_among<I: OverlayInt, D>(
     b: IntPoint<I>,
 ) -> Option<usize>
     ensures within { IfSome result (λ place. place < length links.now) }
-    ensures is { IfSome result (λ place. (l : OverlayLink I D) → link_edge_of I.value (slice_index_or links.now place l)
-        ≡ record { a = point_of I.value a; b = point_of I.value b }) }
+    ensures is { IfSome result (λ place. (l : OverlayLink I D) → link_edge_of (slice_index_or links.now place l)
+        ≡ record { a = a; b = b }) }
 {
     for number in 0..places.len() {
         let place = places[number];
@@ -211,8 +210,8 @@ fn is_along<I: OverlayInt, D>(
     b: IntPoint<I>,
 ) -> bool
     ensures within { result ≡ true → place < length links.now }
-    ensures is { result ≡ true → (l : OverlayLink I D) → link_edge_of I.value (slice_index_or links.now place l)
-        ≡ record { a = point_of I.value a; b = point_of I.value b } }
+    ensures is { result ≡ true → (l : OverlayLink I D) → link_edge_of (slice_index_or links.now place l)
+        ≡ record { a = a; b = b } }
 {
     if place >= links.len() {
         return false;
@@ -230,11 +229,11 @@ fn place_of_link<I: OverlayInt, D>(
     a: IntPoint<I>,
     b: IntPoint<I>,
 ) -> usize
-    requires rising { LinksRise I.value links.now }
-    requires there { Contains (link_edges I.value links.now) (record { a = point_of I.value a; b = point_of I.value b }) }
+    requires rising { LinksRise links.now }
+    requires there { Contains (link_edges links.now) (record { a = a; b = b }) }
     ensures within { result < length links.now }
-    ensures is { (l : OverlayLink I D) → link_edge_of I.value (slice_index_or links.now result l)
-        ≡ record { a = point_of I.value a; b = point_of I.value b } }
+    ensures is { (l : OverlayLink I D) → link_edge_of (slice_index_or links.now result l)
+        ≡ record { a = a; b = b } }
 {
     match links.binary_search_by(|link: &OverlayLink<I, D>| order_to(link, a, b)) {
         Ok(place) => place,
@@ -244,7 +243,7 @@ fn place_of_link<I: OverlayInt, D>(
 
 // How the link stands to the edge of these points, by its lesser end and then by its greater one.
 fn order_to<I: OverlayInt, D>(link: &OverlayLink<I, D>, a: IntPoint<I>, b: IntPoint<I>) -> Ordering
-    ensures { result ≡ edge_order (link_edge_of I.value link.now) (record { a = point_of I.value a; b = point_of I.value b }) }
+    ensures { result ≡ edge_order (link_edge_of link.now) (record { a = a; b = b }) }
 {
     let by_start = link.a.point.cmp(&a);
     if by_start.is_ne() {

@@ -1,12 +1,13 @@
 //! An edge on its way: which sides subject and clip fill, left and right of it, and what else belongs to it.
 
 ghost use Rattle.std.specs.Prelude.{◌≡◌, ◌≤◌, ◌*◌, List, IfOk, IsOkUnless, map};
-ghost use Rattle.plane_base.specs.declared.point.IntPoint.{IntPoint};
+ghost use Rattle.plane_base.specs.Plane.{Point};
 ghost use Rattle.segment_arrangement.specs.EdgeSides.{bit};
 ghost use Rattle.segment_arrangement.specs.Fills.{has};
 ghost use Rattle.contour_walk.specs.Vectors.{reversed_fill};
 
 use plane_base::fault::Fault;
+use plane_base::int::IntNumber;
 use plane_base::path::IntPath;
 use plane_base::point::IntPoint;
 use segment_arrangement::fill::has;
@@ -46,7 +47,7 @@ fn moved(fill: SideFill, from: SideFill, to: SideFill) -> SideFill
 
 /// An edge from `a` to `b`, with the sides that are filled beside it and what else belongs to it.
 #[derive(Debug, Clone, Copy, PartialEq, Eq)]
-pub struct DataVectorEdge<I, D> {
+pub struct DataVectorEdge<I: IntNumber, D> {
     pub a: IntPoint<I>,
     pub b: IntPoint<I>,
     pub fill: SideFill,
@@ -55,17 +56,17 @@ pub struct DataVectorEdge<I, D> {
 
 /// Edges in order. As a contour the last leads to the first.
 #[derive(Debug, PartialEq, Eq, Drop)]
-pub struct DataVectorPath<I, D> {
+pub struct DataVectorPath<I: IntNumber, D> {
     pub edges: Vec<DataVectorEdge<I, D>>,
 }
 
 /// An outline and its holes, the outline first.
 #[derive(Debug, PartialEq, Eq, Drop)]
-pub struct DataVectorShape<I, D> {
+pub struct DataVectorShape<I: IntNumber, D> {
     pub paths: Vec<DataVectorPath<I, D>>,
 }
 
-impl<I: Copy, D: Copy> Clone for DataVectorPath<I, D> {
+impl<I: IntNumber, D: Copy> Clone for DataVectorPath<I, D> {
     ghost is_clone = { λ old new. new.edges.items ≡ old.edges.items };
 
     /// A path with the same edges.
@@ -77,7 +78,7 @@ impl<I: Copy, D: Copy> Clone for DataVectorPath<I, D> {
     }
 }
 
-impl<I: Copy, D: Copy> Clone for DataVectorShape<I, D> {
+impl<I: IntNumber, D: Copy> Clone for DataVectorShape<I, D> {
     ghost is_clone = { λ old new. map (λ p. p.edges.items) new.paths.items ≡ map (λ p. p.edges.items) old.paths.items };
 
     /// A shape with the same paths.
@@ -98,8 +99,8 @@ pub type VectorPath<I> = DataVectorPath<I, ()>;
 pub type VectorShape<I> = DataVectorShape<I, ()>;
 
 /// What has edges in order, of which each begins at a point.
-pub trait ToPath<I> {
-    ghost starts: { Self → List (IntPoint I) };
+pub trait ToPath<I: IntNumber> {
+    ghost starts: { Self → List Point };
 
     /// The points at which the edges begin, in order. `Memory` alone is refused.
     fn to_path(&self, alloc: Global) -> Result<IntPath<I>, Fault>
@@ -107,7 +108,7 @@ pub trait ToPath<I> {
         ensures memory { IsOkUnless result Fault.Memory };
 }
 
-impl<I: Copy> ToPath<I> for VectorPath<I> {
+impl<I: IntNumber> ToPath<I> for VectorPath<I> {
     ghost starts = { λ path. map (λ e. e.a) path.edges.items };
 
     fn to_path(&self, alloc: Global) -> Result<IntPath<I>, Fault> {

@@ -84,12 +84,12 @@ pub fn extract_vector_shapes<I: OverlayInt, D: OverlayEdgeData<ShapeCountBoolean
     buffer: &mut BooleanExtractionBuffer<I>,
 ) -> Result<Vec<DataVectorShape<I, D>>, Fault>
     requires graph { (fill : FillRule) × (es : List (Entry Count)) × IsArrangement es ×
-        AreLinksFor fill (overlay_rule_of rule) es (map (overlay_link_of I.value) (links_of graph.now)) }
+        AreLinksFor fill (overlay_rule_of rule) es (map overlay_link_of (links_of graph.now)) }
     ensures is { IfOk result (λ shapes. (fill : FillRule) (es : List (Entry Count)) →
-        AreLinksFor fill (overlay_rule_of rule) es (map (overlay_link_of I.value) (links_of graph.now)) →
+        AreLinksFor fill (overlay_rule_of rule) es (map overlay_link_of (links_of graph.now)) →
         AreVectorShapes I.value D.eq (MayBeTurned D.JOINS D.turns_to) options.preserve_output_collinear (links_of graph.now)
         (vector_answer (answering_of options) fill (overlay_rule_of rule) es) (edges_of_shapes shapes.items)) }
-    ensures in_range { IfOk result (λ shapes. All (All (All (IsVectorWithin I.value I.least I.greatest))) (edges_of_shapes shapes.items)) }
+    ensures in_range { IfOk result (λ shapes. All (All (All (IsVectorWithin I.least I.greatest))) (edges_of_shapes shapes.items)) }
     ensures memory { IsOkUnless result Fault.Memory }
 {
     let mut store = D::new_store(alloc)?;
@@ -111,12 +111,12 @@ pub fn extract_vector_shapes_with_store<I: OverlayInt, D: OverlayEdgeData<ShapeC
     store: &mut D::Store,
 ) -> Result<Vec<DataVectorShape<I, D>>, Fault>
     requires graph { (fill : FillRule) × (es : List (Entry Count)) × IsArrangement es ×
-        AreLinksFor fill (overlay_rule_of rule) es (map (overlay_link_of I.value) (links_of graph.now)) }
+        AreLinksFor fill (overlay_rule_of rule) es (map overlay_link_of (links_of graph.now)) }
     ensures is { IfOk result (λ shapes. (fill : FillRule) (es : List (Entry Count)) →
-        AreLinksFor fill (overlay_rule_of rule) es (map (overlay_link_of I.value) (links_of graph.now)) →
+        AreLinksFor fill (overlay_rule_of rule) es (map overlay_link_of (links_of graph.now)) →
         AreVectorShapes I.value D.eq (MayBeTurned D.JOINS D.turns_to) options.preserve_output_collinear (links_of graph.now)
         (vector_answer (answering_of options) fill (overlay_rule_of rule) es) (edges_of_shapes shapes.items)) }
-    ensures in_range { IfOk result (λ shapes. All (All (All (IsVectorWithin I.value I.least I.greatest))) (edges_of_shapes shapes.items)) }
+    ensures in_range { IfOk result (λ shapes. All (All (All (IsVectorWithin I.least I.greatest))) (edges_of_shapes shapes.items)) }
     ensures memory { IsOkUnless result Fault.Memory }
 {
     let whole = IntOverlayOptions {

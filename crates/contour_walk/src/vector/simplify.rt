@@ -14,7 +14,7 @@ ghost use Rattle.contour_walk.specs.Vectors.{edges_of_shapes, AreLeft};
 
 use crate::vector::edge::{DataVectorEdge, DataVectorPath, DataVectorShape};
 use plane_base::fault::Fault;
-use plane_base::int::{OverlayInt, WideIntNumber};
+use plane_base::int::{IntNumber, OverlayInt, WideIntNumber};
 use plane_base::orientation::difference;
 
 /// Edges in paths, of which some may be joined.
@@ -37,7 +37,7 @@ pub trait VectorSimplify {
 }
 
 impl<I: OverlayInt, D: Copy + PartialEq> VectorSimplify for DataVectorPath<I, D> {
-    ghost in_range = { λ path. All (IsVectorWithin I.value I.least I.greatest) path.edges.items };
+    ghost in_range = { λ path. All (IsVectorWithin I.least I.greatest) path.edges.items };
 
     ghost is_simplified = { λ old new changed. IsSimplified I.value D.eq old.edges.items new.edges.items changed };
 
@@ -47,7 +47,7 @@ impl<I: OverlayInt, D: Copy + PartialEq> VectorSimplify for DataVectorPath<I, D>
 }
 
 impl<I: OverlayInt, D: Copy + PartialEq> VectorSimplify for DataVectorShape<I, D> {
-    ghost in_range = { λ shape. All (All (IsVectorWithin I.value I.least I.greatest)) (edges_of_paths shape.paths.items) };
+    ghost in_range = { λ shape. All (All (IsVectorWithin I.least I.greatest)) (edges_of_paths shape.paths.items) };
 
     ghost is_simplified = { λ old new changed. IsSimplifiedShape I.value D.eq (edges_of_paths old.paths.items) (edges_of_paths new.paths.items) changed };
 
@@ -60,7 +60,7 @@ impl<I: OverlayInt, D: Copy + PartialEq> VectorSimplify for DataVectorShape<I, D
 pub(crate) fn simplify_all<I: OverlayInt, D: Copy + PartialEq>(
     shapes: &mut Vec<DataVectorShape<I, D>>,
 )
-    requires { All (All (All (IsVectorWithin I.value I.least I.greatest))) (edges_of_shapes shapes.old.items) }
+    requires { All (All (All (IsVectorWithin I.least I.greatest))) (edges_of_shapes shapes.old.items) }
     ensures { AreLeft I.value D.eq false (edges_of_shapes shapes.old.items) (edges_of_shapes shapes.new.items) }
 {
     for number in 0..shapes.len() {
@@ -71,7 +71,7 @@ pub(crate) fn simplify_all<I: OverlayInt, D: Copy + PartialEq>(
 
 // Simplifies a shape, and answers whether that changed it.
 fn simplify_shape<I: OverlayInt, D: Copy + PartialEq>(paths: &mut Vec<DataVectorPath<I, D>>) -> bool
-    requires { All (All (IsVectorWithin I.value I.least I.greatest)) (edges_of_paths paths.old.items) }
+    requires { All (All (IsVectorWithin I.least I.greatest)) (edges_of_paths paths.old.items) }
     ensures { IsSimplifiedShape I.value D.eq (edges_of_paths paths.old.items) (edges_of_paths paths.new.items) result }
 {
     let given = paths.len();
@@ -82,7 +82,7 @@ fn simplify_shape<I: OverlayInt, D: Copy + PartialEq>(paths: &mut Vec<DataVector
 
 // Simplifies each path, and answers whether that changed any.
 fn simplify_paths<I: OverlayInt, D: Copy + PartialEq>(paths: &mut [DataVectorPath<I, D>]) -> bool
-    requires { All (All (IsVectorWithin I.value I.least I.greatest)) (edges_of_paths paths.old) }
+    requires { All (All (IsVectorWithin I.least I.greatest)) (edges_of_paths paths.old) }
     ensures simplified { AreSimplified I.value D.eq (edges_of_paths paths.old) (edges_of_paths paths.new) }
     ensures unchanged { IsFalse result → edges_of_paths paths.new ≡ edges_of_paths paths.old }
     ensures fewer { IsTrue result → many_edges (edges_of_paths paths.new) < many_edges (edges_of_paths paths.old) }
@@ -95,7 +95,7 @@ fn simplify_paths<I: OverlayInt, D: Copy + PartialEq>(paths: &mut [DataVectorPat
 }
 
 // Drops the empty paths, and all of them where the first is empty.
-fn drop_empty<I: Copy, D: Copy>(paths: &mut Vec<DataVectorPath<I, D>>)
+fn drop_empty<I: IntNumber, D: Copy>(paths: &mut Vec<DataVectorPath<I, D>>)
     ensures { edges_of_paths paths.new.items ≡ without_empty (edges_of_paths paths.old.items) }
 {
     if paths.is_empty() || paths[0].edges.is_empty() {
@@ -107,7 +107,7 @@ fn drop_empty<I: Copy, D: Copy>(paths: &mut Vec<DataVectorPath<I, D>>)
 
 // Simplifies a path, and answers whether that changed it.
 fn simplify<I: OverlayInt, D: Copy + PartialEq>(edges: &mut Vec<DataVectorEdge<I, D>>) -> bool
-    requires { All (IsVectorWithin I.value I.least I.greatest) edges.old.items }
+    requires { All (IsVectorWithin I.least I.greatest) edges.old.items }
     ensures { IsSimplified I.value D.eq edges.old.items edges.new.items result }
 {
     let given = edges.len();
@@ -126,10 +126,10 @@ fn simplify<I: OverlayInt, D: Copy + PartialEq>(edges: &mut Vec<DataVectorEdge<I
 
 // Joins neighbours from the first edge to the last.
 fn join_in_row<I: OverlayInt, D: Copy + PartialEq>(edges: &mut Vec<DataVectorEdge<I, D>>)
-    requires in_range { All (IsVectorWithin I.value I.least I.greatest) edges.old.items }
+    requires in_range { All (IsVectorWithin I.least I.greatest) edges.old.items }
     ensures reached { Joins I.value D.eq edges.old.items edges.new.items }
-    ensures none { NoneInRow I.value D.eq edges.new.items }
-    ensures in_range { All (IsVectorWithin I.value I.least I.greatest) edges.new.items }
+    ensures none { NoneInRow D.eq edges.new.items }
+    ensures in_range { All (IsVectorWithin I.least I.greatest) edges.new.items }
 {
     let mut kept = 0;
     for next in 0..edges.len() {
@@ -147,13 +147,13 @@ fn joined_back<I: OverlayInt, D: Copy + PartialEq>(
     next: DataVectorEdge<I, D>,
 ) -> (usize, DataVectorEdge<I, D>)
     requires kept { kept ≤ length edges.now }
-    requires in_range { All (IsVectorWithin I.value I.least I.greatest) edges.now }
-    requires next_in_range { IsVectorWithin I.value I.least I.greatest next }
+    requires in_range { All (IsVectorWithin I.least I.greatest) edges.now }
+    requires next_in_range { IsVectorWithin I.least I.greatest next }
     ensures few { result.0 ≤ kept }
     ensures reached { (given rest : List (DataVectorEdge I D)) → Joins I.value D.eq given (take kept edges.now ++ next ∷ rest)
         → Joins I.value D.eq given (take result.0 edges.now ++ result.1 ∷ rest) }
-    ensures none { NoneInRow I.value D.eq (take kept edges.now) → NoneInRow I.value D.eq (take result.0 edges.now ++ result.1 ∷ []) }
-    ensures in_range { IsVectorWithin I.value I.least I.greatest result.1 }
+    ensures none { NoneInRow D.eq (take kept edges.now) → NoneInRow D.eq (take result.0 edges.now ++ result.1 ∷ []) }
+    ensures in_range { IsVectorWithin I.least I.greatest result.1 }
 {
     let mut left = kept;
     let mut edge = next;
@@ -166,10 +166,10 @@ fn joined_back<I: OverlayInt, D: Copy + PartialEq>(
 
 // Joins the last edge and the first, and what then can be joined to the first, while there are three edges or more.
 fn join_round<I: OverlayInt, D: Copy + PartialEq>(edges: &mut Vec<DataVectorEdge<I, D>>)
-    requires in_range { All (IsVectorWithin I.value I.least I.greatest) edges.old.items }
-    requires none { NoneInRow I.value D.eq edges.old.items }
+    requires in_range { All (IsVectorWithin I.least I.greatest) edges.old.items }
+    requires none { NoneInRow D.eq edges.old.items }
     ensures reached { (given : List (DataVectorEdge I D)) → Joins I.value D.eq given edges.old.items → Joins I.value D.eq given edges.new.items }
-    ensures none { 3 ≤ length edges.new.items → NoneJoin I.value D.eq edges.new.items }
+    ensures none { 3 ≤ length edges.new.items → NoneJoin D.eq edges.new.items }
 {
     let start = join_ends(edges);
     let left = edges.len() - start;
@@ -179,12 +179,12 @@ fn join_round<I: OverlayInt, D: Copy + PartialEq>(edges: &mut Vec<DataVectorEdge
 
 // Joins round the seam. What is left begins at the place that is answered.
 fn join_ends<I: OverlayInt, D: Copy + PartialEq>(edges: &mut Vec<DataVectorEdge<I, D>>) -> usize
-    requires in_range { All (IsVectorWithin I.value I.least I.greatest) edges.old.items }
-    requires none { NoneInRow I.value D.eq edges.old.items }
+    requires in_range { All (IsVectorWithin I.least I.greatest) edges.old.items }
+    requires none { NoneInRow D.eq edges.old.items }
     ensures start { result ≤ length edges.new.items }
     ensures reached { (given : List (DataVectorEdge I D)) → Joins I.value D.eq given edges.old.items
         → Joins I.value D.eq given (drop result edges.new.items) }
-    ensures none { 3 ≤ length edges.new.items - result → NoneJoin I.value D.eq (drop result edges.new.items) }
+    ensures none { 3 ≤ length edges.new.items - result → NoneJoin D.eq (drop result edges.new.items) }
 {
     let mut start = 0;
     while edges.len() - start >= 3 {
@@ -210,9 +210,9 @@ fn can_join<I: OverlayInt, D: PartialEq>(
     first: &DataVectorEdge<I, D>,
     second: &DataVectorEdge<I, D>,
 ) -> bool
-    requires first_in_range { IsVectorWithin I.value I.least I.greatest first.now }
-    requires second_in_range { IsVectorWithin I.value I.least I.greatest second.now }
-    ensures { result ≡ can_join I.value D.eq first.now second.now }
+    requires first_in_range { IsVectorWithin I.least I.greatest first.now }
+    requires second_in_range { IsVectorWithin I.least I.greatest second.now }
+    ensures { result ≡ can_join D.eq first.now second.now }
 {
     are_on_one_line(first, second) && first.fill == second.fill && first.datum == second.datum
 }
@@ -222,9 +222,9 @@ fn are_on_one_line<I: OverlayInt, D>(
     first: &DataVectorEdge<I, D>,
     second: &DataVectorEdge<I, D>,
 ) -> bool
-    requires first_in_range { IsVectorWithin I.value I.least I.greatest first.now }
-    requires second_in_range { IsVectorWithin I.value I.least I.greatest second.now }
-    ensures { result ≡ int_eq (ways_cross I.value first.now second.now) (pos 0) }
+    requires first_in_range { IsVectorWithin I.least I.greatest first.now }
+    requires second_in_range { IsVectorWithin I.least I.greatest second.now }
+    ensures { result ≡ int_eq (ways_cross first.now second.now) (pos 0) }
 {
     let x = difference(first.b.x, first.a.x);
     let y = difference(first.b.y, first.a.y);
@@ -234,7 +234,7 @@ fn are_on_one_line<I: OverlayInt, D>(
 }
 
 // The edge from the start of the first to the end of the second, with the fill and the datum of the second.
-fn joined_edge<I: Copy, D: Copy>(
+fn joined_edge<I: IntNumber, D: Copy>(
     first: &DataVectorEdge<I, D>,
     second: &DataVectorEdge<I, D>,
 ) -> DataVectorEdge<I, D>

@@ -3,7 +3,6 @@
 
 ghost use Rattle.std.specs.Prelude.{◌≡◌, ℕ, ◌+◌, ◌<◌, ◌≤◌, length, slice_index_or, IfOk, IfSome, OnOk, IsOkUnless};
 ghost use Rattle.plane_base.specs.Plane.{IsWithin};
-ghost use Rattle.plane_base.specs.Views.{point_of};
 ghost use Rattle.segment_arrangement.specs.Graphs.{ends_of};
 ghost use Rattle.segment_arrangement.specs.LinkViews.{IsNumbered};
 ghost use Rattle.contour_walk.specs.LinearViews.{link_edges, IsWalkable};
@@ -13,7 +12,7 @@ use crate::walk::rings::{Ring, Rings};
 use crate::walk::spoke::{places_at, places_of};
 use crate::walk::spokes::Spokes;
 use plane_base::fault::Fault;
-use plane_base::int::OverlayInt;
+use plane_base::int::{IntNumber, OverlayInt};
 use plane_base::segment::IdPoint;
 use segment_arrangement::graph::{OverlayGraph, VisitState};
 use std::alloc::Global;
@@ -27,9 +26,9 @@ pub(crate) fn rings_of<I: OverlayInt, D>(
     graph: &OverlayGraph<'_, I, D>,
     states: &[VisitState],
 ) -> Result<Rings<I>, Fault>
-    requires graph { IsWalkable I.value I.least I.greatest graph.now.links.now graph.now.nodes.now }
+    requires graph { IsWalkable I.least I.greatest graph.now.links.now graph.now.nodes.now }
     requires beside { length states.now ≡ length graph.now.links.now }
-    ensures rings { IfOk result (λ rings. AreRings I.value (link_edges I.value graph.now.links.now) states.now rings.rings.items) }
+    ensures rings { IfOk result (λ rings. AreRings (link_edges graph.now.links.now) states.now rings.rings.items) }
     ensures memory { IsOkUnless result Fault.Memory }
 {
     let mut rings = Rings {
@@ -52,11 +51,11 @@ fn add_if_many<I: OverlayInt, D>(
     number: usize,
     rings: &mut Rings<I>,
 ) -> Result<(), Fault>
-    requires graph { IsWalkable I.value I.least I.greatest graph.now.links.now graph.now.nodes.now }
+    requires graph { IsWalkable I.least I.greatest graph.now.links.now graph.now.nodes.now }
     requires beside { length states.now ≡ length graph.now.links.now }
     requires inside { number < length graph.now.nodes.now }
-    requires rings { AreRings I.value (link_edges I.value graph.now.links.now) states.now rings.old.rings.items }
-    ensures rings { OnOk result (AreRings I.value (link_edges I.value graph.now.links.now) states.now rings.new.rings.items) }
+    requires rings { AreRings (link_edges graph.now.links.now) states.now rings.old.rings.items }
+    ensures rings { OnOk result (AreRings (link_edges graph.now.links.now) states.now rings.new.rings.items) }
     ensures memory { IsOkUnless result Fault.Memory }
 {
     let places = places_of(&graph.nodes()[number]);
@@ -75,11 +74,11 @@ fn add_ring<I: OverlayInt, D>(
     link: usize,
     rings: &mut Rings<I>,
 ) -> Result<(), Fault>
-    requires graph { IsWalkable I.value I.least I.greatest graph.now.links.now graph.now.nodes.now }
+    requires graph { IsWalkable I.least I.greatest graph.now.links.now graph.now.nodes.now }
     requires beside { length states.now ≡ length graph.now.links.now }
     requires inside { link < length graph.now.links.now }
-    requires rings { AreRings I.value (link_edges I.value graph.now.links.now) states.now rings.old.rings.items }
-    ensures rings { OnOk result (AreRings I.value (link_edges I.value graph.now.links.now) states.now rings.new.rings.items) }
+    requires rings { AreRings (link_edges graph.now.links.now) states.now rings.old.rings.items }
+    ensures rings { OnOk result (AreRings (link_edges graph.now.links.now) states.now rings.new.rings.items) }
     ensures memory { IsOkUnless result Fault.Memory }
 {
     let link = &graph.links()[link];
@@ -97,7 +96,7 @@ fn add_ring<I: OverlayInt, D>(
 }
 
 // Writes down the places of a ring's links.
-fn note_places<I>(ring: &Ring<I>, of_starts: &mut [usize], of_ends: &mut [usize]) {
+fn note_places<I: IntNumber>(ring: &Ring<I>, of_starts: &mut [usize], of_ends: &mut [usize]) {
     for i in 0..ring.spokes.len() {
         if i < ring.starts {
             note(of_starts, ring.spokes[i].place, i);
@@ -121,11 +120,11 @@ fn ring_of<I: OverlayInt, D>(
     states: &[VisitState],
     at: IdPoint<I>,
 ) -> Result<Option<Ring<I>>, Fault>
-    requires graph { IsWalkable I.value I.least I.greatest graph.now.links.now graph.now.nodes.now }
+    requires graph { IsWalkable I.least I.greatest graph.now.links.now graph.now.nodes.now }
     requires beside { length states.now ≡ length graph.now.links.now }
-    requires numbered { IsNumbered I.value (ends_of (link_edges I.value graph.now.links.now)) at }
-    requires at_in_range { IsWithin I.least I.greatest (point_of I.value at.point) }
-    ensures is { IfOk result (λ ring. IfSome ring (IsRing I.value (link_edges I.value graph.now.links.now) states.now)) }
+    requires numbered { IsNumbered (ends_of (link_edges graph.now.links.now)) at }
+    requires at_in_range { IsWithin I.least I.greatest at.point }
+    ensures is { IfOk result (λ ring. IfSome ring (IsRing (link_edges graph.now.links.now) states.now)) }
     ensures memory { IsOkUnless result Fault.Memory }
 {
     let places = places_at(graph, at);

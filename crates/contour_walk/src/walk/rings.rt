@@ -4,24 +4,21 @@
 //! lead over those that are passed, and grow longer as they are taken. So all searches at a node of n links take time n log n together.
 //! Where a ring and a link in it stand is only noted: who goes by a note sees whether it is right.
 
-ghost use Rattle.std.specs.Prelude.{◌≡◌, ℕ, ◌+◌, ◌<◌, ◌≤◌, true, All, IfOk, IfSome, OnOk, IsOkUnless, None, length, map, slice_index_or};
-ghost use Rattle.std.specs.Prelude.{pos, ◌<ℤ◌, IsPermutation, ◌++◌};
-ghost use Rattle.plane_base.specs.Plane.{IsWithin, turn};
-ghost use Rattle.plane_base.specs.Views.{point_of};
+ghost use Rattle.std.specs.Prelude.{◌≡◌, ℕ, ◌<◌, ◌≤◌, true, All, IfSome, None, length, slice_index_or};
+ghost use Rattle.plane_base.specs.Plane.{turn};
 ghost use Rattle.contour_walk.specs.LinearWalks.{is_left};
 ghost use Rattle.contour_walk.specs.NodeRings.{IsPassed, IsLeftAt, LeadAhead, LeadBack, IsNextPlace, IsCameBy};
-ghost use Rattle.segment_arrangement.specs.declared.graph.VisitState.TheVariants.{Skipped};
 
 use crate::walk::spoke::{Spoke, is_left};
 use crate::walk::ways::{last_back, next_ahead, next_back};
-use plane_base::int::OverlayInt;
+use plane_base::int::{IntNumber, OverlayInt};
 use plane_base::point::IntPoint;
 use plane_base::segment::{IdPoint, is_same_point};
 use segment_arrangement::graph::VisitState;
 
 // The links that were left at a node, in the order of a counterclockwise turn from straight down: first those that start there.
 #[derive(Debug, Drop)]
-pub(crate) struct Ring<I> {
+pub(crate) struct Ring<I: IntNumber> {
     pub(crate) center: IntPoint<I>,
     pub(crate) spokes: Vec<Spoke<I>>,
     pub(crate) starts: usize,
@@ -32,7 +29,7 @@ pub(crate) struct Ring<I> {
 // The rings of a graph, and notes where they stand: for each node the number of its ring, and for each link its places in the rings of
 // its ends.
 #[derive(Debug, Drop)]
-pub(crate) struct Rings<I> {
+pub(crate) struct Rings<I: IntNumber> {
     pub(crate) rings: Vec<Ring<I>>,
     pub(crate) of_nodes: Vec<usize>,
     pub(crate) of_starts: Vec<usize>,
@@ -42,7 +39,7 @@ pub(crate) struct Rings<I> {
 // The number of the ring at a node, if it has one.
 pub(crate) fn ring_at<I: OverlayInt>(rings: &Rings<I>, at: IdPoint<I>) -> Option<usize>
     ensures inside { IfSome result (λ number. number < length rings.now.rings.items) }
-    ensures here { IfSome result (λ number. (d : _) → point_of I.value (slice_index_or rings.now.rings.items number d).center ≡ point_of I.value at.point) }
+    ensures here { IfSome result (λ number. (d : _) → (slice_index_or rings.now.rings.items number d).center ≡ at.point) }
 {
     if at.id >= rings.of_nodes.len() {
         return None;
@@ -63,7 +60,7 @@ pub(crate) fn place_in<I: OverlayInt>(
     from: IntPoint<I>,
 ) -> Option<usize>
     requires inside { All (λ s. s.place < length states.now) ring.now.spokes.items }
-    ensures { IfSome result (IsCameBy I.value states.now (point_of I.value from) ring.now) }
+    ensures { IfSome result (IsCameBy states.now from ring.now) }
 {
     if by >= rings.of_starts.len() || by >= rings.of_ends.len() {
         return None;
@@ -87,7 +84,7 @@ fn is_came_by<I: OverlayInt>(
     from: IntPoint<I>,
 ) -> bool
     requires inside { All (λ s. s.place < length states.now) ring.now.spokes.items }
-    ensures { result ≡ true → IsCameBy I.value states.now (point_of I.value from) ring.now place }
+    ensures { result ≡ true → IsCameBy states.now from ring.now place }
 {
     if place >= ring.spokes.len() {
         return false;
@@ -97,7 +94,7 @@ fn is_came_by<I: OverlayInt>(
 }
 
 // The link that is left and comes first in a ring on turning from the one at a place, which is passed.
-pub(crate) fn next_in_ring<I>(
+pub(crate) fn next_in_ring<I: IntNumber>(
     clockwise: bool,
     ring: &mut Ring<I>,
     states: &[VisitState],
@@ -129,7 +126,7 @@ pub(crate) fn next_in_ring<I>(
 }
 
 // The last link of those in a ring that start at its node and are left.
-pub(crate) fn top_in_ring<I>(ring: &mut Ring<I>, states: &[VisitState]) -> Option<usize>
+pub(crate) fn top_in_ring<I: IntNumber>(ring: &mut Ring<I>, states: &[VisitState]) -> Option<usize>
     requires inside { All (λ s. s.place < length states.now) ring.old.spokes.items }
     requires back { LeadBack (length ring.old.spokes.items) (IsPassed states.now ring.old.spokes.items) ring.old.back.items }
     requires starts { ring.old.starts ≤ length ring.old.spokes.items }

@@ -6,7 +6,6 @@ ghost use Rattle.std.specs.Prelude.{◌++◌, slice_index_or};
 ghost use Rattle.std.specs.Ordering.{int_cmp};
 ghost use Rattle.plane_base.specs.Plane.{IsWithin, turn};
 ghost use Rattle.plane_base.specs.Segments.{IsEdgeWithin};
-ghost use Rattle.plane_base.specs.Views.{point_of};
 ghost use Rattle.segment_arrangement.specs.LinkViews.{link_edge_of};
 ghost use Rattle.contour_walk.specs.LinearViews.{link_edges, spoke_list};
 ghost use Rattle.contour_walk.specs.LinearWalks.{spoke_at};
@@ -30,14 +29,14 @@ pub(crate) struct Way<I: OverlayInt> {
     center: IntPoint<I>,
     far: IntPoint<I>,
     place: usize,
-    ghost center_in_range: { IsWithin I.least I.greatest (point_of I.value center) },
-    ghost far_in_range: { IsWithin I.least I.greatest (point_of I.value far) },
+    ghost center_in_range: { IsWithin I.least I.greatest center },
+    ghost far_in_range: { IsWithin I.least I.greatest far },
 }
 
 impl<I: OverlayInt> Way<I> {
     // `Less` where the other lies to the left of this one.
     fn against(&self, other: &Way<I>) -> Ordering
-        ensures { result ≡ int_cmp (turn (point_of I.value self.now.far) (point_of I.value self.now.center) (point_of I.value other.now.far)) (pos 0) }
+        ensures { result ≡ int_cmp (turn self.now.far self.now.center other.now.far) (pos 0) }
     {
         orientation(self.far, self.center, other.far)
     }
@@ -52,13 +51,13 @@ pub(crate) fn sorted_spokes<I: OverlayInt, D>(
     starts: bool,
     v: IntPoint<I>,
 ) -> Result<Vec<Spoke<I>>, Fault>
-    requires in_range { All (λ l. IsEdgeWithin I.least I.greatest (link_edge_of I.value l)) links.now }
+    requires in_range { All (λ l. IsEdgeWithin I.least I.greatest (link_edge_of l)) links.now }
     requires beside { length states.now ≡ length links.now }
     requires inside { All (λ place. place < length links.now) places.now }
-    requires v_in_range { IsWithin I.least I.greatest (point_of I.value v) }
+    requires v_in_range { IsWithin I.least I.greatest v }
     ensures all { IfOk result (λ spokes. IsPermutation
-        (flat_map (spoke_at starts (point_of I.value v) (link_edges I.value links.now) states.now) places.now) (numbered_spokes I.value spokes.items)) }
-    ensures in_range { IfOk result (λ spokes. All (λ s. IsWithin I.least I.greatest (point_of I.value s.far)) spokes.items) }
+        (flat_map (spoke_at starts v (link_edges links.now) states.now) places.now) (numbered_spokes spokes.items)) }
+    ensures in_range { IfOk result (λ spokes. All (λ s. IsWithin I.least I.greatest s.far) spokes.items) }
     ensures memory { IsOkUnless result Fault.Memory }
 {
     let mut ways = Vec::new(alloc);
@@ -77,10 +76,10 @@ fn add_way<I: OverlayInt>(
     center: IntPoint<I>,
     spoke: Option<Spoke<I>>,
 ) -> Result<(), Fault>
-    requires center_in_range { IsWithin I.least I.greatest (point_of I.value center) }
-    requires spoke_in_range { IfSome spoke (λ s. IsWithin I.least I.greatest (point_of I.value s.far)) }
-    ensures is { OnOk result (map (λ w. numbered I.value w.far w.place) ways.new.items ≡
-        map (λ w. numbered I.value w.far w.place) ways.old.items ++ spoke_list I.value spoke) }
+    requires center_in_range { IsWithin I.least I.greatest center }
+    requires spoke_in_range { IfSome spoke (λ s. IsWithin I.least I.greatest s.far) }
+    ensures is { OnOk result (map (λ w. numbered w.far w.place) ways.new.items ≡
+        map (λ w. numbered w.far w.place) ways.old.items ++ spoke_list spoke) }
     ensures memory { IsOkUnless result Fault.Memory }
 {
     let Some(spoke) = spoke else {
@@ -103,8 +102,8 @@ fn sort_ways<I: OverlayInt>(ways: &mut [Way<I>])
 
 // The links of these ways.
 fn spokes_of<I: OverlayInt>(alloc: Global, ways: &[Way<I>]) -> Result<Vec<Spoke<I>>, Fault>
-    ensures is { IfOk result (λ spokes. numbered_spokes I.value spokes.items ≡ map (λ w. numbered I.value w.far w.place) ways.now) }
-    ensures in_range { IfOk result (λ spokes. All (λ s. IsWithin I.least I.greatest (point_of I.value s.far)) spokes.items) }
+    ensures is { IfOk result (λ spokes. numbered_spokes spokes.items ≡ map (λ w. numbered w.far w.place) ways.now) }
+    ensures in_range { IfOk result (λ spokes. All (λ s. IsWithin I.least I.greatest s.far) spokes.items) }
     ensures memory { IsOkUnless result Fault.Memory }
 {
     let mut spokes = Vec::new(alloc);
@@ -119,10 +118,10 @@ fn spokes_of<I: OverlayInt>(alloc: Global, ways: &[Way<I>]) -> Result<Vec<Spoke<
 
 // Whether each of these links lies to the left of the one before it, seen from a point.
 pub(crate) fn rise<I: OverlayInt>(v: IntPoint<I>, spokes: &[Spoke<I>]) -> bool
-    requires v_in_range { IsWithin I.least I.greatest (point_of I.value v) }
-    requires in_range { All (λ s. IsWithin I.least I.greatest (point_of I.value s.far)) spokes.now }
-    ensures { result ≡ true → (i : ℕ) (d : _) → i + 1 < length spokes.now → pos 0 <ℤ turn (point_of I.value v)
-        (point_of I.value (slice_index_or spokes.now i d).far) (point_of I.value (slice_index_or spokes.now (i + 1) d).far) }
+    requires v_in_range { IsWithin I.least I.greatest v }
+    requires in_range { All (λ s. IsWithin I.least I.greatest s.far) spokes.now }
+    ensures { result ≡ true → (i : ℕ) (d : _) → i + 1 < length spokes.now → pos 0 <ℤ turn v
+        (slice_index_or spokes.now i d).far (slice_index_or spokes.now (i + 1) d).far }
 {
     for i in 1..spokes.len() {
         if !is_left_turn(v, spokes[i - 1].far, spokes[i].far) {

@@ -4,7 +4,6 @@
 ghost use Rattle.std.specs.Prelude.{◌≡◌, ◌∷◌, ◌++◌, [], ◌<◌, All, IfSome, cond, length};
 ghost use Rattle.plane_base.specs.Plane.{IsWithin};
 ghost use Rattle.plane_base.specs.Segments.{IsEdgeWithin};
-ghost use Rattle.plane_base.specs.Views.{point_of};
 ghost use Rattle.segment_arrangement.specs.Graphs.{ends_of, node_at};
 ghost use Rattle.segment_arrangement.specs.LinkViews.{link_edge_of, places_of, IsNumbered};
 ghost use Rattle.contour_walk.specs.LinearViews.{link_edges, spoke_list, IsWalkable};
@@ -12,7 +11,7 @@ ghost use Rattle.contour_walk.specs.LinearWalks.{is_left, spoke_at};
 ghost use Rattle.contour_walk.specs.NearestViews.{numbered};
 ghost use Rattle.contour_walk.specs.Walks.{same_point};
 
-use plane_base::int::OverlayInt;
+use plane_base::int::{IntNumber, OverlayInt};
 use plane_base::point::IntPoint;
 use plane_base::segment::{IdPoint, is_same_point};
 use segment_arrangement::graph::{OverlayGraph, VisitState};
@@ -21,7 +20,7 @@ use segment_arrangement::node::OverlayNode;
 
 /// A link at a node.
 #[derive(Clone, Copy, Debug)]
-pub struct Spoke<I> {
+pub struct Spoke<I: IntNumber> {
     /// Its other end.
     pub far: IntPoint<I>,
     /// Its place among the links.
@@ -43,10 +42,10 @@ pub(crate) fn places_at<'a, I: OverlayInt, D>(
     graph: &OverlayGraph<'a, I, D>,
     at: IdPoint<I>,
 ) -> &'a [usize]
-    requires graph { IsWalkable I.value I.least I.greatest graph.now.links.now graph.now.nodes.now }
-    requires numbered { IsNumbered I.value (ends_of (link_edges I.value graph.now.links.now)) at }
-    ensures is { result.now ≡ (node_at (link_edges I.value graph.now.links.now) (point_of I.value at.point)).starts ++
-        (node_at (link_edges I.value graph.now.links.now) (point_of I.value at.point)).ends }
+    requires graph { IsWalkable I.least I.greatest graph.now.links.now graph.now.nodes.now }
+    requires numbered { IsNumbered (ends_of (link_edges graph.now.links.now)) at }
+    ensures is { result.now ≡ (node_at (link_edges graph.now.links.now) at.point).starts ++
+        (node_at (link_edges graph.now.links.now) at.point).ends }
     ensures inside { All (λ place. place < length graph.now.links.now) result.now }
 {
     places_of(&graph.nodes()[at.id])
@@ -70,11 +69,11 @@ pub(crate) fn spoke_at<I: OverlayInt, D>(
     starts: bool,
     v: IntPoint<I>,
 ) -> Option<Spoke<I>>
-    requires in_range { All (λ l. IsEdgeWithin I.least I.greatest (link_edge_of I.value l)) links.now }
+    requires in_range { All (λ l. IsEdgeWithin I.least I.greatest (link_edge_of l)) links.now }
     requires beside { length states.now ≡ length links.now }
     requires inside { place < length links.now }
-    ensures is { spoke_list I.value result ≡ spoke_at starts (point_of I.value v) (link_edges I.value links.now) states.now place }
-    ensures in_range { IfSome result (λ s. IsWithin I.least I.greatest (point_of I.value s.far)) }
+    ensures is { spoke_list result ≡ spoke_at starts v (link_edges links.now) states.now place }
+    ensures in_range { IfSome result (λ s. IsWithin I.least I.greatest s.far) }
 {
     if !is_left(states[place]) {
         return None;
@@ -93,9 +92,9 @@ fn spoke_from<I: OverlayInt>(
     place: usize,
     v: IntPoint<I>,
 ) -> Option<Spoke<I>>
-    requires { IsWithin I.least I.greatest (point_of I.value far) }
-    ensures is { spoke_list I.value result ≡ cond (same_point (point_of I.value near) (point_of I.value v)) (numbered I.value far place ∷ []) [] }
-    ensures in_range { IfSome result (λ s. IsWithin I.least I.greatest (point_of I.value s.far)) }
+    requires { IsWithin I.least I.greatest far }
+    ensures is { spoke_list result ≡ cond (same_point near v) (numbered far place ∷ []) [] }
+    ensures in_range { IfSome result (λ s. IsWithin I.least I.greatest s.far) }
 {
     if !is_same_point(near, v) {
         return None;

@@ -8,7 +8,6 @@
 ghost use Rattle.std.specs.Prelude.{◌≡◌, ◌++◌, ◌<◌, true, length, slice_index_or, All, IfOk, IfSome, IsOkUnless};
 ghost use Rattle.plane_base.specs.Plane.{IsWithin, is_before};
 ghost use Rattle.plane_base.specs.Segments.{IsEdgeWithin};
-ghost use Rattle.plane_base.specs.Views.{point_of};
 ghost use Rattle.segment_arrangement.specs.Graphs.{node_at};
 ghost use Rattle.segment_arrangement.specs.LinkViews.{link_edge_of};
 ghost use Rattle.contour_walk.specs.LinearViews.{link_edges};
@@ -17,7 +16,7 @@ ghost use Rattle.contour_walk.specs.NodeRings.{AreRound, place_after};
 use crate::walk::sorting::{rise, sorted_spokes};
 use crate::walk::spoke::Spoke;
 use plane_base::fault::Fault;
-use plane_base::int::OverlayInt;
+use plane_base::int::{IntNumber, OverlayInt};
 use plane_base::point::IntPoint;
 use segment_arrangement::graph::VisitState;
 use segment_arrangement::link::OverlayLink;
@@ -25,7 +24,7 @@ use std::alloc::Global;
 
 /// Links at a node, in the order of a counterclockwise turn from straight down.
 #[derive(Debug, Drop)]
-pub struct Spokes<I> {
+pub struct Spokes<I: IntNumber> {
     /// Where the node is.
     pub center: IntPoint<I>,
     /// The links that start there, then those that end there.
@@ -44,15 +43,15 @@ impl<I: OverlayInt> Spokes<I> {
         states: &[VisitState],
         center: IntPoint<I>,
     ) -> Result<Option<Spokes<I>>, Fault>
-        requires in_range { All (λ l. IsEdgeWithin I.least I.greatest (link_edge_of I.value l)) links.now }
-        requires directed { All (λ s. is_before s.a s.b ≡ true) (link_edges I.value links.now) }
-        requires here { places.now ≡ (node_at (link_edges I.value links.now) (point_of I.value center)).starts
-            ++ (node_at (link_edges I.value links.now) (point_of I.value center)).ends }
+        requires in_range { All (λ l. IsEdgeWithin I.least I.greatest (link_edge_of l)) links.now }
+        requires directed { All (λ s. is_before s.a s.b ≡ true) (link_edges links.now) }
+        requires here { places.now ≡ (node_at (link_edges links.now) center).starts
+            ++ (node_at (link_edges links.now) center).ends }
         requires beside { length states.now ≡ length links.now }
-        requires center_in_range { IsWithin I.least I.greatest (point_of I.value center) }
+        requires center_in_range { IsWithin I.least I.greatest center }
         ensures center { IfOk result (λ found. IfSome found (λ spokes. spokes.center ≡ center)) }
         ensures round { IfOk result (λ found. IfSome found (λ spokes.
-            AreRound I.value (link_edges I.value links.now) states.now (point_of I.value center) spokes.spokes.items spokes.starts)) }
+            AreRound (link_edges links.now) states.now center spokes.spokes.items spokes.starts)) }
         ensures memory { IsOkUnless result Fault.Memory }
     {
         let starts = sorted_spokes(alloc, links, states, places, true, center)?;
@@ -80,7 +79,7 @@ impl<I: OverlayInt> Spokes<I> {
 }
 
 // Links with others behind them.
-fn with_ends<I: Copy>(starts: Vec<Spoke<I>>, ends: &[Spoke<I>]) -> Result<Vec<Spoke<I>>, Fault>
+fn with_ends<I: IntNumber>(starts: Vec<Spoke<I>>, ends: &[Spoke<I>]) -> Result<Vec<Spoke<I>>, Fault>
     ensures is { IfOk result (λ spokes. spokes.items ≡ starts.items ++ ends.now) }
     ensures memory { IsOkUnless result Fault.Memory }
 {

@@ -7,10 +7,11 @@ ghost use Rattle.std.specs.Prelude.{◌≡◌, ℕ, ◌+◌, ◌<◌, ◌≤◌,
 ghost use Rattle.contour_walk.specs.NodeRings.{IsPassed, IsLeftAt, LeadAhead, LeadBack, IsNextPlace};
 
 use crate::walk::spoke::{Spoke, is_left};
+use plane_base::int::IntNumber;
 use segment_arrangement::graph::VisitState;
 
 // The first place of a ring, from one on, whose link is left, or the number of places.
-pub(crate) fn first_ahead<I>(
+pub(crate) fn first_ahead<I: IntNumber>(
     ahead: &mut [usize],
     spokes: &[Spoke<I>],
     states: &[VisitState],
@@ -36,7 +37,7 @@ pub(crate) fn first_ahead<I>(
 }
 
 // Where the way from a passed place leads. It is made longer where it leads to one that is passed too.
-fn step_ahead<I>(
+fn step_ahead<I: IntNumber>(
     ahead: &mut [usize],
     spokes: &[Spoke<I>],
     states: &[VisitState],
@@ -61,7 +62,7 @@ fn step_ahead<I>(
 }
 
 // The place behind the last one before another whose link is left, or 0.
-pub(crate) fn last_back<I>(
+pub(crate) fn last_back<I: IntNumber>(
     back: &mut [usize],
     spokes: &[Spoke<I>],
     states: &[VisitState],
@@ -87,7 +88,12 @@ pub(crate) fn last_back<I>(
 
 // Where the way back from a passed place leads: behind it all are passed up to that place. It is made longer where it leads behind
 // one that is passed too.
-fn step_back<I>(back: &mut [usize], spokes: &[Spoke<I>], states: &[VisitState], at: usize) -> usize
+fn step_back<I: IntNumber>(
+    back: &mut [usize],
+    spokes: &[Spoke<I>],
+    states: &[VisitState],
+    at: usize,
+) -> usize
     requires inside { All (λ s. s.place < length states.now) spokes.now }
     requires back { LeadBack (length spokes.now) (IsPassed states.now spokes.now) back.old }
     requires within { at < length spokes.now }
@@ -106,7 +112,7 @@ fn step_back<I>(back: &mut [usize], spokes: &[Spoke<I>], states: &[VisitState], 
 }
 
 // The place that is left and comes first on turning counterclockwise from one that is passed.
-pub(crate) fn next_ahead<I>(
+pub(crate) fn next_ahead<I: IntNumber>(
     ahead: &mut [usize],
     spokes: &[Spoke<I>],
     states: &[VisitState],
@@ -132,7 +138,7 @@ pub(crate) fn next_ahead<I>(
 }
 
 // The place that is left and comes first on turning clockwise from one that is passed.
-pub(crate) fn next_back<I>(
+pub(crate) fn next_back<I: IntNumber>(
     back: &mut [usize],
     spokes: &[Spoke<I>],
     states: &[VisitState],

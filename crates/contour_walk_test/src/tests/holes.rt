@@ -1,6 +1,6 @@
 //! Holes joined to given shapes.
 
-ghost use Rattle.std.specs.Prelude.{◌≡◌, [], ◌∷◌, IfOk, map};
+ghost use Rattle.std.specs.Prelude.{◌≡◌, [], ◌∷◌, IfOk};
 ghost use Rattle.plane_base.specs.GivenViews.{contours_of};
 ghost use Rattle.plane_base.specs.Views.{points_of};
 ghost use Rattle.contour_walk.specs.ShapeViews.{shapes_of};
@@ -73,7 +73,7 @@ fn path(alloc: Global, points: &[IntPoint<i32>]) -> Result<IntPath<i32>, Fault>
 }
 
 fn square(alloc: Global, points: &[IntPoint<i32>]) -> Result<IntShape<i32>, Fault>
-    ensures { IfOk result (λ shape. contours_of (λ x. x) shape.contours.items ≡ points_of (λ x. x) points.now ∷ []) }
+    ensures { IfOk result (λ shape. contours_of shape.contours.items ≡ points_of points.now ∷ []) }
 {
     let mut contours = Vec::new(alloc);
     contours.push(path(alloc, points)?)?;
@@ -82,7 +82,7 @@ fn square(alloc: Global, points: &[IntPoint<i32>]) -> Result<IntShape<i32>, Faul
 
 // The squares 0 0 .. 20 20, 30 0 .. 50 20 beside it, and 0 30 .. 20 50 above it.
 fn three_squares(alloc: Global) -> Result<IntShapes<i32>, Fault>
-    ensures { IfOk result (λ squares. shapes_of (λ x. x) squares.shapes.items ≡ three_squares) }
+    ensures { IfOk result (λ squares. shapes_of squares.shapes.items ≡ three_squares) }
 {
     let mut shapes = Vec::new(alloc);
     let first = [
@@ -111,7 +111,7 @@ fn three_squares(alloc: Global) -> Result<IntShapes<i32>, Fault>
 
 // A hole of the first square over another one, one of the square above, one of that beside, and the one below the first.
 fn four_holes(alloc: Global) -> Result<Vec<IntPath<i32>>, Fault>
-    ensures { IfOk result (λ holes. contours_of (λ x. x) holes.items ≡ four_holes) }
+    ensures { IfOk result (λ holes. contours_of holes.items ≡ four_holes) }
 {
     let mut holes = Vec::new(alloc);
     let over = [
@@ -178,7 +178,7 @@ fn framed(
     outline: &[IntPoint<i32>],
     hole: &[IntPoint<i32>],
 ) -> Result<IntShape<i32>, Fault>
-    ensures { IfOk result (λ shape. contours_of (λ x. x) shape.contours.items ≡ points_of (λ x. x) outline.now ∷ points_of (λ x. x) hole.now ∷ []) }
+    ensures { IfOk result (λ shape. contours_of shape.contours.items ≡ points_of outline.now ∷ points_of hole.now ∷ []) }
 {
     let mut contours = Vec::new(alloc);
     contours.push(path(alloc, outline)?)?;
@@ -188,7 +188,7 @@ fn framed(
 
 // The square 0 0 .. 100 100 without the square 20 20 .. 40 40, and the square 25 25 .. 35 35 within that.
 fn framed_square(alloc: Global) -> Result<IntShapes<i32>, Fault>
-    ensures { IfOk result (λ shapes. shapes_of (λ x. x) shapes.shapes.items ≡ framed_square) }
+    ensures { IfOk result (λ shapes. shapes_of shapes.shapes.items ≡ framed_square) }
 {
     let mut shapes = Vec::new(alloc);
     let outer = [
@@ -216,7 +216,7 @@ fn framed_square(alloc: Global) -> Result<IntShapes<i32>, Fault>
 
 // A hole over the hole that is there.
 fn hole_above(alloc: Global) -> Result<Vec<IntPath<i32>>, Fault>
-    ensures { IfOk result (λ holes. contours_of (λ x. x) holes.items ≡ hole_above) }
+    ensures { IfOk result (λ holes. contours_of holes.items ≡ hole_above) }
 {
     let mut holes = Vec::new(alloc);
     let above = [
@@ -256,7 +256,7 @@ fn joins_a_hole_to_the_shape_of_a_given_hole(rt: HostRuntime) -> Result<(), Fail
 
 // The squares 0 0 .. 20 20 and 30 0 .. 50 20.
 fn apart_squares(alloc: Global) -> Result<IntShapes<i32>, Fault>
-    ensures { IfOk result (λ shapes. shapes_of (λ x. x) shapes.shapes.items ≡ apart_squares) }
+    ensures { IfOk result (λ shapes. shapes_of shapes.shapes.items ≡ apart_squares) }
 {
     let mut shapes = Vec::new(alloc);
     let first = [
@@ -278,7 +278,7 @@ fn apart_squares(alloc: Global) -> Result<IntShapes<i32>, Fault>
 
 // A hole below the second square, and one below that.
 fn holes_outside(alloc: Global) -> Result<Vec<IntPath<i32>>, Fault>
-    ensures { IfOk result (λ holes. contours_of (λ x. x) holes.items ≡ holes_outside) }
+    ensures { IfOk result (λ holes. contours_of holes.items ≡ holes_outside) }
 {
     let mut holes = Vec::new(alloc);
     let over = [

@@ -1,7 +1,7 @@
 //! Drawn small maps, by each overlay rule and fill rule in turn: their shapes against those of the slow program, and how they wind
 //! at half-whole points against the map's region.
 
-ghost use Rattle.std.specs.Prelude.{◌≡◌, ◌<◌, ◌^◌, length, All, IfSome, IfOk};
+ghost use Rattle.std.specs.Prelude.{◌<◌, ◌^◌, length, All, IfSome, IfOk};
 ghost use Rattle.reference.specs.MapViews.{entries_of as counted_entries};
 ghost use Rattle.plane_base.specs.Segments.{IsEdgeWithin};
 ghost use Rattle.segment_split.specs.SegmentViews.{entries_of, AreWithin};

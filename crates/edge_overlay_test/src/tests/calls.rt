@@ -16,7 +16,7 @@ use std::alloc::Global;
 
 // Whether both ends of each edge are in range.
 fn are_inputs_within<I: OverlayInt, D: Copy>(edges: &[InputEdge<I, D>]) -> bool
-    ensures { IsTrue result → All (IsInputWithin I.value I.least I.greatest) edges.now }
+    ensures { IsTrue result → All (IsInputWithin I.least I.greatest) edges.now }
 {
     for edge in edges {
         if !is_in_range(edge.a) || !is_in_range(edge.b) {

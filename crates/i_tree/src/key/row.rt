@@ -5,12 +5,10 @@
 //! stored. A new entry moves those after it, as far as the nearest that has expired, whose place it fills, or all where none near
 //! has. So a row serves where at most a thousand keys or so live at a time.
 ghost use Rattle.std.specs.Prelude.{◌≡◌, ◌≢◌, ◌-◌, ◌+◌, ◌<◌, ◌≤◌, ◌^◌, true, false, length, drop, slice_index_or, All, IfOk, IfErr, OnErr, Some, None, Ok, Err};
-ghost use Rattle.std.specs.Bool.{OnTrue, OnFalse};
-ghost use Rattle.std.specs.Ordering.{ordering_then};
 ghost use Rattle.std.specs.declared.cmp.Ordering.{Ordering};
 ghost use Rattle.std.specs.declared.cmp.Ordering.TheVariants.{Less, Equal, Greater};
-ghost use Rattle.i_tree.specs.LiveList.{nothing_kept, is_live, live_at, HasRoom, IsSound, IsNotBefore, IsLawful, IsNewKey, IsAdvanced, IsInserted};
-ghost use Rattle.i_tree.specs.KeyAnswers.{last_below, HasEqualKey, DependsOnKey, IsMonotone, IsAnswer, IsPlace};
+ghost use Rattle.i_tree.specs.LiveList.{nothing_kept, is_live, live_at, IsSound, IsNotBefore, IsAdvanced};
+ghost use Rattle.i_tree.specs.KeyAnswers.{DependsOnKey, IsMonotone};
 ghost use Rattle.i_tree.specs.Row.{kept_in, before_in, after_in, from_in, end_in, IsParted, IsPut, way_of};
 ghost use Rattle.i_tree.specs.Steps.{CountsAtMost};
 ghost use Rattle.i_tree.specs.TreeBound.{most_comparisons};

@@ -1,7 +1,7 @@
 //! The walk of a query over a bucket tree: it goes over the 63 nodes from the root on, and takes each insertion once,
 //! at the least node that its place and the query share. It takes a step for each node and for each name at those of
 //! the query, and no memory.
-ghost use Rattle.std.specs.Prelude.{◌≡◌, ℕ, ◌<◌, ◌∷◌, [], List, map, filter, length, MatchOption};
+ghost use Rattle.std.specs.Prelude.{◌≡◌, ℕ, ◌<◌, ◌∷◌, [], map, filter, length, MatchOption};
 ghost use Rattle.std.specs.Iterator.{YieldsFirst, item_count};
 ghost use Rattle.i_tree.specs.Ranges.Nodes.{list_at, is_taken, left_to_walk};
 ghost use Rattle.i_tree.specs.Ranges.Pool.{named_at, picked};

@@ -3,9 +3,9 @@
 //! The buckets are the leaves of a full binary tree whose nodes are numbered from the root, 0, level by level, left to
 //! right: bucket i is node 31 + i. A mask has a bit for each of the 63 nodes. Each function goes once over the six
 //! levels, from the leaves to the root.
-ghost use Rattle.std.specs.Prelude.{◌≡◌, ℕ, ◌+◌, ◌-◌, ◌<◌, ◌≤◌, ◌^◌, ◌%◌, ◌&&◌, ◌||◌, ◌==◌, ◌↔◌, nat_le, nat_lt, if◌then◌else◌};
+ghost use Rattle.std.specs.Prelude.{◌≡◌, ℕ, ◌+◌, ◌-◌, ◌<◌, ◌≤◌, ◌%◌, ◌==◌, ◌↔◌, if◌then◌else◌};
 ghost use Rattle.std.specs.Int.{bit_at};
-ghost use Rattle.i_tree.specs.Ranges.Masks.{mask_of, is_placed, is_met, place_mask, intersect_mask, is_end, ShareBit, Overlap};
+ghost use Rattle.i_tree.specs.Ranges.Masks.{place_mask, intersect_mask, is_end, ShareBit, Overlap};
 ghost use Rattle.i_tree.specs.Ranges.FewestNodes.{IsFewest};
 
 /// The mask of the nodes whose buckets all lie in the interval of buckets while their parent's do not. These nodes have

@@ -3,11 +3,11 @@
 //! In the words of textbooks the list of spare places is a free list: a place goes there once no node names it, and
 //! the next insertion takes one from there. To drop what has expired takes a step for each node, and for each name at
 //! those of the mask.
-ghost use Rattle.std.specs.Prelude.{◌≡◌, ◌≢◌, ◌≤◌, ◌<◌, ◌^◌, ◌+◌, ℕ, [], map, filter, length, not, ◌&&◌, ◌==◌, IfOk, OnErr, slice_index_or, true};
-ghost use Rattle.std.specs.Prelude.{vec_capacity, bit_and, if◌then◌else◌};
+ghost use Rattle.std.specs.Prelude.{◌≡◌, ◌<◌, ◌^◌, ◌+◌, map, length, ◌==◌, IfOk, OnErr};
+ghost use Rattle.std.specs.Prelude.{vec_capacity, if◌then◌else◌};
 ghost use Rattle.std.specs.Int.{bit_at};
 ghost use Rattle.i_tree.specs.Bag.{is_still_live};
-ghost use Rattle.i_tree.specs.Ranges.Nodes.{list_at, has_node};
+ghost use Rattle.i_tree.specs.Ranges.Nodes.{list_at};
 ghost use Rattle.i_tree.specs.Ranges.Pool.{named_at, lives_at, AreNamed, AreNamedAt, AreSpare, IsKept, LosesNode, IsCleared, IsPurgedTo};
 
 use crate::exp::{Expiration, ExpiredVal};

@@ -8,7 +8,7 @@
 //! Degenerate cases: a range that spans fewer than 31 has no tree. An insertion takes a step for each of the 63 nodes,
 //! a query that and a step for each name at the nodes that it goes over.
 ghost use Rattle.std.specs.Prelude.{◌≡◌, ℤ, pos, ◌+ℤ◌, ◌≤ℤ◌, ◌<ℤ◌, ◌≤◌, ◌<◌, ◌+◌, ◌-◌, map, length, ◌↔◌, ◌&&◌, IsTrue, OnOk, OnErr, IfOk, IfSome};
-ghost use Rattle.std.specs.Prelude.{IfNone, IsPermutation, ◌==◌};
+ghost use Rattle.std.specs.Prelude.{IfNone, IsPermutation};
 ghost use Rattle.i_tree.specs.Layout.{bucket_of, AreBuckets, BucketsRise, IsAccepted};
 ghost use Rattle.i_tree.specs.Bag.{Bag, empty_bag, values_met, IsInTime, BagHasRoom, IsAdded, IsPassed};
 
@@ -35,7 +35,7 @@ pub struct SegExpTree<R: LayoutNumber, E: Expiration, V: ExpiredVal<E>> {
 
 impl<R: LayoutNumber, E: Expiration, V: ExpiredVal<E>> Model for SegExpTree<R, E, V> {
     ghost use Rattle.std.specs.Prelude.{◌≡◌, ◌≤◌, map, filter, length, ◌&&◌, vec_capacity};
-    ghost use Rattle.i_tree.specs.Bag.{Bag, Insertion, is_live_yet};
+    ghost use Rattle.i_tree.specs.Bag.{Bag, is_live_yet};
     ghost use Rattle.i_tree.specs.Ranges.Nodes.{list_at};
     ghost use Rattle.i_tree.specs.Ranges.Pool.{is_held, IsOnePool};
 

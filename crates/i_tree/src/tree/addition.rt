@@ -1,9 +1,9 @@
 //! The places of a red-black tree, and new nodes there: a leaf is attached, and the tree rebalanced
 //! (`insertion`). Degenerate cases: the root of an empty tree is a vacant place. A step down takes constant
 //! time, an insertion at most a step for each level.
-ghost use Rattle.std.specs.Prelude.{◌≡◌, ◌≢◌, ◌<◌, ℕ, List, [], Bool, IfOk, IfErr, OnErr, length};
+ghost use Rattle.std.specs.Prelude.{◌≡◌, ◌≢◌, ◌<◌, ℕ, List, IfOk, IfErr, OnErr, length};
 ghost use Rattle.i_tree.specs.Tree.Shape.{Context, Tree, plug};
-ghost use Rattle.i_tree.specs.Tree.Pool.{Nodes, places, root_of, parent_of, IsOnSide, Stands};
+ghost use Rattle.i_tree.specs.Tree.Pool.{places, root_of, parent_of, IsOnSide, Stands};
 ghost use Rattle.i_tree.specs.Tree.Addition.{Gap, IsAdded};
 ghost use Rattle.i_tree.specs.Tree.Entries.{IsEntered};
 

@@ -1,7 +1,7 @@
 //! A red-black tree with an entry at each node. Degenerate cases: where a node with two children goes, its
 //! successor's entry comes to its place. An addition, a removal or the way to the node before takes at most a
 //! step for each level.
-ghost use Rattle.std.specs.Prelude.{◌≡◌, ◌≢◌, ℕ, ◌<◌, List, [], Bool, Some, slice_get, slice_set, length, IfOk, IfErr, OnErr};
+ghost use Rattle.std.specs.Prelude.{◌≡◌, ◌≢◌, ℕ, ◌<◌, List, [], Some, slice_get, length, IfOk, IfErr, OnErr};
 ghost use Rattle.i_tree.specs.Tree.Pool.{places};
 ghost use Rattle.std.specs.Prelude.{◌++◌, ◌↔◌, IsTrue};
 ghost use Rattle.std.specs.Borrow.{sem, Lends};

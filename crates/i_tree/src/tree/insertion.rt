@@ -4,8 +4,7 @@
 //!
 //! Degenerate cases: a red root is painted black. It takes at most a step for each level, and two rotations.
 ghost use Rattle.std.specs.Prelude.{◌≡◌, ℕ, ◌<◌, List, Bool};
-ghost use Rattle.i_tree.specs.Tree.Shape.{Context};
-ghost use Rattle.i_tree.specs.Tree.Pool.{Nodes, Stands};
+ghost use Rattle.i_tree.specs.Tree.Pool.{Stands};
 ghost use Rattle.i_tree.specs.Tree.Insertion.{IsTreeBalanced, IsRedAt, IsMended, Reddens, reddened, IsRedTwice, IsTwisted, IsRedOuter};
 
 use crate::tree::pool::{NO_NODE, Pool, child};

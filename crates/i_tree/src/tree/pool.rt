@@ -7,10 +7,10 @@
 //!
 //! Degenerate cases: a node without a parent is the root. Each call takes constant time, but for `clear` and for making
 //! room.
-ghost use Rattle.std.specs.Prelude.{◌≡◌, ◌≢◌, ℕ, ◌+◌, ◌<◌, ◌≤◌, List, ◌∷◌, Bool, [], ◌++◌, IfOk, IfErr, OnOk, OnErr, IsTrue, ◌↔◌, Some, slice_get, length};
+ghost use Rattle.std.specs.Prelude.{◌≡◌, ℕ, ◌+◌, ◌<◌, ◌≤◌, List, ◌∷◌, Bool, [], ◌++◌, IfOk, IfErr, OnOk, OnErr, IsTrue, ◌↔◌, Some, slice_get, length};
 ghost use Rattle.i_tree.specs.Tree.Entries.{no_entries, with_entry, IsSwapped, IsEntered};
-ghost use Rattle.i_tree.specs.Tree.Shape.{Tree, Context, join, plug, count, count_around, redness, root_redness};
-ghost use Rattle.i_tree.specs.Tree.Pool.{places, links_at, word_of, wired, child_of, with_child, root_of, parent_of, IsOnSide, IsAt, IsPut, Stands};
+ghost use Rattle.i_tree.specs.Tree.Shape.{Tree, Context, join, plug, redness, root_redness};
+ghost use Rattle.i_tree.specs.Tree.Pool.{places, links_at, word_of, wired, child_of, with_child, IsOnSide, IsPut, Stands};
 ghost use Rattle.i_tree.specs.Tree.Pool.{ChangesOnly, Focus, Subtree, IsAdopted, Hangs, IsHung, Lifts, lifted, Grows, Vacant, TakesPlace, IsAttached};
 ghost use Rattle.i_tree.specs.Tree.Pool.{Cuts};
 

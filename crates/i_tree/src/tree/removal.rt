@@ -4,9 +4,9 @@
 //!
 //! Degenerate cases: a red node leaves no lack, and a red only child is painted black. It takes at most a step for
 //! each level, and three rotations.
-ghost use Rattle.std.specs.Prelude.{◌≡◌, ◌≢◌, ℕ, ◌<◌, List, ◌∷◌, Bool, false};
+ghost use Rattle.std.specs.Prelude.{◌≡◌, ◌≢◌, ℕ, ◌<◌, List, ◌∷◌, false};
 ghost use Rattle.i_tree.specs.Tree.Shape.{Context, Tree, under, join, names};
-ghost use Rattle.i_tree.specs.Tree.Pool.{Nodes, Stands, Focus, root_of, parent_of, IsOnSide};
+ghost use Rattle.i_tree.specs.Tree.Pool.{Focus, root_of, parent_of, IsOnSide};
 ghost use Rattle.i_tree.specs.Tree.Removal.{Lacks, LacksBelow, LacksByBlack, LacksByRed, LacksByBoth, IsRefilled, FillsIn, TakesNodeOut, IsTakenOut};
 ghost use Rattle.i_tree.specs.Tree.Removal.{IsFilled, IsRemoved, IsFirst};
 

@@ -1,5 +1,5 @@
 //! Masks and buckets: answers given by hand, and calls drawn from a fixed seed.
-ghost use Rattle.std.specs.Prelude.{◌≡◌, ◌<◌};
+ghost use Rattle.std.specs.Prelude.{◌<◌};
 ghost use Rattle.std.specs.Bool.{OnTrue};
 ghost use Rattle.std.specs.Ordering.{nat_cmp};
 ghost use Rattle.i_tree.specs.Bag.{IsInTime};

@@ -8,21 +8,20 @@ ghost use Rattle.plane_base.specs.Crossing.{no_marks, overlay, laid_by, unless_e
 ghost use Rattle.plane_base.specs.MarkingLaws.{both_at};
 ghost use Rattle.plane_base.specs.MarkOrder.{with_mark, along, both_along};
 ghost use Rattle.plane_base.specs.PairMarkViews.{mark_list, pair_marks_of, AreWithin};
-ghost use Rattle.plane_base.specs.Views.{point_of};
-ghost use Rattle.plane_base.specs.SegmentViews.{edge_of, found_of, meeting_of};
+ghost use Rattle.plane_base.specs.SegmentViews.{found_of, meeting_of};
 ghost use Rattle.plane_base.specs.declared.cross.CrossKind.TheVariants.{Overlay};
 
 use super::PairMeeting;
 use super::touching::is_between;
 use crate::cross::{CrossKind, CrossResult};
-use crate::int::OverlayInt;
+use crate::int::{IntNumber, OverlayInt};
 use crate::point::IntPoint;
 use crate::segment::{XSegment, order_of_points};
 use std::cmp::Ordering;
 
 /// The marks of one segment of a pair, in order along it: at most two.
 #[derive(Clone, Copy, Debug, PartialEq, Eq)]
-pub enum EndMarks<I> {
+pub enum EndMarks<I: IntNumber> {
     None,
     One(IntPoint<I>),
     Two(IntPoint<I>, IntPoint<I>),
@@ -30,7 +29,7 @@ pub enum EndMarks<I> {
 
 /// The marks of the lesser of two segments, the target, and those of the other.
 #[derive(Clone, Copy, Debug, PartialEq, Eq)]
-pub struct PairMarks<I> {
+pub struct PairMarks<I: IntNumber> {
     pub target: EndMarks<I>,
     pub other: EndMarks<I>,
     /// The segments cross properly, at no whole point.
@@ -40,9 +39,9 @@ pub struct PairMarks<I> {
 impl<I: OverlayInt> PairMarks<I> {
     // None on either.
     pub(super) fn none() -> Self
-        ensures is { pair_marks_of I.value result ≡ no_marks }
+        ensures is { pair_marks_of result ≡ no_marks }
         ensures off_grid { result.is_off_grid ≡ false }
-        ensures within { AreWithin I.least I.greatest (pair_marks_of I.value result) }
+        ensures within { AreWithin I.least I.greatest (pair_marks_of result) }
     {
         PairMarks {
             target: EndMarks::None,
@@ -53,10 +52,10 @@ impl<I: OverlayInt> PairMarks<I> {
 
     // One on both.
     pub(super) fn both_at(point: IntPoint<I>) -> Self
-        requires { IsWithin I.least I.greatest (point_of I.value point) }
-        ensures is { pair_marks_of I.value result ≡ both_at (point_of I.value point) }
+        requires { IsWithin I.least I.greatest point }
+        ensures is { pair_marks_of result ≡ both_at point }
         ensures off_grid { result.is_off_grid ≡ false }
-        ensures within { AreWithin I.least I.greatest (pair_marks_of I.value result) }
+        ensures within { AreWithin I.least I.greatest (pair_marks_of result) }
     {
         PairMarks {
             target: EndMarks::One(point),
@@ -72,15 +71,15 @@ pub(super) fn laid<I: OverlayInt>(
     other: XSegment<I>,
     met: PairMeeting<I>,
 ) -> PairMarks<I>
-    requires target_in_range { IsEdgeWithin I.least I.greatest (edge_of I.value target) }
-    requires other_in_range { IsEdgeWithin I.least I.greatest (edge_of I.value other) }
-    requires met_in_range { IfSome met.result (λ r. IsWithin I.least I.greatest (point_of I.value r.point)) }
-    requires on_line { (p : Point) → meeting_of I.value met.result ≡ overlay p → on_one_line (edge_of I.value target) (edge_of I.value other) ≡ true }
-    ensures is { pair_marks_of I.value result
-        ≡ both_along (edge_of I.value target) (edge_of I.value other)
-        (laid_by (edge_of I.value target) (edge_of I.value other) (meeting_of I.value met.result)) }
+    requires target_in_range { IsEdgeWithin I.least I.greatest target }
+    requires other_in_range { IsEdgeWithin I.least I.greatest other }
+    requires met_in_range { IfSome met.result (λ r. IsWithin I.least I.greatest r.point) }
+    requires on_line { (p : Point) → meeting_of met.result ≡ overlay p → on_one_line target other ≡ true }
+    ensures is { pair_marks_of result
+        ≡ both_along target other
+        (laid_by target other (meeting_of met.result)) }
     ensures off_grid { result.is_off_grid ≡ met.is_off_grid }
-    ensures within { AreWithin I.least I.greatest (pair_marks_of I.value result) }
+    ensures within { AreWithin I.least I.greatest (pair_marks_of result) }
 {
     let is_off_grid = met.is_off_grid;
     match met.result {
@@ -99,15 +98,15 @@ fn laid_at<I: OverlayInt>(
     found: CrossResult<I>,
     is_off_grid: bool,
 ) -> PairMarks<I>
-    requires target_in_range { IsEdgeWithin I.least I.greatest (edge_of I.value target) }
-    requires other_in_range { IsEdgeWithin I.least I.greatest (edge_of I.value other) }
-    requires found_in_range { IsWithin I.least I.greatest (point_of I.value found.point) }
-    requires on_line { found.kind ≡ Overlay → on_one_line (edge_of I.value target) (edge_of I.value other) ≡ true }
-    ensures is { pair_marks_of I.value result
-        ≡ both_along (edge_of I.value target) (edge_of I.value other)
-        (laid_by (edge_of I.value target) (edge_of I.value other) (found_of I.value found)) }
+    requires target_in_range { IsEdgeWithin I.least I.greatest target }
+    requires other_in_range { IsEdgeWithin I.least I.greatest other }
+    requires found_in_range { IsWithin I.least I.greatest found.point }
+    requires on_line { found.kind ≡ Overlay → on_one_line target other ≡ true }
+    ensures is { pair_marks_of result
+        ≡ both_along target other
+        (laid_by target other (found_of found)) }
     ensures off_grid { result.is_off_grid ≡ is_off_grid }
-    ensures within { AreWithin I.least I.greatest (pair_marks_of I.value result) }
+    ensures within { AreWithin I.least I.greatest (pair_marks_of result) }
 {
     let point = found.point;
     match found.kind {
@@ -136,9 +135,9 @@ fn laid_at<I: OverlayInt>(
 
 // The point, unless it is an end of the segment.
 fn unless_end<I: OverlayInt>(s: XSegment<I>, p: IntPoint<I>) -> EndMarks<I>
-    requires { IsWithin I.least I.greatest (point_of I.value p) }
-    ensures is { mark_list I.value result ≡ along (edge_of I.value s) (unless_end (edge_of I.value s) (point_of I.value p)) }
-    ensures within { All (IsWithin I.least I.greatest) (mark_list I.value result) }
+    requires { IsWithin I.least I.greatest p }
+    ensures is { mark_list result ≡ along s (unless_end s p) }
+    ensures within { All (IsWithin I.least I.greatest) (mark_list result) }
 {
     if order_of_points(p, s.a).is_eq() || order_of_points(p, s.b).is_eq() {
         EndMarks::None
@@ -149,11 +148,11 @@ fn unless_end<I: OverlayInt>(s: XSegment<I>, p: IntPoint<I>) -> EndMarks<I>
 
 // The ends of the other segment that lie strictly inside this one, where both run on one line.
 fn ends_inside<I: OverlayInt>(s: XSegment<I>, other: XSegment<I>) -> EndMarks<I>
-    requires in_range { IsEdgeWithin I.least I.greatest (edge_of I.value s) }
-    requires other_in_range { IsEdgeWithin I.least I.greatest (edge_of I.value other) }
-    requires on_line { on_one_line (edge_of I.value s) (edge_of I.value other) ≡ true }
-    ensures is { mark_list I.value result ≡ along (edge_of I.value s) (ends_inside (edge_of I.value s) (edge_of I.value other)) }
-    ensures within { All (IsWithin I.least I.greatest) (mark_list I.value result) }
+    requires in_range { IsEdgeWithin I.least I.greatest s }
+    requires other_in_range { IsEdgeWithin I.least I.greatest other }
+    requires on_line { on_one_line s other ≡ true }
+    ensures is { mark_list result ≡ along s (ends_inside s other) }
+    ensures within { All (IsWithin I.least I.greatest) (mark_list result) }
 {
     let XSegment { a, b } = other;
     let has_a = is_between(a, s);
@@ -171,10 +170,10 @@ fn ends_inside<I: OverlayInt>(s: XSegment<I>, other: XSegment<I>) -> EndMarks<I>
 
 // Two marks in order along their segment, and one where they are the same.
 fn in_order<I: OverlayInt>(s: XSegment<I>, p: IntPoint<I>, q: IntPoint<I>) -> EndMarks<I>
-    requires p_in_range { IsWithin I.least I.greatest (point_of I.value p) }
-    requires q_in_range { IsWithin I.least I.greatest (point_of I.value q) }
-    ensures is { mark_list I.value result ≡ with_mark (edge_of I.value s) (point_of I.value p) (point_of I.value q ∷ []) }
-    ensures within { All (IsWithin I.least I.greatest) (mark_list I.value result) }
+    requires p_in_range { IsWithin I.least I.greatest p }
+    requires q_in_range { IsWithin I.least I.greatest q }
+    ensures is { mark_list result ≡ with_mark s p (q ∷ []) }
+    ensures within { All (IsWithin I.least I.greatest) (mark_list result) }
 {
     match s.mark_order(p, q) {
         Ordering::Less => EndMarks::Two(p, q),

@@ -11,8 +11,7 @@ ghost use Rattle.plane_base.specs.Plane.{IsWithin, IsWeight};
 ghost use Rattle.plane_base.specs.Segments.{IsEdgeWithin, cross_properly, squared_distance};
 ghost use Rattle.plane_base.specs.Crossing.{pure, meeting_by, crossing, rounded, rounded_along, is_whole, crosses_off_grid};
 ghost use Rattle.plane_base.specs.Crossing.{nearest, floor, nearer, snapped};
-ghost use Rattle.plane_base.specs.Views.{point_of};
-ghost use Rattle.plane_base.specs.SegmentViews.{edge_of, found_of, meeting_of};
+ghost use Rattle.plane_base.specs.SegmentViews.{found_as, found_of, meeting_of};
 ghost use Rattle.plane_base.specs.Sides.{AreSides, mean_by, weighed_by, bottom_of, rounded_by, settled_by};
 
 use super::PairMeeting;
@@ -31,13 +30,13 @@ pub(super) fn crossed<I: OverlayInt>(
     own: Sides<I::Wide>,
     rounding: Rounding,
 ) -> PairMeeting<I>
-    requires target_in_range { IsEdgeWithin I.least I.greatest (edge_of I.value target) }
-    requires other_in_range { IsEdgeWithin I.least I.greatest (edge_of I.value other) }
-    requires own { AreSides I.Wide.number I.most (edge_of I.value other) (edge_of I.value target) own }
-    requires proper { cross_properly (edge_of I.value target) (edge_of I.value other) ≡ true }
-    ensures is { meeting_of I.value result.result ≡ meeting_by rounding (edge_of I.value target) (edge_of I.value other) }
-    ensures off_grid { result.is_off_grid ≡ crosses_off_grid (edge_of I.value target) (edge_of I.value other) }
-    ensures within { IfSome result.result (λ r. IsWithin I.least I.greatest (point_of I.value r.point)) }
+    requires target_in_range { IsEdgeWithin I.least I.greatest target }
+    requires other_in_range { IsEdgeWithin I.least I.greatest other }
+    requires own { AreSides I.Wide.number I.most other target own }
+    requires proper { cross_properly target other ≡ true }
+    ensures is { meeting_of result.result ≡ meeting_by rounding target other }
+    ensures off_grid { result.is_off_grid ≡ crosses_off_grid target other }
+    ensures within { IfSome result.result (λ r. IsWithin I.least I.greatest r.point) }
 {
     let (u, v) = weights_of(target, other, own);
     let point = rounded(target, u, v, rounding);
@@ -62,10 +61,10 @@ fn weights_of<I: OverlayInt>(
     _other: XSegment<I>,
     own: Sides<I::Wide>,
 ) -> (I::Wide, I::Wide)
-    requires own { AreSides I.Wide.number I.most (edge_of I.value _other) (edge_of I.value _target) own }
-    requires proper { cross_properly (edge_of I.value _target) (edge_of I.value _other) ≡ true }
-    ensures is { mean_by (edge_of I.value _target) (I.Wide.number result.0) (I.Wide.number result.1)
-        ≡ crossing (edge_of I.value _target) (edge_of I.value _other) }
+    requires own { AreSides I.Wide.number I.most _other _target own }
+    requires proper { cross_properly _target _other ≡ true }
+    ensures is { mean_by _target (I.Wide.number result.0) (I.Wide.number result.1)
+        ≡ crossing _target _other }
     ensures first_fits { IsWeight I.most (I.Wide.number result.0) }
     ensures second_fits { IsWeight I.most (I.Wide.number result.1) }
 {
@@ -74,11 +73,11 @@ fn weights_of<I: OverlayInt>(
 
 // The mean of the segment's ends as a whole point, before it goes to an end.
 fn rounded<I: OverlayInt>(s: XSegment<I>, u: I::Wide, v: I::Wide, rounding: Rounding) -> IntPoint<I>
-    requires in_range { IsEdgeWithin I.least I.greatest (edge_of I.value s) }
+    requires in_range { IsEdgeWithin I.least I.greatest s }
     requires u_fits { IsWeight I.most (I.Wide.number u) }
     requires v_fits { IsWeight I.most (I.Wide.number v) }
-    ensures is { point_of I.value result ≡ rounded_by rounding (edge_of I.value s) (mean_by (edge_of I.value s) (I.Wide.number u) (I.Wide.number v)) }
-    ensures within { IsWithin I.least I.greatest (point_of I.value result) }
+    ensures is { result ≡ rounded_by rounding s (mean_by s (I.Wide.number u) (I.Wide.number v)) }
+    ensures within { IsWithin I.least I.greatest result }
 {
     match rounding {
         Rounding::Near(_) => crossing_along(s, u, v),
@@ -88,11 +87,11 @@ fn rounded<I: OverlayInt>(s: XSegment<I>, u: I::Wide, v: I::Wide, rounding: Roun
 
 // The whole point nearest to the mean of the segment's ends.
 fn nearest_crossing<I: OverlayInt>(s: XSegment<I>, u: I::Wide, v: I::Wide) -> IntPoint<I>
-    requires in_range { IsEdgeWithin I.least I.greatest (edge_of I.value s) }
+    requires in_range { IsEdgeWithin I.least I.greatest s }
     requires u_fits { IsWeight I.most (I.Wide.number u) }
     requires v_fits { IsWeight I.most (I.Wide.number v) }
-    ensures is { point_of I.value result ≡ rounded (mean_by (edge_of I.value s) (I.Wide.number u) (I.Wide.number v)) }
-    ensures within { IsWithin I.least I.greatest (point_of I.value result) }
+    ensures is { result ≡ rounded (mean_by s (I.Wide.number u) (I.Wide.number v)) }
+    ensures within { IsWithin I.least I.greatest result }
 {
     let XSegment { a, b } = s;
     IntPoint::new(
@@ -103,12 +102,12 @@ fn nearest_crossing<I: OverlayInt>(s: XSegment<I>, u: I::Wide, v: I::Wide) -> In
 
 // Whether the point, which is the mean rounded where that is whole, is the mean.
 fn is_crossing<I: OverlayInt>(s: XSegment<I>, u: I::Wide, v: I::Wide, point: IntPoint<I>) -> bool
-    requires in_range { IsEdgeWithin I.least I.greatest (edge_of I.value s) }
-    requires point_in_range { IsWithin I.least I.greatest (point_of I.value point) }
+    requires in_range { IsEdgeWithin I.least I.greatest s }
+    requires point_in_range { IsWithin I.least I.greatest point }
     requires u_fits { IsWeight I.most (I.Wide.number u) }
     requires v_fits { IsWeight I.most (I.Wide.number v) }
-    requires whole { is_whole (mean_by (edge_of I.value s) (I.Wide.number u) (I.Wide.number v)) ≡ true → point_of I.value point ≡ rounded (mean_by (edge_of I.value s) (I.Wide.number u) (I.Wide.number v)) }
-    ensures { result ≡ is_whole (mean_by (edge_of I.value s) (I.Wide.number u) (I.Wide.number v)) }
+    requires whole { is_whole (mean_by s (I.Wide.number u) (I.Wide.number v)) ≡ true → point ≡ rounded (mean_by s (I.Wide.number u) (I.Wide.number v)) }
+    ensures { result ≡ is_whole (mean_by s (I.Wide.number u) (I.Wide.number v)) }
 {
     let XSegment { a, b } = s;
     is_coordinate(a.x, b.x, u, v, point.x) && is_coordinate(a.y, b.y, u, v, point.y)
@@ -116,11 +115,11 @@ fn is_crossing<I: OverlayInt>(s: XSegment<I>, u: I::Wide, v: I::Wide, point: Int
 
 // Along a horizontal or vertical segment the mean rounded down, else the whole point nearest to it.
 fn crossing_along<I: OverlayInt>(s: XSegment<I>, u: I::Wide, v: I::Wide) -> IntPoint<I>
-    requires in_range { IsEdgeWithin I.least I.greatest (edge_of I.value s) }
+    requires in_range { IsEdgeWithin I.least I.greatest s }
     requires u_fits { IsWeight I.most (I.Wide.number u) }
     requires v_fits { IsWeight I.most (I.Wide.number v) }
-    ensures is { point_of I.value result ≡ rounded_along (edge_of I.value s) (mean_by (edge_of I.value s) (I.Wide.number u) (I.Wide.number v)) }
-    ensures within { IsWithin I.least I.greatest (point_of I.value result) }
+    ensures is { result ≡ rounded_along s (mean_by s (I.Wide.number u) (I.Wide.number v)) }
+    ensures within { IsWithin I.least I.greatest result }
 {
     let XSegment { a, b } = s;
     if is_level(a.y, b.y) {
@@ -176,11 +175,11 @@ fn settled<I: OverlayInt>(
     rounding: Rounding,
     point: IntPoint<I>,
 ) -> CrossResult<I>
-    requires target_in_range { IsEdgeWithin I.least I.greatest (edge_of I.value target) }
-    requires other_in_range { IsEdgeWithin I.least I.greatest (edge_of I.value other) }
-    requires point_in_range { IsWithin I.least I.greatest (point_of I.value point) }
-    ensures is { found_of I.value result ≡ settled_by rounding (edge_of I.value target) (edge_of I.value other) (point_of I.value point) }
-    ensures within { IsWithin I.least I.greatest (point_of I.value result.point) }
+    requires target_in_range { IsEdgeWithin I.least I.greatest target }
+    requires other_in_range { IsEdgeWithin I.least I.greatest other }
+    requires point_in_range { IsWithin I.least I.greatest point }
+    ensures is { found_of result ≡ settled_by rounding target other point }
+    ensures within { IsWithin I.least I.greatest result.point }
 {
     match rounding {
         Rounding::Near(radius) => snapped(target, other, radius, point),
@@ -198,11 +197,11 @@ fn snapped<I: OverlayInt>(
     radius: u64,
     point: IntPoint<I>,
 ) -> CrossResult<I>
-    requires target_in_range { IsEdgeWithin I.least I.greatest (edge_of I.value target) }
-    requires other_in_range { IsEdgeWithin I.least I.greatest (edge_of I.value other) }
-    requires point_in_range { IsWithin I.least I.greatest (point_of I.value point) }
-    ensures is { found_of I.value result ≡ snapped (edge_of I.value target) (edge_of I.value other) radius (point_of I.value point) }
-    ensures within { IsWithin I.least I.greatest (point_of I.value result.point) }
+    requires target_in_range { IsEdgeWithin I.least I.greatest target }
+    requires other_in_range { IsEdgeWithin I.least I.greatest other }
+    requires point_in_range { IsWithin I.least I.greatest point }
+    ensures is { found_of result ≡ snapped target other radius point }
+    ensures within { IsWithin I.least I.greatest result.point }
 {
     let own = nearer(point, target);
     let foreign = nearer(point, other);
@@ -222,12 +221,12 @@ fn at_end<I: OverlayInt>(
     point: IntPoint<I>,
     radius: u64,
 ) -> CrossResult<I>
-    requires end_in_range { IsWithin I.least I.greatest (point_of I.value end) }
-    requires point_in_range { IsWithin I.least I.greatest (point_of I.value point) }
-    ensures is { found_of I.value result
-        ≡ cond (int_le (squared_distance (point_of I.value point) (point_of I.value end)) (pos radius))
-        (found_of I.value (record { kind = kind; point = end })) (pure (point_of I.value point)) }
-    ensures within { IsWithin I.least I.greatest (point_of I.value result.point) }
+    requires end_in_range { IsWithin I.least I.greatest end }
+    requires point_in_range { IsWithin I.least I.greatest point }
+    ensures is { found_of result
+        ≡ cond (int_le (squared_distance point end) (pos radius))
+        (found_as kind end) (pure point) }
+    ensures within { IsWithin I.least I.greatest result.point }
 {
     if squared_distance(point, end).is_at_most(radius) {
         CrossResult { kind, point: end }
@@ -241,10 +240,10 @@ fn at_end<I: OverlayInt>(
 
 // The end that is nearer to the point, the first where both are as near.
 fn nearer<I: OverlayInt>(point: IntPoint<I>, s: XSegment<I>) -> IntPoint<I>
-    requires in_range { IsEdgeWithin I.least I.greatest (edge_of I.value s) }
-    requires point_in_range { IsWithin I.least I.greatest (point_of I.value point) }
-    ensures is { point_of I.value result ≡ nearer (point_of I.value point) (edge_of I.value s) }
-    ensures within { IsWithin I.least I.greatest (point_of I.value result) }
+    requires in_range { IsEdgeWithin I.least I.greatest s }
+    requires point_in_range { IsWithin I.least I.greatest point }
+    ensures is { result ≡ nearer point s }
+    ensures within { IsWithin I.least I.greatest result }
 {
     if is_less(squared_distance(point, s.b), squared_distance(point, s.a)) {
         s.b

@@ -7,8 +7,6 @@
 ghost use Rattle.std.specs.Prelude.{◌≡◌, ◌&&◌, IsTrue, pos, true, int_lt};
 ghost use Rattle.std.specs.Ordering.{int_eq};
 ghost use Rattle.plane_base.specs.Segments.{IsEdgeWithin, opposite, parted};
-ghost use Rattle.plane_base.specs.Views.{point_of};
-ghost use Rattle.plane_base.specs.SegmentViews.{edge_of};
 ghost use Rattle.plane_base.specs.Sides.{AreSides, is_same};
 
 use crate::int::{OverlayInt, WideIntNumber};
@@ -26,9 +24,9 @@ pub struct Sides<W> {
 // The turns of the ends of t against the line of s.
 #[inline(always)]
 pub(crate) fn sides_of<I: OverlayInt>(s: XSegment<I>, t: XSegment<I>) -> Sides<I::Wide>
-    requires s_in_range { IsEdgeWithin I.least I.greatest (edge_of I.value s) }
-    requires t_in_range { IsEdgeWithin I.least I.greatest (edge_of I.value t) }
-    ensures { AreSides I.Wide.number I.most (edge_of I.value s) (edge_of I.value t) result }
+    requires s_in_range { IsEdgeWithin I.least I.greatest s }
+    requires t_in_range { IsEdgeWithin I.least I.greatest t }
+    ensures { AreSides I.Wide.number I.most s t result }
 {
     Sides {
         a: turn_of(s.a, s.b, t.a),
@@ -39,9 +37,9 @@ pub(crate) fn sides_of<I: OverlayInt>(s: XSegment<I>, t: XSegment<I>) -> Sides<I
 // Whether the second begins where the first does, and leaves its line.
 #[inline(always)]
 pub(super) fn fork<I: OverlayInt>(s: XSegment<I>, t: XSegment<I>) -> bool
-    requires s_in_range { IsEdgeWithin I.least I.greatest (edge_of I.value s) }
-    requires t_in_range { IsEdgeWithin I.least I.greatest (edge_of I.value t) }
-    ensures { IsTrue result → parted (edge_of I.value s) (edge_of I.value t) ≡ true }
+    requires s_in_range { IsEdgeWithin I.least I.greatest s }
+    requires t_in_range { IsEdgeWithin I.least I.greatest t }
+    ensures { IsTrue result → parted s t ≡ true }
 {
     if !is_same(t.a, s.a) {
         return false;
@@ -56,9 +54,9 @@ pub(super) fn fork<I: OverlayInt>(s: XSegment<I>, t: XSegment<I>) -> bool
 // Whether the second ends where the first does, and comes from off its line.
 #[inline(always)]
 pub(super) fn join<I: OverlayInt>(s: XSegment<I>, t: XSegment<I>) -> bool
-    requires s_in_range { IsEdgeWithin I.least I.greatest (edge_of I.value s) }
-    requires t_in_range { IsEdgeWithin I.least I.greatest (edge_of I.value t) }
-    ensures { IsTrue result → parted (edge_of I.value s) (edge_of I.value t) ≡ true }
+    requires s_in_range { IsEdgeWithin I.least I.greatest s }
+    requires t_in_range { IsEdgeWithin I.least I.greatest t }
+    ensures { IsTrue result → parted s t ≡ true }
 {
     if !is_same(t.b, s.b) {
         return false;
@@ -77,8 +75,8 @@ pub(super) fn is_beside<I: OverlayInt>(
     other: XSegment<I>,
     sides: Sides<I::Wide>,
 ) -> bool
-    requires { AreSides I.Wide.number I.most (edge_of I.value target) (edge_of I.value other) sides }
-    ensures { IsTrue result → parted (edge_of I.value target) (edge_of I.value other) ≡ true }
+    requires { AreSides I.Wide.number I.most target other sides }
+    ensures { IsTrue result → parted target other ≡ true }
 {
     let Sides { a, b } = sides;
     if a.is_zero() {
@@ -98,7 +96,7 @@ fn are_on_one_side<W: WideIntNumber>(m: W, n: W) -> bool
 }
 
 fn is_same<I: OverlayInt>(p: IntPoint<I>, q: IntPoint<I>) -> bool
-    ensures { result ≡ is_same (point_of I.value p) (point_of I.value q) }
+    ensures { result ≡ is_same p q }
 {
     is_level(p.x, q.x) && is_level(p.y, q.y)
 }

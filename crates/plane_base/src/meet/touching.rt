@@ -5,12 +5,10 @@
 //! all of them, up to two on a segment. It takes constant time.
 
 ghost use Rattle.std.specs.Prelude.{◌≡◌, ◌++◌, pos, IfSome};
-ghost use Rattle.std.specs.Option.{option_map};
 ghost use Rattle.plane_base.specs.Plane.{turn, IsWithin};
 ghost use Rattle.plane_base.specs.Segments.{IsEdgeWithin, strictly_inside, ends_inside};
 ghost use Rattle.plane_base.specs.Crossing.{least_of, touching, overlaid};
-ghost use Rattle.plane_base.specs.Views.{point_of};
-ghost use Rattle.plane_base.specs.SegmentViews.{edge_of, meeting_of};
+ghost use Rattle.plane_base.specs.SegmentViews.{meeting_of};
 ghost use Rattle.plane_base.specs.Sides.{AreSides, lesser_inside};
 
 use super::sides::{Sides, are_none};
@@ -26,12 +24,12 @@ pub(super) fn touched<I: OverlayInt>(
     sides: Sides<I::Wide>,
     own: Sides<I::Wide>,
 ) -> Option<CrossResult<I>>
-    requires target_in_range { IsEdgeWithin I.least I.greatest (edge_of I.value target) }
-    requires other_in_range { IsEdgeWithin I.least I.greatest (edge_of I.value other) }
-    requires sides { AreSides I.Wide.number I.most (edge_of I.value target) (edge_of I.value other) sides }
-    requires own { AreSides I.Wide.number I.most (edge_of I.value other) (edge_of I.value target) own }
-    ensures is { meeting_of I.value result ≡ touching (edge_of I.value target) (edge_of I.value other) }
-    ensures within { IfSome result (λ r. IsWithin I.least I.greatest (point_of I.value r.point)) }
+    requires target_in_range { IsEdgeWithin I.least I.greatest target }
+    requires other_in_range { IsEdgeWithin I.least I.greatest other }
+    requires sides { AreSides I.Wide.number I.most target other sides }
+    requires own { AreSides I.Wide.number I.most other target own }
+    ensures is { meeting_of result ≡ touching target other }
+    ensures within { IfSome result (λ r. IsWithin I.least I.greatest r.point) }
 {
     if are_none(sides, own) {
         return overlaid(target, other, sides, own);
@@ -70,13 +68,13 @@ fn overlaid<I: OverlayInt>(
     sides: Sides<I::Wide>,
     own: Sides<I::Wide>,
 ) -> Option<CrossResult<I>>
-    requires target_in_range { IsEdgeWithin I.least I.greatest (edge_of I.value target) }
-    requires other_in_range { IsEdgeWithin I.least I.greatest (edge_of I.value other) }
-    requires sides { AreSides I.Wide.number I.most (edge_of I.value target) (edge_of I.value other) sides }
-    requires own { AreSides I.Wide.number I.most (edge_of I.value other) (edge_of I.value target) own }
-    ensures is { meeting_of I.value result
-        ≡ overlaid (least_of (ends_inside (edge_of I.value target) (edge_of I.value other) ++ ends_inside (edge_of I.value other) (edge_of I.value target))) }
-    ensures within { IfSome result (λ r. IsWithin I.least I.greatest (point_of I.value r.point)) }
+    requires target_in_range { IsEdgeWithin I.least I.greatest target }
+    requires other_in_range { IsEdgeWithin I.least I.greatest other }
+    requires sides { AreSides I.Wide.number I.most target other sides }
+    requires own { AreSides I.Wide.number I.most other target own }
+    ensures is { meeting_of result
+        ≡ overlaid (least_of (ends_inside target other ++ ends_inside other target)) }
+    ensures within { IfSome result (λ r. IsWithin I.least I.greatest r.point) }
 {
     let least = lesser_inside(target.b, other, own.b, None);
     let least = lesser_inside(target.a, other, own.a, least);
@@ -98,11 +96,11 @@ fn lesser_inside<I: OverlayInt>(
     side: I::Wide,
     found: Option<IntPoint<I>>,
 ) -> Option<IntPoint<I>>
-    requires turn { I.Wide.number side ≡ turn (point_of I.value s.a) (point_of I.value s.b) (point_of I.value p) }
-    requires point_in_range { IsWithin I.least I.greatest (point_of I.value p) }
-    requires found_in_range { IfSome found (λ q. IsWithin I.least I.greatest (point_of I.value q)) }
-    ensures is { option_map (point_of I.value) result ≡ lesser_inside (point_of I.value p) (edge_of I.value s) (option_map (point_of I.value) found) }
-    ensures within { IfSome result (λ q. IsWithin I.least I.greatest (point_of I.value q)) }
+    requires turn { I.Wide.number side ≡ turn s.a s.b p }
+    requires point_in_range { IsWithin I.least I.greatest p }
+    requires found_in_range { IfSome found (λ q. IsWithin I.least I.greatest q) }
+    ensures is { result ≡ lesser_inside p s found }
+    ensures within { IfSome result (λ q. IsWithin I.least I.greatest q) }
 {
     if !is_inside(p, s, side) {
         return found;
@@ -115,16 +113,16 @@ fn lesser_inside<I: OverlayInt>(
 
 // Whether a point lies strictly inside a segment.
 pub(crate) fn is_inside<I: OverlayInt>(p: IntPoint<I>, s: XSegment<I>, side: I::Wide) -> bool
-    requires { I.Wide.number side ≡ turn (point_of I.value s.a) (point_of I.value s.b) (point_of I.value p) }
-    ensures { result ≡ strictly_inside (point_of I.value p) (edge_of I.value s) }
+    requires { I.Wide.number side ≡ turn s.a s.b p }
+    ensures { result ≡ strictly_inside p s }
 {
     side.is_zero() && is_between(p, s)
 }
 
 // The same for a point on the line of the segment.
 pub(super) fn is_between<I: OverlayInt>(p: IntPoint<I>, s: XSegment<I>) -> bool
-    requires { pos 0 ≡ turn (point_of I.value s.a) (point_of I.value s.b) (point_of I.value p) }
-    ensures { result ≡ strictly_inside (point_of I.value p) (edge_of I.value s) }
+    requires { pos 0 ≡ turn s.a s.b p }
+    ensures { result ≡ strictly_inside p s }
 {
     comes_before(s.a, p) && comes_before(p, s.b)
 }

@@ -2,7 +2,6 @@
 
 ghost use Rattle.std.specs.Prelude.{All};
 ghost use Rattle.plane_base.specs.Plane.{IsWithin};
-ghost use Rattle.plane_base.specs.Views.{points_of};
 
 use super::words::points_from;
 use super::{all_answered, is_cycle};
@@ -41,7 +40,7 @@ fn is_answered(words: &mut Words<'_>) -> bool {
 }
 
 fn is_answered_by<I: OverlayInt>(name: &str, given: &[IntPoint<I>], words: &mut Words<'_>) -> bool
-    requires { All (IsWithin I.least I.greatest) (points_of I.value given.now) }
+    requires { All (IsWithin I.least I.greatest) given.now }
 {
     match name {
         "area" => has_area(given, words.wide()),
@@ -53,7 +52,7 @@ fn is_answered_by<I: OverlayInt>(name: &str, given: &[IntPoint<I>], words: &mut 
 }
 
 fn has_area<I: OverlayInt>(given: &[IntPoint<I>], wanted: i128) -> bool
-    requires { All (IsWithin I.least I.greatest) (points_of I.value given.now) }
+    requires { All (IsWithin I.least I.greatest) given.now }
 {
     given.len() <= MOST_POINTS
         && doubled_area(given) == wanted
@@ -63,7 +62,7 @@ fn has_area<I: OverlayInt>(given: &[IntPoint<I>], wanted: i128) -> bool
 
 // Whether the area reaches this one, and no greater one.
 fn reaches_half<I: OverlayInt>(given: &[IntPoint<I>], half: u128) -> bool
-    requires { All (IsWithin I.least I.greatest) (points_of I.value given.now) }
+    requires { All (IsWithin I.least I.greatest) given.now }
 {
     match u64::try_from(half) {
         Ok(least) if least < u64::MAX => {
@@ -74,7 +73,7 @@ fn reaches_half<I: OverlayInt>(given: &[IntPoint<I>], half: u128) -> bool
 }
 
 fn lies_to_sides<I: OverlayInt>(given: &[IntPoint<I>], words: &mut Words<'_>) -> bool
-    requires { All (IsWithin I.least I.greatest) (points_of I.value given.now) }
+    requires { All (IsWithin I.least I.greatest) given.now }
 {
     let wanted = [words.flag(), words.flag(), words.flag()];
     let sides = [
@@ -86,7 +85,7 @@ fn lies_to_sides<I: OverlayInt>(given: &[IntPoint<I>], words: &mut Words<'_>) ->
 }
 
 fn is_thinned<I: OverlayInt>(given: &[IntPoint<I>], words: &mut Words<'_>) -> bool
-    requires { All (IsWithin I.least I.greatest) (points_of I.value given.now) }
+    requires { All (IsWithin I.least I.greatest) given.now }
 {
     let wanted = points_from(words);
     let alloc = words.alloc();

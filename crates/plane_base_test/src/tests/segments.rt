@@ -5,7 +5,6 @@ ghost use Rattle.std.specs.Bool.{OnTrue};
 ghost use Rattle.std.specs.declared.cmp.Ordering.TheVariants.{Greater};
 ghost use Rattle.plane_base.specs.Plane.{edge_order};
 ghost use Rattle.plane_base.specs.Segments.{IsEdgeWithin};
-ghost use Rattle.plane_base.specs.SegmentViews.{edge_of};
 
 use super::all_answered;
 use super::words::{point_from, segment_from};
@@ -43,16 +42,16 @@ fn is_answered(words: &mut Words<'_>) -> bool {
 }
 
 fn is_edge_in_range<I: OverlayInt>(segment: XSegment<I>) -> bool
-    ensures { OnTrue result (IsEdgeWithin I.least I.greatest (edge_of I.value segment)) }
+    ensures { OnTrue result (IsEdgeWithin I.least I.greatest segment) }
 {
     is_in_range(segment.a) && is_in_range(segment.b)
 }
 
 // Whether the two can be crossed: both are in range, and the first is no greater than the other.
 fn can_cross<I: OverlayInt>(target: XSegment<I>, other: XSegment<I>) -> bool
-    ensures not_greater { OnTrue result (edge_order (edge_of I.value target) (edge_of I.value other) ≢ Greater) }
-    ensures target_in_range { OnTrue result (IsEdgeWithin I.least I.greatest (edge_of I.value target)) }
-    ensures other_in_range { OnTrue result (IsEdgeWithin I.least I.greatest (edge_of I.value other)) }
+    ensures not_greater { OnTrue result (edge_order target other ≢ Greater) }
+    ensures target_in_range { OnTrue result (IsEdgeWithin I.least I.greatest target) }
+    ensures other_in_range { OnTrue result (IsEdgeWithin I.least I.greatest other) }
 {
     if target.order(other).is_gt() {
         return false;

@@ -11,8 +11,7 @@ use Rattle.plane_base.specs.Balance.{IsBalancedMap}
 use Rattle.plane_base.specs.Counts.{Count, Entry, boolean}
 use Rattle.plane_base.specs.Regions.{FillRule, OverlayRule, Subject, Clip, Intersect, Union, Difference, InverseDifference, Xor, is_filled, holds, region}
 use Rattle.plane_base.specs.Totals.{total}
-use Rattle.plane_base.proofs.Facts.Lists.Totals.{total_map, total_flat_map, total_filter, total_pointwise, total_pointwise_on, total_permutation, total_negated}
-use Rattle.plane_base.proofs.Facts.Maps.Laying.{path_sum}
+use Rattle.plane_base.proofs.Facts.Lists.Totals.{total_map, total_flat_map, total_filter, total_pointwise, total_pointwise_on, total_permutation}
 use Rattle.plane_base.proofs.Facts.Numbers.Polynomials.{minus, plus, times, by_ring}
 use Rattle.plane_base.proofs.Facts.Points.Turns.{coordinates, place, a_turn}
 use Rattle.segment_split.specs.Redrawing.{redrawn}

@@ -4,7 +4,7 @@ use Rattle.std.specs.List.{AllZip, swap}
 use Rattle.std.proofs.lemmas.Bool.{false≢true, and_parts, and_from}
 use Rattle.std.proofs.lemmas.List.Elements.{All-nil, All-cons, All-head, All-tail, All-append, All-weaker, filter-append}
 use Rattle.std.proofs.lemmas.List.Sorted.{IsPermutation-refl, IsPermutation-trans, IsPermutation-cons, IsPermutation-keeps, IsPermutation-append_left, IsPermutation-append_comm, All-permutation}
-use Rattle.plane_base.specs.Plane.{Point, Edge}
+use Rattle.plane_base.specs.Plane.{Point}
 use Rattle.plane_base.specs.Counts.{Count, Entry, boolean, one_subject, one_clip, normal}
 use Rattle.plane_base.specs.Balance.{IsBalancedMap}
 use Rattle.plane_base.specs.Cycles.{SameCycle}
@@ -20,12 +20,12 @@ use Rattle.segment_split.proofs.Facts.Adding.Held.{laid_holds, taken_all}
 use Rattle.segment_split.proofs.Facts.Groups.Boxes.{not_in_both, one_or_apart}
 use Rattle.segment_split.proofs.Facts.Groups.Filters.{filter_whole, filter_empty}
 use Rattle.contour_walk.specs.Answering.{Answering, answer_with}
-use Rattle.contour_walk.specs.GroupLaws.{all_in, contour_in, shape_in, GroupsAreAnsweredAlone}
+use Rattle.contour_walk.specs.GroupLaws.{all_in, contour_in, GroupsAreAnsweredAlone}
 use Rattle.contour_walk.specs.WalkLaws.{borders}
 use Rattle.polygon_overlay.specs.Builders.{IsHeld}
 use Rattle.polygon_overlay.specs.Overlays.{redrawn_of}
 use Rattle.polygon_overlay.specs.OverlayLaws.{HoldsContours, AreSameContours, OrderDoesNotMatter, overlay_of}
-use Rattle.polygon_overlay.specs.GroupLaws.{AreEachAlone, AreTiled, ContoursMakeGroups, GroupsAreOverlaidAlone, TilesAnswerAlike}
+use Rattle.polygon_overlay.specs.GroupLaws.{AreEachAlone, ContoursMakeGroups, GroupsAreOverlaidAlone, TilesAnswerAlike}
 use Rattle.polygon_overlay.proofs.Answering.ArrangementLaws.{redrawn_arrangement}
 
 -- ---- lists

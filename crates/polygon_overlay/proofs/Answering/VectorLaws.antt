@@ -1,26 +1,22 @@
 -- From links with their data to edges with their sides.
-use Rattle.std.specs.Prelude.{◌≡◌, ◌<◌, ℤ, ℕ, zero, suc, Bool, true, false, cond, List, [], ◌∷◌, map, filter, All, Contains, length, OnOk, IfOk}
+use Rattle.std.specs.Prelude.{◌≡◌, ℤ, zero, suc, Bool, true, false, cond, List, [], ◌∷◌, map, filter, All, Contains, OnOk, IfOk}
 use Rattle.std.specs.declared.result.Result.{Result}
 use Rattle.std.specs.declared.result.Result.TheVariants.{Ok, Err}
-use Rattle.std.proofs.Common.{refl, sym, ap, ap₂, ◌∙◌, subst, get_or, arith}
+use Rattle.std.proofs.Common.{refl, sym, ap, ap₂, ◌∙◌, subst, arith}
 use Rattle.std.proofs.lemmas.List.Elements.{All-weaker}
-use Rattle.plane_base.specs.Plane.{Edge}
 use Rattle.plane_base.specs.declared.fault.Fault.{Fault}
 use Rattle.plane_base.specs.Counts.{Count, Entry}
 use Rattle.plane_base.specs.Regions.{FillRule, OverlayRule}
-use Rattle.plane_base.specs.SegmentViews.{edge_of}
-use Rattle.plane_base.specs.Views.{point_of}
 use Rattle.segment_split.specs.Data.{without_data, data_entry_of, data_entries_of, HasDatum}
 use Rattle.segment_split.specs.SegmentViews.{entry_of, entries_of}
-use Rattle.segment_split.specs.declared.segment.Segment.{Segment}
+use Rattle.segment_split.specs.SegmentParts.{Segment}
 use Rattle.segment_arrangement.specs.Collecting.{bounding}
-use Rattle.segment_arrangement.specs.EdgeSides.{fill_of, is_boundary}
+use Rattle.segment_arrangement.specs.EdgeSides.{is_boundary}
 use Rattle.segment_arrangement.specs.Graphs.{Link, link_of, boundary_links}
-use Rattle.segment_arrangement.specs.LinkViews.{link_edge_of, link_parts, overlay_link_of}
+use Rattle.segment_arrangement.specs.LinkViews.{link_parts, overlay_link_of}
 use Rattle.segment_arrangement.specs.declared.link.OverlayLink.{OverlayLink}
 use Rattle.contour_walk.specs.Answering.{answering_of}
-use Rattle.contour_walk.specs.Vectors.{VectorEdge, vector_of_link, bare_vector_of_link, vector_of, vectors_of, vector_answer, HasItsDatum, AreVectorShapes}
-use Rattle.contour_walk.specs.Walks.{between}
+use Rattle.contour_walk.specs.Vectors.{VectorEdge, vector_of_link, bare_vector_of_link, vector_of, vector_answer, HasItsDatum, AreVectorShapes}
 use Rattle.contour_walk.specs.declared.options.IntOverlayOptions.{IntOverlayOptions}
 use Rattle.contour_walk.specs.declared.vector.edge.DataVectorEdge.{DataVectorEdge}
 use Rattle.polygon_overlay.specs.VectorAnswers.{along, data_vector_of, data_vectors_of, bare, sided, boundary_vectors, AreShapes, HasDatumIn, AreDataShapes}
@@ -88,36 +84,36 @@ was_there test (z ∷ xs) x there = by (test z) (was_there test xs x) there
 -- ---- edges one by one
 
 pub bare_listed : {I D : Type 0} (value : I → ℤ) (ls : List (OverlayLink I D))
-    → map (vector_of value) (map bare_vector_of_link ls) ≡ map along (map (overlay_link_of value) ls)
+    → map vector_of (map bare_vector_of_link ls) ≡ map along (map overlay_link_of ls)
 bare_listed value [] = refl
-bare_listed value (l ∷ ls) = ap (λ (rest : List VectorEdge). along (overlay_link_of value l) ∷ rest) (bare_listed value ls)
+bare_listed value (l ∷ ls) = ap (λ (rest : List VectorEdge). along (overlay_link_of l) ∷ rest) (bare_listed value ls)
 
 -- a map without its data
-pub data_apart : {I D : Type 0} {order equality part : _} (value : I → ℤ) (ss : List (Segment Count I D order equality part))
-    → without_data (data_entries_of value ss) ≡ entries_of value ss
+pub data_apart : {I D : Type 0} (value : I → ℤ) (ss : List (Segment Count D))
+    → without_data (data_entries_of ss) ≡ entries_of ss
 data_apart value [] = refl
-data_apart value (s ∷ ss) = ap (λ (es : List (Entry Count)). entry_of value s ∷ es) (data_apart value ss)
+data_apart value (s ∷ ss) = ap (λ (es : List (Entry Count)). entry_of s ∷ es) (data_apart value ss)
 
-module _ {I D : Type 0} {order equality part : _} (value : I → ℤ) (fill : FillRule) (rule : OverlayRule) (ss : List (Segment Count I D order equality part))
-    (ls : List (OverlayLink I D)) (links : map (overlay_link_of value) ls ≡ boundary_links fill rule (entries_of value ss))
-    (carries : map (λ l. l.datum) ls ≡ map (λ s. s.datum) (bounding value fill rule ss)) where
-  abbrev of_segment : Segment Count I D order equality part → Link
-  of_segment s = link_of fill (entries_of value ss) (entry_of value s)
+module _ {I D : Type 0} (value : I → ℤ) (fill : FillRule) (rule : OverlayRule) (ss : List (Segment Count D))
+    (ls : List (OverlayLink I D)) (links : map overlay_link_of ls ≡ boundary_links fill rule (entries_of ss))
+    (carries : map (λ l. l.datum) ls ≡ map (λ s. s.datum) (bounding fill rule ss)) where
+  abbrev of_segment : Segment Count D → Link
+  of_segment s = link_of fill (entries_of ss) (entry_of s)
 
-  abbrev kept : List (Segment Count I D order equality part)
-  kept = bounding value fill rule ss
+  abbrev kept : List (Segment Count D)
+  kept = bounding fill rule ss
 
-  of_kept : map (overlay_link_of value) ls ≡ map of_segment kept
+  of_kept : map overlay_link_of ls ≡ map of_segment kept
   of_kept =
       links
-      ∙ (ap (map (link_of fill (entries_of value ss))) (sym (filter_mapped (entry_of value) (is_boundary fill rule (entries_of value ss)) ss))
-      ∙ map_twice (link_of fill (entries_of value ss)) (entry_of value) kept)
+      ∙ (ap (map (link_of fill (entries_of ss))) (sym (filter_mapped entry_of (is_boundary fill rule (entries_of ss)) ss))
+      ∙ map_twice (link_of fill (entries_of ss)) entry_of kept)
 
-  abbrev of_pair : Segment Count I D order equality part → Link × D
+  abbrev of_pair : Segment Count D → Link × D
   of_pair s = (of_segment s, s.datum)
 
-  pairs : map (link_parts value) ls ≡ map of_pair kept
-  pairs = paired (overlay_link_of value) (λ l. l.datum) of_segment (λ s. s.datum) ls kept of_kept carries
+  pairs : map link_parts ls ≡ map of_pair kept
+  pairs = paired overlay_link_of (λ l. l.datum) of_segment (λ s. s.datum) ls kept of_kept carries
 
   abbrev as_vector : Link × D → VectorEdge × D
   as_vector p = (along p.0, p.1)
@@ -126,40 +122,40 @@ module _ {I D : Type 0} {order equality part : _} (value : I → ℤ) (fill : Fi
   abbrev told_by : List (Entry Count) → List (Entry (Count × D)) → List (VectorEdge × D)
   told_by es ds = map (sided fill es) (filter (λ e. is_boundary fill rule es (bare e)) ds)
 
-  pub vectors_listed : data_vectors_of value (map vector_of_link ls) ≡ boundary_vectors fill rule (data_entries_of value ss)
+  pub vectors_listed : data_vectors_of (map vector_of_link ls) ≡ boundary_vectors fill rule (data_entries_of ss)
   vectors_listed =
-      map_twice (data_vector_of value) vector_of_link ls
-      ∙ (sym (map_twice as_vector (link_parts value) ls)
+      map_twice data_vector_of vector_of_link ls
+      ∙ (sym (map_twice as_vector link_parts ls)
       ∙ (ap (map as_vector) pairs
       ∙ (map_twice as_vector of_pair kept
-      ∙ (sym (map_twice (sided fill (entries_of value ss)) (data_entry_of value) kept)
-      ∙ (ap (map (sided fill (entries_of value ss)))
-      (filter_mapped (data_entry_of value) (λ e. is_boundary fill rule (entries_of value ss) (bare e)) ss)
-      ∙ ap (λ es. told_by es (data_entries_of value ss)) (sym (data_apart value ss)))))))
+      ∙ (sym (map_twice (sided fill (entries_of ss)) data_entry_of kept)
+      ∙ (ap (map (sided fill (entries_of ss)))
+      (filter_mapped data_entry_of (λ e. is_boundary fill rule (entries_of ss) (bare e)) ss)
+      ∙ ap (λ es. told_by es (data_entries_of ss)) (sym (data_apart value ss)))))))
 
   -- ---- shapes
 
   -- the datum of a link is that of the map's edge
-  of_map : (turns : D → D → Type 0) (v : DataVectorEdge I D) → HasItsDatum value turns ls v → HasDatumIn value turns (data_entries_of value ss) v
+  of_map : (turns : D → D → Type 0) (v : DataVectorEdge I D) → HasItsDatum turns ls v → HasDatumIn turns (data_entries_of ss) v
   of_map turns v (l, here, along_it, datum) =
-      let found = read_somewhere of_pair kept (link_parts value l) (subst (λ ps. Contains ps (link_parts value l)) pairs (Contains-map (link_parts value) ls l here)) in
+      let found = read_somewhere of_pair kept (link_parts l) (subst (λ ps. Contains ps (link_parts l)) pairs (Contains-map link_parts ls l here)) in
       let s = found.0 in (
-        data_entry_of value s,
-        Contains-map (data_entry_of value) ss s (was_there (λ s. is_boundary fill rule (entries_of value ss) (entry_of value s)) ss s found.1),
+        data_entry_of s,
+        Contains-map data_entry_of ss s (was_there (λ s. is_boundary fill rule (entries_of ss) (entry_of s)) ss s found.1),
         ap (λ (p : Link × D). p.0.edge) found.2 ∙ along_it,
-        subst (λ d. HasDatum turns (point_of value v.a) (point_of value v.b) d v.datum) (sym (ap (λ (p : Link × D). p.1) found.2)) datum,
+        subst (λ d. HasDatum turns v.a v.b d v.datum) (sym (ap (λ (p : Link × D). p.1) found.2)) datum,
       )
 
   pub shapes_of_map : (same : D → D → Bool) (turns : D → D → Type 0) (options : IntOverlayOptions) (shapes : List (List (List (DataVectorEdge I D))))
-      → AreVectorShapes value same turns options.preserve_output_collinear ls (vector_answer (answering_of options) fill rule (entries_of value ss)) shapes
-      → AreDataShapes value same turns options fill rule (data_entries_of value ss) shapes
+      → AreVectorShapes value same turns options.preserve_output_collinear ls (vector_answer (answering_of options) fill rule (entries_of ss)) shapes
+      → AreDataShapes value same turns options fill rule (data_entries_of ss) shapes
   shapes_of_map same turns options shapes are = record {
     whole = are.whole;
     geometry = are.geometry ∙ ap (vector_answer (answering_of options) fill rule) (sym (data_apart value ss));
     data_of_map =
-        All-weaker (All (All (HasItsDatum value turns ls))) (All (All (HasDatumIn value turns (data_entries_of value ss))))
-        (λ paths. All-weaker (All (HasItsDatum value turns ls)) (All (HasDatumIn value turns (data_entries_of value ss)))
-        (λ path. All-weaker (HasItsDatum value turns ls) (HasDatumIn value turns (data_entries_of value ss)) (of_map turns) path) paths) are.whole are.of_links;
+        All-weaker (All (All (HasItsDatum turns ls))) (All (All (HasDatumIn turns (data_entries_of ss))))
+        (λ paths. All-weaker (All (HasItsDatum turns ls)) (All (HasDatumIn turns (data_entries_of ss)))
+        (λ path. All-weaker (HasItsDatum turns ls) (HasDatumIn turns (data_entries_of ss)) (of_map turns) path) paths) are.whole are.of_links;
     left = are.left;
   }
 

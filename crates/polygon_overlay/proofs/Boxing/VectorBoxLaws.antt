@@ -41,7 +41,7 @@ unmapped P f (x ∷ xs) h = All-cons (λ x. P (f x)) x xs (All-head P (f x) (map
 -- What joining two edges passes on holds of all that simplification leaves.
 module _ {I D : Type 0} (value : I → ℤ) (same : D → D → Bool) (P : DataVectorEdge I D → Type 0)
     (passes : (e f : DataVectorEdge I D) → P e → P f → P (joined_edge e f)) where
-  two_keep : {es fs : List (DataVectorEdge I D)} → JoinsTwo value same es fs → All P es → All P fs
+  two_keep : {es fs : List (DataVectorEdge I D)} → JoinsTwo same es fs → All P es → All P fs
   two_keep (inl r) h =
       let old : All P (r.front ++ (r.first ∷ r.second ∷ r.back)) = subst (All P) r.was h in
       let from_first = All-back P r.front (r.first ∷ r.second ∷ r.back) old in
@@ -134,20 +134,20 @@ module _ (box : Bounds) where
       (contours_in links s (All-head (All (All (LiesWithin box))) s ss h)) (shapes_in links ss (All-tail (All (All (LiesWithin box))) s ss h))
 
   module _ {I D : Type 0} (value : I → ℤ) where
-    paths_seen : (paths : List (List (DataVectorEdge I D))) → All (All (IsWayIn box)) (map (map (vector_of value)) paths) → All (All (IsVectorIn value box)) paths
-    paths_seen [] h = All-nil (All (IsVectorIn value box))
+    paths_seen : (paths : List (List (DataVectorEdge I D))) → All (All (IsWayIn box)) (map (map vector_of) paths) → All (All (IsVectorIn box)) paths
+    paths_seen [] h = All-nil (All (IsVectorIn box))
     paths_seen (p ∷ ps) h =
-        All-cons (All (IsVectorIn value box)) p ps
-        (unmapped (IsWayIn box) (vector_of value) p (All-head (All (IsWayIn box)) (map (vector_of value) p) (map (map (vector_of value)) ps) h))
-        (paths_seen ps (All-tail (All (IsWayIn box)) (map (vector_of value) p) (map (map (vector_of value)) ps) h))
+        All-cons (All (IsVectorIn box)) p ps
+        (unmapped (IsWayIn box) vector_of p (All-head (All (IsWayIn box)) (map vector_of p) (map (map vector_of) ps) h))
+        (paths_seen ps (All-tail (All (IsWayIn box)) (map vector_of p) (map (map vector_of) ps) h))
 
-    shapes_seen : (shapes : List (List (List (DataVectorEdge I D)))) → All (All (All (IsWayIn box))) (vectors_of value shapes)
-        → All (All (All (IsVectorIn value box))) shapes
-    shapes_seen [] h = All-nil (All (All (IsVectorIn value box)))
+    shapes_seen : (shapes : List (List (List (DataVectorEdge I D)))) → All (All (All (IsWayIn box))) (vectors_of shapes)
+        → All (All (All (IsVectorIn box))) shapes
+    shapes_seen [] h = All-nil (All (All (IsVectorIn box)))
     shapes_seen (s ∷ ss) h =
-        All-cons (All (All (IsVectorIn value box))) s ss
-        (paths_seen s (All-head (All (All (IsWayIn box))) (map (map (vector_of value)) s) (vectors_of value ss) h))
-        (shapes_seen ss (All-tail (All (All (IsWayIn box))) (map (map (vector_of value)) s) (vectors_of value ss) h))
+        All-cons (All (All (IsVectorIn box))) s ss
+        (paths_seen s (All-head (All (All (IsWayIn box))) (map (map vector_of) s) (vectors_of ss) h))
+        (shapes_seen ss (All-tail (All (All (IsWayIn box))) (map (map vector_of) s) (vectors_of ss) h))
 
 module _ (rearranges : (precision : Precision) → Rearranges boolean (redrawn boolean precision)) (ends : (precision : Precision) → RedrawsToTheEnd boolean precision)
     (balanced : (precision : Precision) (es : List (Entry Count)) → IsBalancedMap es → IsBalancedMap (redrawn boolean precision es)) (stand : AnswersStandOnEnds) where
@@ -158,9 +158,9 @@ module _ (rearranges : (precision : Precision) → Rearranges boolean (redrawn b
   module _ {I D : Type 0} (value : I → ℤ) where
     pub vector_shapes_in : (least greatest : ℤ) (box : Bounds) (same : D → D → Bool) (options : IntOverlayOptions) (fill : FillRule) (rule : OverlayRule)
         (precision : Precision) (held : List (Entry Count)) (shapes : List (List (List (DataVectorEdge I D)))) → IsHeld least greatest held → EndsLieWithin box held
-        → AreShapes value same options fill rule (redrawn_of precision held) shapes → All (All (All (IsVectorIn value box))) shapes
+        → AreShapes value same options fill rule (redrawn_of precision held) shapes → All (All (All (IsVectorIn box))) shapes
     vector_shapes_in least greatest box same options fill rule precision held shapes is_held inside are =
-        left_keep value same (IsVectorIn value box) (λ e f one other. (one.0, other.1)) options.preserve_output_collinear are.whole shapes are.left
+        left_keep value same (IsVectorIn box) (λ e f one other. (one.0, other.1)) options.preserve_output_collinear are.whole shapes are.left
         (shapes_seen box value are.whole
         (subst (All (All (All (IsWayIn box)))) (sym are.geometry)
         (shapes_in box (boundary_links fill rule es) answer

@@ -21,7 +21,7 @@ use Rattle.segment_split.specs.declared.solver.Precision.{Precision}
 use Rattle.contour_walk.specs.Answering.{answer_with}
 use Rattle.contour_walk.specs.WalkLaws.{borders}
 use Rattle.segment_split.specs.Adding.{IsTaken}
-use Rattle.polygon_overlay.specs.OverlayLaws.{HoldsContours, AreSameContours, ReversalExchangesSigns, ExchangeExchangesRules, opposite, exchanged}
+use Rattle.polygon_overlay.specs.OverlayLaws.{HoldsContours, AreSameContours, ReversalExchangesSigns, ExchangeExchangesRules, exchanged}
 use Rattle.polygon_overlay.proofs.Holding.GivenOrderLaws.{path_parts, laid_same, same_contours, laid_of, normal_held}
 use Rattle.polygon_overlay.proofs.Exchanging.OtherCountLaws.{borders_read, negated_winds, negated_joins, region_negated, exchanged_winds, region_exchanged}
 

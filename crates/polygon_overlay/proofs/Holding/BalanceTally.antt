@@ -1,6 +1,6 @@
 -- What is left at each point is told by the edges that were added.
 use Rattle.std.specs.Prelude.{◌≡◌, ◌↔◌, ℤ, pos, ◌+ℤ◌, ◌-ℤ◌, ◌*ℤ◌, neg_ℤ, List, [], ◌∷◌, ◌++◌, IsPermutation}
-use Rattle.std.proofs.Common.{refl, sym, ap₂, ◌∙◌, arith}
+use Rattle.std.proofs.Common.{sym, ap₂, ◌∙◌, arith}
 use Rattle.std.proofs.lemmas.Int.{ints}
 use Rattle.plane_base.specs.Plane.{Point}
 use Rattle.plane_base.specs.Counts.{Count, Entry, boolean, lay}

@@ -31,8 +31,8 @@ lay_one {C} kind u v c apart = by (point_order u v) refl
     by Greater e = refl
 
 -- a builder that can't be made, since memory is refused
-pub not_made : {I D W S : Type 0} {int order equality part wide wide_order wide_equality wide_part joining same : _} (capacity : ℕ) (fault : Fault) → fault ≡ Memory
-    → MakesEmpty {I = I} {D = D} {W = W} {S = S} {int = int} {order = order} {equality = equality} {part = part} {wide = wide} {wide_order = wide_order} {wide_equality = wide_equality} {wide_part = wide_part} {joining = joining} {same = same} capacity (Err fault)
+pub not_made : {I D W S : Type 0} {int number order equality part wide wide_order wide_equality wide_part joining same : _} (capacity : ℕ) (fault : Fault) → fault ≡ Memory
+    → MakesEmpty {I = I} {D = D} {W = W} {S = S} {int = int} {number = number} {order = order} {equality = equality} {part = part} {wide = wide} {wide_order = wide_order} {wide_equality = wide_equality} {wide_part = wide_part} {joining = joining} {same = same} capacity (Err fault)
 not_made capacity fault is = record { none = tt; held = tt; ready = tt; room = tt; ends_room = tt; options = tt; solver = tt; buffer = tt; refused = is }
 
 -- ---- room

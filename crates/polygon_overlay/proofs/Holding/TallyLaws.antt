@@ -6,18 +6,17 @@ use Rattle.std.specs.declared.cmp.Ordering.TheVariants.{Less, Equal, Greater}
 use Rattle.std.proofs.Common.{refl, sym, ap, ap₂, ◌∙◌, subst, get_or, arith}
 use Rattle.std.proofs.lemmas.Int.{ints}
 use Rattle.std.proofs.lemmas.Bool.{false≢true}
-use Rattle.std.proofs.lemmas.List.Elements.{All-cons, All-head, All-tail, All-weaker, All-map, All-contains, All-nil}
+use Rattle.std.proofs.lemmas.List.Elements.{All-cons, All-head, All-tail, All-map, All-nil}
 use Rattle.std.proofs.lemmas.List.Sorted.{sorted_far, ranks_by}
 use Rattle.std.specs.List.Sorted.{IsSortedBy, IsSorted}
-use Rattle.std.proofs.Math.IntN.{*ℤ-zero, *ℤ-one}
+use Rattle.std.proofs.Math.IntN.{*ℤ-zero}
 use Rattle.plane_base.specs.Plane.{Point, point_order}
 use Rattle.plane_base.specs.Counts.{Count}
 use Rattle.plane_base.specs.Balance.{mark}
-use Rattle.plane_base.specs.Totals.{total}
 use Rattle.plane_base.proofs.Facts.Lists.Totals.{total_append, total_zero_on, total_permutation}
 use Rattle.plane_base.proofs.Facts.Points.Orders.{point_equal, point_itself, point_total, is_equal, less_from_greater, greater_from_less}
 use Rattle.plane_base.proofs.Facts.Maps.Normal.{AllPairs-nil, AllPairs-cons, AllPairs-head, AllPairs-tail}
-use Rattle.polygon_overlay.specs.Tallies.{Leaving, left_at, IsLevel, AreSorted, is_last}
+use Rattle.polygon_overlay.specs.Tallies.{Leaving, left_at, AreSorted, is_last}
 
 -- ---- the last point
 

@@ -8,7 +8,6 @@ use Rattle.std.proofs.lemmas.List.Folds.{list_any_none, list_any_at}
 use Rattle.std.proofs.lemmas.List.Sorted.{All-permutation, Contains-permutation, IsPermutation-map}
 use Rattle.plane_base.specs.GivenViews.{contours_of}
 use Rattle.plane_base.specs.Plane.{Point, RationalPoint}
-use Rattle.plane_base.specs.Views.{points_of}
 use Rattle.plane_base.specs.declared.path.IntPath.{IntPath}
 use Rattle.plane_base.specs.declared.path.IntShape.{IntShape}
 use Rattle.segment_split.specs.Groups.{Bounds, LiesWithin}
@@ -20,7 +19,7 @@ use Rattle.polygon_overlay.specs.Stretches.{is_off, IsOutlined, AreOutlined, num
 use Rattle.polygon_overlay.specs.declared.point_box.PointBox.{PointBox}
 use Rattle.polygon_overlay.specs.declared.point_location.outline.Outline.{Outline}
 use Rattle.polygon_overlay.specs.declared.point_location.shape_index.Placed.{Placed}
-use Rattle.polygon_overlay.proofs.Locating.LocationLaws.{lt_or_ge, map_map}
+use Rattle.polygon_overlay.proofs.Locating.LocationLaws.{lt_or_ge}
 use Rattle.polygon_overlay.proofs.Locating.NoneLaws.{none_at_first, none_with_one, none_through}
 use Rattle.polygon_overlay.proofs.Locating.OutlineLaws.{shape_off}
 
@@ -49,27 +48,27 @@ module _ {A B : Type 0} (R : A → B → Type 0) where
 
 module _ {I : Type 0} (value : I → ℤ) where
   pub contours_more : (contours : List (IntPath I)) (i : ℕ) (x : IntPath I) → i < length contours → x ≡ get_or contours i x
-      → contours_of value (take (i + 1) contours) ≡ contours_of value (take i contours) ++ points_of value x.points.items ∷ []
+      → contours_of (take (i + 1) contours) ≡ contours_of (take i contours) ++ x.points.items ∷ []
   contours_more contours i x l at =
-      ap (contours_of value) (take_more contours i x l ∙ ap (λ y. take i contours ++ y ∷ []) (sym at))
-      ∙ map-append (λ (c : IntPath I). points_of value c.points.items) (take i contours) (x ∷ [])
+      ap contours_of (take_more contours i x l ∙ ap (λ y. take i contours ++ y ∷ []) (sym at))
+      ∙ map-append (λ (c : IntPath I). c.points.items) (take i contours) (x ∷ [])
 
   pub shapes_more : (shapes : List (IntShape I)) (i : ℕ) (x : IntShape I) → i < length shapes → x ≡ get_or shapes i x
-      → shapes_of value (take (i + 1) shapes) ≡ shapes_of value (take i shapes) ++ contours_of value x.contours.items ∷ []
+      → shapes_of (take (i + 1) shapes) ≡ shapes_of (take i shapes) ++ contours_of x.contours.items ∷ []
   shapes_more shapes i x l at =
-      ap (shapes_of value) (take_more shapes i x l ∙ ap (λ y. take i shapes ++ y ∷ []) (sym at))
-      ∙ map-append (λ (s : IntShape I). contours_of value s.contours.items) (take i shapes) (x ∷ [])
+      ap shapes_of (take_more shapes i x l ∙ ap (λ y. take i shapes ++ y ∷ []) (sym at))
+      ∙ map-append (λ (s : IntShape I). contours_of s.contours.items) (take i shapes) (x ∷ [])
 
   pub contour_at : (contours : List (IntPath I)) (i : ℕ) (x : IntPath I) → i < length contours → x ≡ get_or contours i x → (d : List Point)
-      → points_of value x.points.items ≡ get_or (contours_of value contours) i d
+      → x.points.items ≡ get_or (contours_of contours) i d
   contour_at contours i x l at d =
-      ap (λ (c : IntPath I). points_of value c.points.items) at ∙ sym (get_or-map (λ (c : IntPath I). points_of value c.points.items) contours i x d l)
+      ap (λ (c : IntPath I). c.points.items) at ∙ sym (get_or-map (λ (c : IntPath I). c.points.items) contours i x d l)
 
   pub shape_at : (shapes : List (IntShape I)) (i : ℕ) (x : IntShape I) → i < length shapes → x ≡ get_or shapes i x → (d : List (List Point))
-      → contours_of value x.contours.items ≡ get_or (shapes_of value shapes) i d
+      → contours_of x.contours.items ≡ get_or (shapes_of shapes) i d
   shape_at shapes i x l at d =
-      ap (λ (s : IntShape I). contours_of value s.contours.items) at
-      ∙ sym (get_or-map (λ (s : IntShape I). contours_of value s.contours.items) shapes i x d l)
+      ap (λ (s : IntShape I). contours_of s.contours.items) at
+      ∙ sym (get_or-map (λ (s : IntShape I). contours_of s.contours.items) shapes i x d l)
 
   -- ---- boxes of shapes
 
@@ -216,33 +215,19 @@ module _ {I : Type 0} (value : I → ℤ) where
 
   -- the outline of the contour at a place
   pub contour_outlined : (contours : List (IntPath I)) (outlines : List (Outline I)) (i : ℕ) (x : IntPath I) (o : Outline I) → i < length contours
-      → x ≡ get_or contours i x → o ≡ get_or outlines i o → AllZip (IsOutlined value) (contours_of value contours) outlines
-      → IsOutlined value (points_of value x.points.items) o
+      → x ≡ get_or contours i x → o ≡ get_or outlines i o → AllZip (IsOutlined value) (contours_of contours) outlines
+      → IsOutlined value x.points.items o
   contour_outlined contours outlines i x o l at is outlined =
-      let long = length-map contours (λ (c : IntPath I). points_of value c.points.items) in
+      let long = length-map contours (λ (c : IntPath I). c.points.items) in
       subst (λ c. IsOutlined value c o) (sym (contour_at value contours i x l at []))
-      (subst (IsOutlined value (get_or (contours_of value contours) i [])) (sym is)
-      (zip_at (IsOutlined value) (contours_of value contours) outlines i [] o outlined (omega (arith, long, l))))
+      (subst (IsOutlined value (get_or (contours_of contours) i [])) (sym is)
+      (zip_at (IsOutlined value) (contours_of contours) outlines i [] o outlined (omega (arith, long, l))))
 
 -- ---- points one after another
 
 -- one point more is located
-pub located_more : {X : Type 0} (f : X → Point) (inside : Point → Bool) (xs : List X) (i : ℕ) (x : X) → i < length xs → x ≡ get_or xs i x
-    → (found : List Bool) → found ≡ map inside (map f (take i xs)) → (b : Bool) → b ≡ inside (f x) → found ++ b ∷ [] ≡ map inside (map f (take (i + 1) xs))
-located_more f inside xs i x l at found is b told =
+pub located_more : (inside : Point → Bool) (ps : List Point) (i : ℕ) (p : Point) → i < length ps → p ≡ get_or ps i p
+    → (found : List Bool) → found ≡ map inside (take i ps) → (b : Bool) → b ≡ inside p → found ++ b ∷ [] ≡ map inside (take (i + 1) ps)
+located_more inside ps i p l at found is b told =
     ap₂ (λ bs c. bs ++ c ∷ []) is told
-    ∙ sym (ap (λ ys. map inside (map f ys)) (take_more xs i x l ∙ ap (λ y. take i xs ++ y ∷ []) (sym at))
-    ∙ (ap (map inside) (map-append f (take i xs) (x ∷ [])) ∙ map-append inside (map f (take i xs)) (f x ∷ [])))
-
--- ---- shapes copied
-
-module _ {I : Type 0} (value : I → ℤ) where
-  points_by_copy : (shapes : List (IntShape I)) → shapes_of value shapes ≡ map (map (points_of value)) (map (λ (s : IntShape I). map (λ (c : IntPath I). c.points.items) s.contours.items) shapes)
-  points_by_copy shapes =
-      sym (map_map (λ (s : IntShape I). map (λ (c : IntPath I). c.points.items) s.contours.items) (map (points_of value)) (λ (s : IntShape I). contours_of value s.contours.items)
-      (λ s. map_map (λ (c : IntPath I). c.points.items) (points_of value) (λ (c : IntPath I). points_of value c.points.items) (λ c. refl) s.contours.items) shapes)
-
-  -- a copy has the same points
-  pub shapes_cloned : (old new : List (IntShape I)) → map (λ (s : IntShape I). map (λ (c : IntPath I). c.points.items) s.contours.items) new
-      ≡ map (λ (s : IntShape I). map (λ (c : IntPath I). c.points.items) s.contours.items) old → shapes_of value new ≡ shapes_of value old
-  shapes_cloned old new same = points_by_copy new ∙ (ap (map (map (points_of value))) same ∙ sym (points_by_copy old))
+    ∙ sym (ap (map inside) (take_more ps i p l ∙ ap (λ q. take i ps ++ q ∷ []) (sym at)) ∙ map-append inside (take i ps) (p ∷ []))

@@ -20,11 +20,9 @@ use Rattle.plane_base.specs.Plane.{Point, Edge, RationalPoint, IsWithin, is_befo
 use Rattle.plane_base.specs.GivenViews.{contours_of}
 use Rattle.plane_base.specs.Regions.{is_odd}
 use Rattle.plane_base.specs.Segments.{parted}
-use Rattle.plane_base.specs.Views.{point_of, points_of}
 use Rattle.plane_base.specs.Windings.{path_winding}
 use Rattle.plane_base.specs.declared.path.IntPath.{IntPath}
 use Rattle.plane_base.specs.declared.path.IntShape.{IntShape}
-use Rattle.plane_base.specs.declared.point.IntPoint.{IntPoint}
 use Rattle.plane_base.proofs.Facts.Crossings.Parted.{parted_swapped}
 use Rattle.plane_base.proofs.Facts.Points.Orders.{point_less_x, before_is_less, point_less_by_x}
 use Rattle.plane_base.proofs.Facts.Points.Turns.{side_of_whole}
@@ -262,61 +260,61 @@ last_edge first (p ∷ []) (suc i) d e l = absurd (omega (arith, l))
 last_edge first (p ∷ r ∷ rest) zero d e l = absurd (omega (arith, l))
 last_edge first (p ∷ r ∷ rest) (suc i) d e l = last_edge first (r ∷ rest) i d e (omega (arith, l))
 
-module _ {X : Type 0} (f : X → Point) (xs : List X) (i : ℕ) (x : X) (at : x ≡ get_or xs i x) where
+module _ (ps : List Point) (i : ℕ) (p : Point) (at : p ≡ get_or ps i p) where
   -- the edge from one point to the next
-  pub edge_within : (y : X) → i + 1 < length xs → y ≡ get_or xs (i + 1) y → (d : Edge) → between (f x) (f y) ≡ get_or (contour_edges (map f xs)) i d
-  edge_within y within next d = by xs at within next
+  pub edge_within : (q : Point) → i + 1 < length ps → q ≡ get_or ps (i + 1) q → (d : Edge) → between p q ≡ get_or (contour_edges ps) i d
+  edge_within q within next d = by ps at within next
     where
-      by : (xs : List X) → x ≡ get_or xs i x → i + 1 < length xs → y ≡ get_or xs (i + 1) y → between (f x) (f y) ≡ get_or (contour_edges (map f xs)) i d
+      by : (ps : List Point) → p ≡ get_or ps i p → i + 1 < length ps → q ≡ get_or ps (i + 1) q → between p q ≡ get_or (contour_edges ps) i d
       by [] at l next = absurd (omega (arith, l))
-      by (z ∷ zs) at l next =
+      by (r ∷ rs) at l next =
           let one : i + 1 ≡ suc i = omega arith in
-          let here : f x ≡ get_or (map f (z ∷ zs)) i (f x) = ap f at ∙ sym (get_or-map f (z ∷ zs) i x (f x) (omega (arith, l))) in
-          let there : f y ≡ get_or (map f (z ∷ zs)) (suc i) (f x) =
-          ap f next ∙ (sym (get_or-map f (z ∷ zs) (i + 1) y (f x) l) ∙ ap (λ k. get_or (map f (z ∷ zs)) k (f x)) one) in
-          ap₂ between here there ∙ sym (inner_edge (f z) (map f (z ∷ zs)) i d (f x) (omega (arith, l, length-map (z ∷ zs) f)))
+          let there : q ≡ get_or (r ∷ rs) (suc i) p = next ∙ (get_or_default (r ∷ rs) (i + 1) q p l ∙ ap (λ k. get_or (r ∷ rs) k p) one) in
+          ap₂ between at there ∙ sym (inner_edge r (r ∷ rs) i d p (omega (arith, l)))
 
   -- the edge from the last point to the first
-  pub edge_behind : (y : X) → i < length xs → length xs ≤ i + 1 → y ≡ get_or xs 0 y → (d : Edge) → between (f x) (f y) ≡ get_or (contour_edges (map f xs)) i d
-  edge_behind y within last first d = by xs at within last first
+  pub edge_behind : (q : Point) → i < length ps → length ps ≤ i + 1 → q ≡ get_or ps 0 q → (d : Edge) → between p q ≡ get_or (contour_edges ps) i d
+  edge_behind q within last first d = by ps at within last first
     where
-      by : (xs : List X) → x ≡ get_or xs i x → i < length xs → length xs ≤ i + 1 → y ≡ get_or xs 0 y → between (f x) (f y) ≡ get_or (contour_edges (map f xs)) i d
+      by : (ps : List Point) → p ≡ get_or ps i p → i < length ps → length ps ≤ i + 1 → q ≡ get_or ps 0 q → between p q ≡ get_or (contour_edges ps) i d
       by [] at l m first = absurd (omega (arith, l))
-      by (z ∷ zs) at l m first =
-          let here : f x ≡ get_or (map f (z ∷ zs)) i (f x) = ap f at ∙ sym (get_or-map f (z ∷ zs) i x (f x) l) in
-          ap₂ between here (ap f first) ∙ sym (last_edge (f z) (map f (z ∷ zs)) i d (f x) (omega (arith, l, m, length-map (z ∷ zs) f)))
+      by (r ∷ rs) at l m first = ap₂ between at first ∙ sym (last_edge r (r ∷ rs) i d p (omega (arith, l, m)))
 
 -- ---- queries
 
+-- as before any edge
+abbrev as_asked : {I : Type 0} → QueryPoint I → QueryPoint I
+as_asked q = asked q.index q.point
+
 module _ {I : Type 0} (value : I → ℤ) where
-  passed_nothing : (q : QueryPoint I) → passed value [] q ≡ q
+  passed_nothing : (q : QueryPoint I) → passed [] q ≡ q
   passed_nothing q = ap (λ b. record q { is_odd = b }) (differ_false q.is_odd)
 
-  pub all_passed_nothing : (qs : List (QueryPoint I)) → qs ≡ map (passed value []) qs
-  all_passed_nothing qs = sym (map_itself (passed value []) passed_nothing qs)
+  pub all_passed_nothing : (qs : List (QueryPoint I)) → qs ≡ map (passed []) qs
+  all_passed_nothing qs = sym (map_itself (passed []) passed_nothing qs)
 
-  passed_twice : (es fs : List Edge) (q : QueryPoint I) → passed value fs (passed value es q) ≡ passed value (es ++ fs) q
+  passed_twice : (es fs : List Edge) (q : QueryPoint I) → passed fs (passed es q) ≡ passed (es ++ fs) q
   passed_twice es fs q =
       ap (λ b. record q { is_odd = b })
-      (differ_assoc q.is_odd (are_odd_below es (place_of value q)) (are_odd_below fs (place_of value q))
-      ∙ ap (differ q.is_odd) (sym (odd_below_append es fs (place_of value q))))
+      (differ_assoc q.is_odd (are_odd_below es (place_of q)) (are_odd_below fs (place_of q))
+      ∙ ap (differ q.is_odd) (sym (odd_below_append es fs (place_of q))))
 
   -- under more edges
-  pub all_passed_twice : (es fs : List Edge) (qs : List (QueryPoint I)) → map (passed value fs) (map (passed value es) qs) ≡ map (passed value (es ++ fs)) qs
-  all_passed_twice es fs qs = map_map (passed value es) (passed value fs) (passed value (es ++ fs)) (passed_twice es fs) qs
+  pub all_passed_twice : (es fs : List Edge) (qs : List (QueryPoint I)) → map (passed fs) (map (passed es) qs) ≡ map (passed (es ++ fs)) qs
+  all_passed_twice es fs qs = map_map (passed es) (passed fs) (passed (es ++ fs)) (passed_twice es fs) qs
 
   -- the end of a shape
-  pub ended : (cs : List (List Point)) (qs : List (QueryPoint I)) → map (located value []) (map (passed value (flat_map contour_edges cs)) qs) ≡ map (located value cs) qs
-  ended cs qs = map_map (passed value (flat_map contour_edges cs)) (located value []) (located value cs) at qs
+  pub ended : (cs : List (List Point)) (qs : List (QueryPoint I)) → map (located []) (map (passed (flat_map contour_edges cs)) qs) ≡ map (located cs) qs
+  ended cs qs = map_map (passed (flat_map contour_edges cs)) (located []) (located cs) at qs
     where
-      at : (q : QueryPoint I) → located value [] (passed value (flat_map contour_edges cs) q) ≡ located value cs q
+      at : (q : QueryPoint I) → located [] (passed (flat_map contour_edges cs) q) ≡ located cs q
       at q =
           ap (λ b. record q { is_odd = false; is_found = q.is_found || b })
-          (differ_false (differ q.is_odd (are_odd_below (flat_map contour_edges cs) (place_of value q)))
-          ∙ ap (differ q.is_odd) (shape_by_edges cs (place_of value q)))
+          (differ_false (differ q.is_odd (are_odd_below (flat_map contour_edges cs) (place_of q)))
+          ∙ ap (differ q.is_odd) (shape_by_edges cs (place_of q)))
 
   -- a shape's end at a query that is even
-  pub ended_even : (q : QueryPoint I) → q.is_odd ≡ false → located value [] q ≡ q
+  pub ended_even : (q : QueryPoint I) → q.is_odd ≡ false → located [] q ≡ q
   ended_even q even = ap₂ (λ odd found. record q { is_odd = odd; is_found = found }) (sym even) (ap (λ odd. q.is_found || differ odd false) even ∙ or_false q.is_found)
 
   -- an edge that leaves the queries before some place and from some place on
@@ -339,7 +337,7 @@ module _ {I : Type 0} (value : I → ℤ) where
 
   module _ (least greatest : ℤ) where
     -- a change that leaves the points
-    ready_mapped : (f : QueryPoint I → QueryPoint I) → ((q : QueryPoint I) → (f q).point ≡ q.point) → (qs : List (QueryPoint I)) → AreReady least greatest value qs → AreReady least greatest value (map f qs)
+    ready_mapped : (f : QueryPoint I → QueryPoint I) → ((q : QueryPoint I) → (f q).point ≡ q.point) → (qs : List (QueryPoint I)) → AreReady least greatest qs → AreReady least greatest (map f qs)
     ready_mapped f stays qs ready = record {
       rising = λ i j d l m. rise i j d l (omega (arith, m, length-map qs f));
       in_range = λ k d l. within k d (omega (arith, l, length-map qs f));
@@ -355,33 +353,33 @@ module _ {I : Type 0} (value : I → ℤ) where
         at : (i : ℕ) (d e : QueryPoint I) → i < length qs → (get_or (map f qs) i d).point ≡ (get_or qs i e).point
         at i d e l = ap (λ q. q.point) (get_or-map f qs i e d l) ∙ stays (get_or qs i e)
 
-        rise : (i j : ℕ) (d : QueryPoint I) → i < j → j < length qs → value (get_or (map f qs) i d).point.x ≤ℤ value (get_or (map f qs) j d).point.x
+        rise : (i j : ℕ) (d : QueryPoint I) → i < j → j < length qs → (get_or (map f qs) i d).point.x ≤ℤ (get_or (map f qs) j d).point.x
         rise i j d l m =
             let e = some j m in
-            subst (λ p. value p.x ≤ℤ value (get_or (map f qs) j d).point.x) (sym (at i d e (omega (arith, l, m))))
-            (subst (λ p. value (get_or qs i e).point.x ≤ℤ value p.x) (sym (at j d e m)) (ready.rising i j e l m))
+            subst (λ p. p.x ≤ℤ (get_or (map f qs) j d).point.x) (sym (at i d e (omega (arith, l, m))))
+            (subst (λ p. (get_or qs i e).point.x ≤ℤ p.x) (sym (at j d e m)) (ready.rising i j e l m))
 
-        within : (k : ℕ) (d : QueryPoint I) → k < length qs → IsWithin least greatest (point_of value (get_or (map f qs) k d).point)
+        within : (k : ℕ) (d : QueryPoint I) → k < length qs → IsWithin least greatest (get_or (map f qs) k d).point
         within k d l =
             let e = some k l in
-            subst (λ p. IsWithin least greatest (point_of value p)) (sym (at k d e l)) (ready.in_range k e l)
+            subst (λ p. IsWithin least greatest p) (sym (at k d e l)) (ready.in_range k e l)
 
-    pub ready_passed : (es : List Edge) (qs : List (QueryPoint I)) → AreReady least greatest value qs → AreReady least greatest value (map (passed value es) qs)
-    ready_passed es = ready_mapped (passed value es) (λ q. refl)
+    pub ready_passed : (es : List Edge) (qs : List (QueryPoint I)) → AreReady least greatest qs → AreReady least greatest (map (passed es) qs)
+    ready_passed es = ready_mapped (passed es) (λ q. refl)
 
-    pub ready_located : (cs : List (List Point)) (qs : List (QueryPoint I)) → AreReady least greatest value qs → AreReady least greatest value (map (located value cs) qs)
-    ready_located cs = ready_mapped (located value cs) (λ q. refl)
+    pub ready_located : (cs : List (List Point)) (qs : List (QueryPoint I)) → AreReady least greatest qs → AreReady least greatest (map (located cs) qs)
+    ready_located cs = ready_mapped (located cs) (λ q. refl)
 
   -- ---- queries of given points
 
-  pub located_answer : (cs : List (List Point)) (points : List (IntPoint I)) (qs : List (QueryPoint I)) → AnswerEach points qs → AnswerEach points (map (located value cs) qs)
+  pub located_answer : (cs : List (List Point)) (points : List Point) (qs : List (QueryPoint I)) → AnswerEach points qs → AnswerEach points (map (located cs) qs)
   located_answer cs points qs h =
       subst (IsPermutation (all_asked 0 points))
-      (sym (map_map (located value cs) (λ (q : QueryPoint I). asked q.index q.point) (λ (q : QueryPoint I). asked q.index q.point) (λ q. refl) qs)) h
+      (sym (map_map (located cs) as_asked as_asked (λ q. refl) qs)) h
 
   -- what was found so far
   abbrev pub AreFound : (RationalPoint → Bool) → List (QueryPoint I) → Type 0
-  AreFound inside qs = All (λ q. (q.is_odd ≡ false) × (q.is_found ≡ inside (place_of value q))) qs
+  AreFound inside qs = All (λ q. (q.is_odd ≡ false) × (q.is_found ≡ inside (place_of q))) qs
 
 -- ---- resolved edges
 
@@ -441,26 +439,26 @@ module _ (P : List Point → Type 0) where
 -- ---- queries by rising columns
 
 module _ {I : Type 0} (value : I → ℤ) where
-  pub by_column : IsStrictWeakOrder (λ (q r : QueryPoint I). int_lt (value q.point.x) (value r.point.x))
+  pub by_column : IsStrictWeakOrder (λ (q r : QueryPoint I). int_lt q.point.x r.point.x)
   by_column = record { one_way = λ q r l. grind (arith, ints, l); chain = λ q r s l m. grind (arith, ints, l, m) }
 
-  pub rises : (qs : List (QueryPoint I)) → ((i j : ℕ) (d : QueryPoint I) → i ≤ j → j < length qs → int_lt (value (get_or qs j d).point.x) (value (get_or qs i d).point.x) ≡ false)
-      → AllPairs (λ q r. value q.point.x ≤ℤ value r.point.x) qs
-  rises qs sorted i j d l m = lt_tells_not (value (get_or qs j d).point.x) (value (get_or qs i d).point.x) (sorted i j d (omega (arith, l)) m)
+  pub rises : (qs : List (QueryPoint I)) → ((i j : ℕ) (d : QueryPoint I) → i ≤ j → j < length qs → int_lt (get_or qs j d).point.x (get_or qs i d).point.x ≡ false)
+      → AllPairs (λ q r. q.point.x ≤ℤ r.point.x) qs
+  rises qs sorted i j d l m = lt_tells_not (get_or qs j d).point.x (get_or qs i d).point.x (sorted i j d (omega (arith, l)) m)
 
   -- those left of a column come first
-  pub parted_by_column : (x : ℤ) (qs : List (QueryPoint I)) → AllPairs (λ q r. value q.point.x ≤ℤ value r.point.x) qs → IsPartitionedBy (λ (q : QueryPoint I). int_lt (value q.point.x) x) qs
+  pub parted_by_column : (x : ℤ) (qs : List (QueryPoint I)) → AllPairs (λ q r. q.point.x ≤ℤ r.point.x) qs → IsPartitionedBy (λ (q : QueryPoint I). int_lt q.point.x x) qs
   parted_by_column x qs rising i j d l m left = by (lt_or_ge i j)
     where
       further : (a b : ℤ) → a ≤ℤ b → int_lt b x ≡ true → int_lt a x ≡ true
       further a b n e = grind (arith, ints, n, e)
 
-      by : (i < j) ⊎ (j ≤ i) → int_lt (value (get_or qs i d).point.x) x ≡ true
-      by (inl n) = further (value (get_or qs i d).point.x) (value (get_or qs j d).point.x) (rising i j d n m) left
-      by (inr n) = let e : j ≡ i = omega (arith, l, n) in subst (λ k. int_lt (value (get_or qs k d).point.x) x ≡ true) e left
+      by : (i < j) ⊎ (j ≤ i) → int_lt (get_or qs i d).point.x x ≡ true
+      by (inl n) = further (get_or qs i d).point.x (get_or qs j d).point.x (rising i j d n m) left
+      by (inr n) = let e : j ≡ i = omega (arith, l, n) in subst (λ k. int_lt (get_or qs k d).point.x x ≡ true) e left
 
-pub by_cmp : {E : Type 0} (cmp : E → E → Ordering) (value : E → ℤ) → ((a b : E) → cmp a b ≡ int_cmp (value a) (value b)) → (a b : E) (r : Ordering) → r ≡ cmp a b → is_lt r ≡ int_lt (value a) (value b)
-by_cmp cmp value ordered a b r e = ap is_lt (e ∙ ordered a b) ∙ is_lt_cmp (value a) (value b)
+pub by_cmp : (a b : ℤ) (r : Ordering) → r ≡ int_cmp a b → is_lt r ≡ int_lt a b
+by_cmp a b r e = ap is_lt e ∙ is_lt_cmp a b
 
 -- ---- one edge
 
@@ -486,35 +484,35 @@ not_not true false e = refl
 not_not false true e = refl
 not_not false false e = absurd (false≢true e)
 
-module _ {I : Type 0} (value : I → ℤ) (s : Edge) (q : QueryPoint I) (from : s.a.x ≤ℤ value q.point.x) (up_to : value q.point.x <ℤ s.b.x) (o : Ordering) (is : o ≡ int_cmp (turn s.a s.b (point_of value q.point)) (pos 0)) where
-  told : (b : Bool) → b ≡ is_le o → are_odd_below (s ∷ []) (place_of value q) ≡ not b
+module _ {I : Type 0} (value : I → ℤ) (s : Edge) (q : QueryPoint I) (from : s.a.x ≤ℤ q.point.x) (up_to : q.point.x <ℤ s.b.x) (o : Ordering) (is : o ≡ int_cmp (turn s.a s.b q.point) (pos 0)) where
+  told : (b : Bool) → b ≡ is_le o → are_odd_below (s ∷ []) (place_of q) ≡ not b
   told b e =
-      differ_false (is_below s.a s.b (place_of value q))
-      ∙ (below_whole s (point_of value q.point) from up_to
-      ∙ not_not b (int_lt (pos 0) (turn s.a s.b (point_of value q.point))) (e ∙ (ap is_le is ∙ le_tells (turn s.a s.b (point_of value q.point)))))
+      differ_false (is_below s.a s.b (place_of q))
+      ∙ (below_whole s q.point from up_to
+      ∙ not_not b (int_lt (pos 0) (turn s.a s.b q.point)) (e ∙ (ap is_le is ∙ le_tells (turn s.a s.b q.point))))
 
-  pub not_turned : (b : Bool) → b ≡ is_le o → b ≡ true → q ≡ passed value (s ∷ []) q
+  pub not_turned : (b : Bool) → b ≡ is_le o → b ≡ true → q ≡ passed (s ∷ []) q
   not_turned b e on = sym (ap (λ d. record q { is_odd = differ q.is_odd d }) (told b e ∙ ap not on) ∙ ap (λ d. record q { is_odd = d }) (differ_false q.is_odd))
 
-  pub turned : (b : Bool) → b ≡ is_le o → b ≡ false → record q { is_odd = not q.is_odd } ≡ passed value (s ∷ []) q
+  pub turned : (b : Bool) → b ≡ is_le o → b ≡ false → record q { is_odd = not q.is_odd } ≡ passed (s ∷ []) q
   turned b e off = sym (ap (λ d. record q { is_odd = differ q.is_odd d }) (told b e ∙ ap not off) ∙ ap (λ d. record q { is_odd = d }) (differ_true q.is_odd))
 
 -- outside of the edge's column nothing is turned
 module _ {I : Type 0} (value : I → ℤ) (s : Edge) (q : QueryPoint I) where
-  beside : is_below s.a s.b (place_of value q) ≡ false → passed value (s ∷ []) q ≡ q
+  beside : is_below s.a s.b (place_of q) ≡ false → passed (s ∷ []) q ≡ q
   beside e = ap (λ b. record q { is_odd = differ q.is_odd (differ b false) }) e ∙ ap (λ b. record q { is_odd = b }) (differ_false q.is_odd)
 
-  pub left_of : value q.point.x <ℤ s.a.x → passed value (s ∷ []) q ≡ q
+  pub left_of : q.point.x <ℤ s.a.x → passed (s ∷ []) q ≡ q
   left_of l =
-      let from : int_le (pos 1 *ℤ s.a.x) (value q.point.x) ≡ false = grind (arith, ints, l) in
-      beside (ap (λ b. (b && int_lt (value q.point.x) (pos 1 *ℤ s.b.x)) && int_lt (pos 0) (side s.a s.b (place_of value q))) from)
+      let from : int_le (pos 1 *ℤ s.a.x) q.point.x ≡ false = grind (arith, ints, l) in
+      beside (ap (λ b. (b && int_lt q.point.x (pos 1 *ℤ s.b.x)) && int_lt (pos 0) (side s.a s.b (place_of q))) from)
 
-  pub right_of : s.b.x ≤ℤ value q.point.x → passed value (s ∷ []) q ≡ q
+  pub right_of : s.b.x ≤ℤ q.point.x → passed (s ∷ []) q ≡ q
   right_of l =
-      let up_to : int_lt (value q.point.x) (pos 1 *ℤ s.b.x) ≡ false = grind (arith, ints, l) in
-      beside (ap (λ b. (int_le (pos 1 *ℤ s.a.x) (value q.point.x) && b) && int_lt (pos 0) (side s.a s.b (place_of value q))) up_to ∙ never (int_le (pos 1 *ℤ s.a.x) (value q.point.x)))
+      let up_to : int_lt q.point.x (pos 1 *ℤ s.b.x) ≡ false = grind (arith, ints, l) in
+      beside (ap (λ b. (int_le (pos 1 *ℤ s.a.x) q.point.x && b) && int_lt (pos 0) (side s.a s.b (place_of q))) up_to ∙ never (int_le (pos 1 *ℤ s.a.x) q.point.x))
     where
-      never : (b : Bool) → (b && false) && int_lt (pos 0) (side s.a s.b (place_of value q)) ≡ false
+      never : (b : Bool) → (b && false) && int_lt (pos 0) (side s.a s.b (place_of q)) ≡ false
       never true = refl
       never false = refl
 
@@ -525,12 +523,12 @@ flat_map_append f [] ys = refl
 flat_map_append f (x ∷ xs) ys = ap (λ zs. f x ++ zs) (flat_map_append f xs ys) ∙ sym (append_assoc (f x) (flat_map f xs) (flat_map f ys))
 
 pub edges_more : {I : Type 0} (value : I → ℤ) (contours : List (IntPath I)) (i : ℕ) (x : IntPath I) → i < length contours → x ≡ get_or contours i x
-    → flat_map contour_edges (contours_of value (take i contours)) ++ contour_edges (points_of value x.points.items) ≡ flat_map contour_edges (contours_of value (take (i + 1) contours))
+    → flat_map contour_edges (contours_of (take i contours)) ++ contour_edges x.points.items ≡ flat_map contour_edges (contours_of (take (i + 1) contours))
 edges_more {I = I} value contours i x l at =
-    sym (ap (λ cs. flat_map contour_edges (contours_of value cs)) (take_more contours i x l ∙ ap (λ y. take i contours ++ y ∷ []) (sym at))
-    ∙ (ap (flat_map contour_edges) (map-append (λ (c : IntPath I). points_of value c.points.items) (take i contours) (x ∷ []))
-    ∙ (flat_map_append contour_edges (contours_of value (take i contours)) (points_of value x.points.items ∷ [])
-    ∙ ap (λ es. flat_map contour_edges (contours_of value (take i contours)) ++ es) (append-nil (contour_edges (points_of value x.points.items))))))
+    sym (ap (λ cs. flat_map contour_edges (contours_of cs)) (take_more contours i x l ∙ ap (λ y. take i contours ++ y ∷ []) (sym at))
+    ∙ (ap (flat_map contour_edges) (map-append (λ (c : IntPath I). c.points.items) (take i contours) (x ∷ []))
+    ∙ (flat_map_append contour_edges (contours_of (take i contours)) (x.points.items ∷ [])
+    ∙ ap (λ es. flat_map contour_edges (contours_of (take i contours)) ++ es) (append-nil (contour_edges x.points.items)))))
 
 -- a whole slice that is written back
 pub written_back : {X : Type 0} (new old : List X) (n : ℕ) → n ≡ length new → take n (new ++ drop (length new) old) ≡ new
@@ -542,56 +540,56 @@ some_element : {X : Type 0} (xs : List X) (i : ℕ) → i < length xs → X
 some_element [] i l = absurd (omega (arith, l))
 some_element (x ∷ xs) i l = x
 
+length-all_asked : (I : Type 0) (n : ℕ) (ps : List Point) → length (all_asked {I = I} n ps) ≡ length ps
+length-all_asked I n [] = refl
+length-all_asked I n (p ∷ ps) = ap suc (length-all_asked I (suc n) ps)
+
 module _ {I : Type 0} where
-  pub all_asked_push : (n : ℕ) (ps : List (IntPoint I)) (p : IntPoint I) → all_asked n (ps ++ p ∷ []) ≡ all_asked n ps ++ asked (n + length ps) p ∷ []
+  pub all_asked_push : (n : ℕ) (ps : List Point) (p : Point) → all_asked {I = I} n (ps ++ p ∷ []) ≡ all_asked n ps ++ asked (n + length ps) p ∷ []
   all_asked_push n [] p = ap (λ k. asked k p ∷ []) (let e : n ≡ n + 0 = omega arith in e)
   all_asked_push n (r ∷ ps) p =
       ap (λ qs. asked n r ∷ qs) (all_asked_push (suc n) ps p ∙ ap (λ k. all_asked (suc n) ps ++ asked k p ∷ []) (let e : suc n + length ps ≡ n + suc (length ps) = omega arith in e))
 
-  pub asked_more : (ps : List (IntPoint I)) (i : ℕ) (p : IntPoint I) → i < length ps → p ≡ get_or ps i p → all_asked 0 (take (i + 1) ps) ≡ all_asked 0 (take i ps) ++ asked i p ∷ []
+  pub asked_more : (ps : List Point) (i : ℕ) (p : Point) → i < length ps → p ≡ get_or ps i p → all_asked {I = I} 0 (take (i + 1) ps) ≡ all_asked 0 (take i ps) ++ asked i p ∷ []
   asked_more ps i p l at =
       ap (all_asked 0) (take_more ps i p l ∙ ap (λ r. take i ps ++ r ∷ []) (sym at))
       ∙ (all_asked_push 0 (take i ps) p ∙ ap (λ k. all_asked 0 (take i ps) ++ asked k p ∷ []) (let e = length-take i ps in let f : 0 + length (take i ps) ≡ i = omega (arith, e, l) in f))
 
-  length-all_asked : (n : ℕ) (ps : List (IntPoint I)) → length (all_asked n ps) ≡ length ps
-  length-all_asked n [] = refl
-  length-all_asked n (p ∷ ps) = ap suc (length-all_asked (suc n) ps)
-
-  asked_at : (n : ℕ) (ps : List (IntPoint I)) (k : ℕ) (d : QueryPoint I) (p : IntPoint I) → k < length ps → get_or (all_asked n ps) k d ≡ asked (n + k) (get_or ps k p)
+  asked_at : (n : ℕ) (ps : List Point) (k : ℕ) (d : QueryPoint I) (p : Point) → k < length ps → get_or (all_asked n ps) k d ≡ asked (n + k) (get_or ps k p)
   asked_at n [] k d p l = absurd (omega (arith, l))
   asked_at n (r ∷ ps) zero d p l = ap (λ k. asked k r) (let e : n ≡ n + 0 = omega arith in e)
   asked_at n (r ∷ ps) (suc k) d p l = asked_at (suc n) ps k d p (omega (arith, l)) ∙ ap (λ j. asked j (get_or ps k p)) (let e : suc n + k ≡ n + suc k = omega arith in e)
 
-  asked_first : (ps : List (IntPoint I)) (k : ℕ) (d : QueryPoint I) (p : IntPoint I) → k < length ps → get_or (all_asked 0 ps) k d ≡ asked k (get_or ps k p)
+  asked_first : (ps : List Point) (k : ℕ) (d : QueryPoint I) (p : Point) → k < length ps → get_or (all_asked 0 ps) k d ≡ asked k (get_or ps k p)
   asked_first ps k d p l = asked_at 0 ps k d p l ∙ ap (λ j. asked j (get_or ps k p)) (let e : 0 + k ≡ k = omega arith in e)
 
   -- what holds of each query of the points
-  pub all_asked_hold : (P : QueryPoint I → Type 0) (ps : List (IntPoint I)) → ((k : ℕ) (e : IntPoint I) → k < length ps → P (asked k (get_or ps k e))) → All P (all_asked 0 ps)
+  pub all_asked_hold : (P : QueryPoint I → Type 0) (ps : List Point) → ((k : ℕ) (e : Point) → k < length ps → P (asked k (get_or ps k e))) → All P (all_asked 0 ps)
   all_asked_hold P ps h k d l =
-      let within : k < length ps = omega (arith, l, length-all_asked 0 ps) in
+      let within : k < length ps = omega (arith, l, length-all_asked I 0 ps) in
       let e = some_element ps k within in
       subst P (sym (asked_first ps k d e within)) (h k e within)
 
-  asked_again : (n : ℕ) (ps : List (IntPoint I)) → map (λ (q : QueryPoint I). asked q.index q.point) (all_asked n ps) ≡ all_asked n ps
+  asked_again : (n : ℕ) (ps : List Point) → map as_asked (all_asked {I = I} n ps) ≡ all_asked n ps
   asked_again n [] = refl
   asked_again n (p ∷ ps) = ap (λ qs. asked n p ∷ qs) (asked_again (suc n) ps)
 
-  pub answer_from : (ps : List (IntPoint I)) (qs : List (QueryPoint I)) → IsPermutation (all_asked 0 ps) qs → AnswerEach ps qs
+  pub answer_from : (ps : List Point) (qs : List (QueryPoint I)) → IsPermutation (all_asked 0 ps) qs → AnswerEach ps qs
   answer_from ps qs moved =
-      subst (λ l. IsPermutation l (map (λ (q : QueryPoint I). asked q.index q.point) qs)) (asked_again 0 ps) (IsPermutation-map (λ (q : QueryPoint I). asked q.index q.point) (all_asked 0 ps) qs moved)
+      subst (λ l. IsPermutation l (map as_asked qs)) (asked_again 0 ps) (IsPermutation-map as_asked (all_asked 0 ps) qs moved)
 
-  module _ (ps : List (IntPoint I)) (qs : List (QueryPoint I)) (each : AnswerEach ps qs) where
+  module _ (ps : List Point) (qs : List (QueryPoint I)) (each : AnswerEach ps qs) where
     -- each query is that of the point at its index
     record IsOwn (q : QueryPoint I) : Type 0 where
       index : q.index < length ps
-      point : (e : IntPoint I) → q.point ≡ get_or ps q.index e
+      point : (e : Point) → q.point ≡ get_or ps q.index e
 
     own : (k : ℕ) (d : QueryPoint I) → k < length qs → IsOwn (get_or qs k d)
     own k d l =
-        let all = All-permutation IsOwn (all_asked 0 ps) (map (λ (q : QueryPoint I). asked q.index q.point) qs) each
+        let all = All-permutation IsOwn (all_asked 0 ps) (map as_asked qs) each
         (all_asked_hold IsOwn ps (λ j e m. record { index = m; point = λ f. get_or_default ps j e f m })) in
-        let here = all k d (omega (arith, l, length-map qs (λ (q : QueryPoint I). asked q.index q.point))) in
-        let same = get_or-map (λ (q : QueryPoint I). asked q.index q.point) qs k d d l in
+        let here = all k d (omega (arith, l, length-map qs as_asked)) in
+        let same = get_or-map as_asked qs k d d l in
         let its = subst IsOwn same here in
         record { index = its.index; point = its.point }
 
@@ -602,14 +600,14 @@ module _ {I : Type 0} where
     each_index : (n : ℕ) → n < length ps → (k : ℕ) × (k < length qs) × ((d : QueryPoint I) → (get_or qs k d).index ≡ n)
     each_index n l =
         let p = get_or ps n (some_element ps n l) in
-        let found = Contains-permutation (all_asked 0 ps) (map (λ (q : QueryPoint I). asked q.index q.point) qs) (asked n p) each
-        (n, omega (arith, l, length-all_asked 0 ps), asked_first ps n (asked n p) (some_element ps n l) l) in
-        let within : found.0 < length qs = omega (arith, found.1, length-map qs (λ (q : QueryPoint I). asked q.index q.point)) in
-        (found.0, within, λ d. ap (λ q. q.index) (sym (get_or-map (λ (q : QueryPoint I). asked q.index q.point) qs found.0 d (asked n p) within) ∙ found.2))
+        let found = Contains-permutation (all_asked 0 ps) (map as_asked qs) (asked n p) each
+        (n, omega (arith, l, length-all_asked I 0 ps), asked_first ps n (asked n p) (some_element ps n l) l) in
+        let within : found.0 < length qs = omega (arith, found.1, length-map qs as_asked) in
+        (found.0, within, λ d. ap (λ q. q.index) (sym (get_or-map as_asked qs found.0 d (asked n p) within) ∙ found.2))
 
-    module _ (value : I → ℤ) (inside : RationalPoint → Bool) (are : All (λ q. q.is_found ≡ inside (place_of value q)) qs) where
+    module _ (value : I → ℤ) (inside : RationalPoint → Bool) (are : All (λ q. q.is_found ≡ inside (place_of q)) qs) where
       abbrev AreTold : List Bool → ℕ → Type 0
-      AreTold found i = (k : ℕ) (d : QueryPoint I) (e : Bool) → k < i → get_or found (get_or qs k d).index e ≡ inside (place_of value (get_or qs k d))
+      AreTold found i = (k : ℕ) (d : QueryPoint I) (e : Bool) → k < i → get_or found (get_or qs k d).index e ≡ inside (place_of (get_or qs k d))
 
       -- one answer more
       pub told_more : (found : List Bool) → length found ≡ length ps → (i : ℕ) (x : QueryPoint I) → i < length qs → x ≡ get_or qs i x → AreTold found i → AreTold (set found x.index x.is_found) (i + 1)
@@ -621,10 +619,10 @@ module _ {I : Type 0} where
           x_own : IsOwn x
           x_own = subst IsOwn (sym at) (own i x l)
 
-          same_place : (get_or qs k d).index ≡ x.index → place_of value x ≡ place_of value (get_or qs k d)
+          same_place : (get_or qs k d).index ≡ x.index → place_of x ≡ place_of (get_or qs k d)
           same_place same =
               let q_own = own k d (omega (arith, m, l)) in
-              ap (λ p. whole (point_of value p)) (x_own.point x.point ∙ (ap (λ n. get_or ps n x.point) (sym same) ∙ sym (q_own.point x.point)))
+              ap (λ p. whole p) (x_own.point x.point ∙ (ap (λ n. get_or ps n x.point) (sym same) ∙ sym (q_own.point x.point)))
 
           earlier : (get_or qs k d).index ≢ x.index → k < i
           earlier other = at_most (lt_or_ge k i)
@@ -633,21 +631,21 @@ module _ {I : Type 0} where
               at_most (inl n) = n
               at_most (inr n) = let same : k ≡ i = omega (arith, n, m) in absurd (other (ap (λ j. (get_or qs j d).index) same ∙ ap (λ q. q.index) (sym (x_is d))))
 
-          by : (b : Bool) → (get_or qs k d).index == x.index ≡ b → get_or (set found x.index x.is_found) (get_or qs k d).index e ≡ inside (place_of value (get_or qs k d))
+          by : (b : Bool) → (get_or qs k d).index == x.index ≡ b → get_or (set found x.index x.is_found) (get_or qs k d).index e ≡ inside (place_of (get_or qs k d))
           by true t =
               let same = eqb-true (get_or qs k d).index x.index t in
               ap (λ n. get_or (set found x.index x.is_found) n e) same
               ∙ (get_or-set_same found x.index x.is_found e (omega (arith, x_own.index, long))
-              ∙ (subst (λ q. q.is_found ≡ inside (place_of value q)) (sym at) (are i x l) ∙ ap inside (same_place same)))
+              ∙ (subst (λ q. q.is_found ≡ inside (place_of q)) (sym at) (are i x l) ∙ ap inside (same_place same)))
           by false f =
               let other = λ (same : (get_or qs k d).index ≡ x.index). false≢true (sym f ∙ eq-eqb (get_or qs k d).index x.index same) in
               get_or-set_other found x.index (get_or qs k d).index x.is_found e other ∙ h k d e (earlier other)
 
       -- all of them
-      pub all_told : (found : List Bool) → length found ≡ length ps → (i : ℕ) → length qs ≤ i → AreTold found i → found ≡ map (λ p. inside (whole p)) (points_of value ps)
-      all_told found long i last h = ext_get_or false found (map (λ p. inside (whole p)) (points_of value ps)) (long ∙ sym (length-map (points_of value ps) (λ p. inside (whole p)) ∙ length-map ps (point_of value))) at
+      pub all_told : (found : List Bool) → length found ≡ length ps → (i : ℕ) → length qs ≤ i → AreTold found i → found ≡ map (λ p. inside (whole p)) ps
+      all_told found long i last h = ext_get_or false found (map (λ p. inside (whole p)) ps) (long ∙ sym (length-map ps (λ p. inside (whole p)))) at
         where
-          at : (n : ℕ) → n < length found → get_or found n false ≡ get_or (map (λ p. inside (whole p)) (points_of value ps)) n false
+          at : (n : ℕ) → n < length found → get_or found n false ≡ get_or (map (λ p. inside (whole p)) ps) n false
           at n m =
               let l : n < length ps = omega (arith, m, long) in
               let p = some_element ps n l in
@@ -657,46 +655,44 @@ module _ {I : Type 0} where
               let q_own = own k.0 d k.1 in
               ap (λ j. get_or found j false) (sym (k.2 d))
               ∙ (here
-              ∙ (ap (λ r. inside (whole (point_of value r))) (q_own.point p ∙ ap (λ j. get_or ps j p) (k.2 d))
-              ∙ sym (get_or-map (λ r. inside (whole r)) (points_of value ps) n (point_of value p) false (omega (arith, l, length-map ps (point_of value)))
-              ∙ ap (λ r. inside (whole r)) (get_or-map (point_of value) ps n p (point_of value p) l))))
+              ∙ (ap (λ r. inside (whole r)) (q_own.point p ∙ ap (λ j. get_or ps j p) (k.2 d))
+              ∙ sym (get_or-map (λ r. inside (whole r)) ps n p false l)))
 
-pub asked_within : {I : Type 0} (value : I → ℤ) (least greatest : ℤ) (ps : List (IntPoint I)) → All (IsWithin least greatest) (points_of value ps) → All (λ (q : QueryPoint I). IsWithin least greatest (point_of value q.point)) (all_asked 0 ps)
+pub asked_within : {I : Type 0} (value : I → ℤ) (least greatest : ℤ) (ps : List Point) → All (IsWithin least greatest) ps → All (λ (q : QueryPoint I). IsWithin least greatest q.point) (all_asked 0 ps)
 asked_within value least greatest ps all =
-    all_asked_hold (λ q. IsWithin least greatest (point_of value q.point)) ps
-    (λ k e l. subst (IsWithin least greatest) (get_or-map (point_of value) ps k e (point_of value e) l) (all k (point_of value e) (omega (arith, l, length-map ps (point_of value)))))
+    all_asked_hold (λ q. IsWithin least greatest q.point) ps all
 
 -- ---- what is found
 
 module _ {I : Type 0} (value : I → ℤ) where
-  pub none_found : (ps : List (IntPoint I)) (qs : List (QueryPoint I)) → IsPermutation (all_asked 0 ps) qs → AreFound value (λ _. false) qs
+  pub none_found : (ps : List Point) (qs : List (QueryPoint I)) → IsPermutation (all_asked 0 ps) qs → AreFound value (λ _. false) qs
   none_found ps qs moved =
       All-permutation (λ q. (q.is_odd ≡ false) × (q.is_found ≡ false)) (all_asked 0 ps) qs moved
       (all_asked_hold (λ q. (q.is_odd ≡ false) × (q.is_found ≡ false)) ps (λ k e l. (refl, refl)))
 
   -- one shape more
-  pub found_located : (cs : List (List Point)) (f g : RationalPoint → Bool) → ((p : RationalPoint) → (f p || in_shape cs p) ≡ g p) → (qs : List (QueryPoint I)) → AreFound value f qs → AreFound value g (map (located value cs) qs)
+  pub found_located : (cs : List (List Point)) (f g : RationalPoint → Bool) → ((p : RationalPoint) → (f p || in_shape cs p) ≡ g p) → (qs : List (QueryPoint I)) → AreFound value f qs → AreFound value g (map (located cs) qs)
   found_located cs f g more qs are k d l =
-      let within : k < length qs = omega (arith, l, length-map qs (located value cs)) in
+      let within : k < length qs = omega (arith, l, length-map qs (located cs)) in
       let e = some_element qs k within in
-      subst (λ q. (q.is_odd ≡ false) × (q.is_found ≡ g (place_of value q))) (sym (get_or-map (located value cs) qs k e d within)) (by (get_or qs k e) (are k e within))
+      subst (λ q. (q.is_odd ≡ false) × (q.is_found ≡ g (place_of q))) (sym (get_or-map (located cs) qs k e d within)) (by (get_or qs k e) (are k e within))
     where
-      by : (q : QueryPoint I) → (q.is_odd ≡ false) × (q.is_found ≡ f (place_of value q)) → (false ≡ false) × ((q.is_found || differ q.is_odd (in_shape cs (place_of value q))) ≡ g (place_of value q))
-      by q h = (refl, ap₂ (λ b o. b || differ o (in_shape cs (place_of value q))) h.1 h.0 ∙ (ap (λ b. f (place_of value q) || b) (false_differ (in_shape cs (place_of value q))) ∙ more (place_of value q)))
+      by : (q : QueryPoint I) → (q.is_odd ≡ false) × (q.is_found ≡ f (place_of q)) → (false ≡ false) × ((q.is_found || differ q.is_odd (in_shape cs (place_of q))) ≡ g (place_of q))
+      by q h = (refl, ap₂ (λ b o. b || differ o (in_shape cs (place_of q))) h.1 h.0 ∙ (ap (λ b. f (place_of q) || b) (false_differ (in_shape cs (place_of q))) ∙ more (place_of q)))
 
   pub all_even : (f : RationalPoint → Bool) (qs : List (QueryPoint I)) → AreFound value f qs → All (λ q. q.is_odd ≡ false) qs
   all_even f qs are k d l = (are k d l).0
 
-  pub all_found : (f : RationalPoint → Bool) (qs : List (QueryPoint I)) → AreFound value f qs → All (λ q. q.is_found ≡ f (place_of value q)) qs
+  pub all_found : (f : RationalPoint → Bool) (qs : List (QueryPoint I)) → AreFound value f qs → All (λ q. q.is_found ≡ f (place_of q)) qs
   all_found f qs are k d l = (are k d l).1
 
   pub in_shapes_more : (shapes : List (IntShape I)) (i : ℕ) (x : IntShape I) → i < length shapes → x ≡ get_or shapes i x → (p : RationalPoint)
-      → (in_shapes (shapes_of value (take i shapes)) p || in_shape (contours_of value x.contours.items) p) ≡ in_shapes (shapes_of value (take (i + 1) shapes)) p
+      → (in_shapes (shapes_of (take i shapes)) p || in_shape (contours_of x.contours.items) p) ≡ in_shapes (shapes_of (take (i + 1) shapes)) p
   in_shapes_more shapes i x l at p =
-      sym (ap (λ ss. in_shapes (shapes_of value ss) p) (take_more shapes i x l ∙ ap (λ y. take i shapes ++ y ∷ []) (sym at))
-      ∙ (ap (λ ss. in_shapes ss p) (map-append (λ (s : IntShape I). contours_of value s.contours.items) (take i shapes) (x ∷ []))
-      ∙ (list_any-append (λ s. in_shape s p) (shapes_of value (take i shapes)) (contours_of value x.contours.items ∷ [])
-      ∙ ap (λ b. in_shapes (shapes_of value (take i shapes)) p || b) (or_false (in_shape (contours_of value x.contours.items) p)))))
+      sym (ap (λ ss. in_shapes (shapes_of ss) p) (take_more shapes i x l ∙ ap (λ y. take i shapes ++ y ∷ []) (sym at))
+      ∙ (ap (λ ss. in_shapes ss p) (map-append (λ (s : IntShape I). contours_of s.contours.items) (take i shapes) (x ∷ []))
+      ∙ (list_any-append (λ s. in_shape s p) (shapes_of (take i shapes)) (contours_of x.contours.items ∷ [])
+      ∙ ap (λ b. in_shapes (shapes_of (take i shapes)) p || b) (or_false (in_shape (contours_of x.contours.items) p)))))
 
 -- answers that are right at all points
 pub located_from : (contours : List (List Point)) (inside : RationalPoint → Bool) (points : List Point) (answers : List Bool) → answers ≡ map (λ p. inside (whole p)) points → AreLocated contours inside points answers
@@ -707,22 +703,22 @@ located_from contours inside points answers is = record {
 
 -- ---- a call, from its points to its answers
 
-module _ {I : Type 0} (least greatest : ℤ) (value : I → ℤ) (points : List (IntPoint I)) where
+module _ {I : Type 0} (least greatest : ℤ) (value : I → ℤ) (points : List Point) where
   -- the queries of the points, and what was found so far
   pub record IsUnderWay (inside : RationalPoint → Bool) (qs : List (QueryPoint I)) : Type 0 where
     pub each : AnswerEach points qs
-    pub ready : AreReady least greatest value qs
+    pub ready : AreReady least greatest qs
     pub found : AreFound value inside qs
 
-  pub begun : (qs : List (QueryPoint I)) → IsPermutation (all_asked 0 points) qs → AreReady least greatest value qs → IsUnderWay (λ _. false) qs
+  pub begun : (qs : List (QueryPoint I)) → IsPermutation (all_asked 0 points) qs → AreReady least greatest qs → IsUnderWay (λ _. false) qs
   begun qs moved ready = record { each = answer_from points qs moved; ready = ready; found = none_found value points qs moved }
 
   -- one shape more, by a slice that is written back
   pub goes_on : (cs : List (List Point)) (f g : RationalPoint → Bool) → ((p : RationalPoint) → (f p || in_shape cs p) ≡ g p) → (qs now new : List (QueryPoint I)) (n : ℕ) → now ≡ qs → length now ≡ n
-      → new ≡ map (located value cs) now → IsUnderWay f qs → IsUnderWay g (take n (new ++ drop (length new) qs))
+      → new ≡ map (located cs) now → IsUnderWay f qs → IsUnderWay g (take n (new ++ drop (length new) qs))
   goes_on cs f g more qs now new n same long is h =
-      let mapped : new ≡ map (located value cs) qs = is ∙ ap (map (located value cs)) same in
-      let len : n ≡ length new = let a = ap length is in let b = length-map now (located value cs) in omega (arith, a, b, long) in
+      let mapped : new ≡ map (located cs) qs = is ∙ ap (map (located cs)) same in
+      let len : n ≡ length new = let a = ap length is in let b = length-map now (located cs) in omega (arith, a, b, long) in
       subst (IsUnderWay g) (sym (written_back new qs n len ∙ mapped))
       (record { each = located_answer value cs points qs h.each; ready = ready_located value least greatest cs qs h.ready; found = found_located value cs f g more qs h.found })
 

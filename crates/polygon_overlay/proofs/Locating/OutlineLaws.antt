@@ -235,18 +235,13 @@ edge_of_corners [] k e d l = absurd (omega (arith, l))
 edge_of_corners (p ∷ rest) k e d l = path_corners p (p ∷ rest) k e d l
 
 -- a corner is a point of the contour, or the first one again
-pub corner_within : {X : Type 0} (f : X → Point) (xs : List X) (k : ℕ) (x : X) → k < length xs → x ≡ get_or xs k x → (d : Point)
-    → f x ≡ get_or (closed (map f xs)) k d
-corner_within f [] k x l at d = absurd (omega (arith, l))
-corner_within f (z ∷ zs) k x l at d =
-    ap f at
-    ∙ (sym (get_or-map f (z ∷ zs) k x d l) ∙ sym (get_or_append_left (map f (z ∷ zs)) (f z ∷ []) d k (omega (arith, l, length-map (z ∷ zs) f))))
+pub corner_within : (ps : List Point) (k : ℕ) (p : Point) → k < length ps → p ≡ get_or ps k p → (d : Point) → p ≡ get_or (closed ps) k d
+corner_within [] k p l at d = absurd (omega (arith, l))
+corner_within (q ∷ qs) k p l at d = at ∙ (get_or_default (q ∷ qs) k p d l ∙ sym (get_or_append_left (q ∷ qs) (q ∷ []) d k l))
 
-pub corner_again : {X : Type 0} (f : X → Point) (xs : List X) (k : ℕ) (x : X) → k ≡ length xs → 0 < length xs → x ≡ get_or xs 0 x → (d : Point)
-    → f x ≡ get_or (closed (map f xs)) k d
-corner_again f [] k x e l at d = absurd (omega (arith, l))
-corner_again f (z ∷ zs) k x e l at d =
-    ap f at ∙ sym (get_or_at (map f (z ∷ zs)) (f z) [] d k (length-map (z ∷ zs) f ∙ sym e))
+pub corner_again : (ps : List Point) (k : ℕ) (p : Point) → k ≡ length ps → 0 < length ps → p ≡ get_or ps 0 p → (d : Point) → p ≡ get_or (closed ps) k d
+corner_again [] k p e l at d = absurd (omega (arith, l))
+corner_again (q ∷ qs) k p e l at d = at ∙ sym (get_or_at (q ∷ qs) q [] d k (sym e))
 
 -- ---- runs of edges in boxes
 

@@ -1,10 +1,10 @@
 -- Points that two rising lists share, found by one merge.
-use Rattle.std.proofs.Common.{◌≡◌, ℕ, ◌+◌, ◌<◌, Bool, true, false, ◌||◌, List, [], ◌∷◌, map, length, get_or, drop, All, Ordering, Less, Equal, Greater, is_eq, is_lt, IsPermutation, refl, sym, ap, ap₂, ◌∙◌, arith}
+use Rattle.std.proofs.Common.{◌≡◌, ℕ, ◌+◌, ◌<◌, Bool, true, false, ◌||◌, List, [], ◌∷◌, length, get_or, drop, All, Ordering, Less, Equal, Greater, is_eq, is_lt, IsPermutation, refl, sym, ap, ap₂, ◌∙◌, arith}
 use Rattle.std.specs.Cmp.{IsTotalOrder}
 use Rattle.std.specs.Ordering.{ordering_reverse}
 use Rattle.std.specs.List.{list_any}
 use Rattle.std.specs.List.Sorted.{IsSorted}
-use Rattle.std.proofs.lemmas.List.{drop_more, get_or-drop, get_or-map, length-map, length-drop}
+use Rattle.std.proofs.lemmas.List.{drop_more, get_or-drop, get_or_default, length-drop}
 use Rattle.std.proofs.lemmas.List.Elements.{All-head, All-tail}
 use Rattle.std.proofs.lemmas.List.Folds.{list_any_none}
 use Rattle.std.proofs.lemmas.List.Sorted.{sorted_far, ranks_by, list_any-IsPermutation}
@@ -84,18 +84,10 @@ module _ {K : Type 0} (order : K → K → Ordering) where
           ap₂ meets at_first at_second
           ∙ ap (λ o. (is_eq o || list_any (λ r. is_eq (order p r)) (drop (j + 1) qs)) || meets (drop (i + 1) ps) (q ∷ drop (j + 1) qs)) equal
 
--- in the order of what it is mapped from
-pub mapped_sorted : {X K : Type 0} (f : X → K) (cmp : X → X → Ordering) (order : K → K → Ordering) → ((x y : X) → cmp x y ≡ order (f x) (f y)) → (xs : List X)
-    → IsSorted cmp xs → IsSorted order (map f xs)
-mapped_sorted f cmp order same [] sorted k d l m = absurd (omega (arith, m))
-mapped_sorted f cmp order same (x ∷ xs) sorted k d l m =
-    let above : k + 1 < length (x ∷ xs) = rw (length-map (x ∷ xs) f) at m in
-    rw (get_or-map f (x ∷ xs) (k + 1) x d above, get_or-map f (x ∷ xs) k x d (omega (arith, above)))
-    (ap is_lt (sym (same (get_or (x ∷ xs) (k + 1) x) (get_or (x ∷ xs) k x))) ∙ sorted k x l above)
+-- in an order that tells the same
+pub sorted_alike : {K : Type 0} (cmp order : K → K → Ordering) → ((x y : K) → cmp x y ≡ order x y) → (xs : List K) → IsSorted cmp xs → IsSorted order xs
+sorted_alike cmp order same xs sorted k d l m = ap is_lt (sym (same (get_or xs (k + 1) d) (get_or xs k d))) ∙ sorted k d l m
 
--- what stands at a place of a mapped list
-pub at_place : {X K : Type 0} (f : X → K) (xs : List X) (i : ℕ) (x : X) → i < length xs → x ≡ get_or xs i x → (d : K) → get_or (map f xs) i d ≡ f x
-at_place f xs i x within is d = get_or-map f xs i x d within ∙ ap f (sym is)
-
-pub mapped_within : {X K : Type 0} (f : X → K) (xs : List X) (i : ℕ) → i < length xs → i < length (map f xs)
-mapped_within f xs i h = omega (arith, length-map xs f, h)
+-- what stands at a place
+pub at_place : {K : Type 0} (xs : List K) (i : ℕ) (x : K) → i < length xs → x ≡ get_or xs i x → (d : K) → get_or xs i d ≡ x
+at_place xs i x within is d = get_or_default xs i d x within ∙ sym is

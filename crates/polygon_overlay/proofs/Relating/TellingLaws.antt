@@ -9,9 +9,7 @@ use Rattle.std.specs.declared.ops.ControlFlow.TheVariants.{Continue, Break}
 use Rattle.plane_base.specs.Plane.{Point}
 use Rattle.plane_base.specs.Counts.{Count, Entry}
 use Rattle.plane_base.specs.Regions.{FillRule}
-use Rattle.plane_base.specs.Views.{points_of}
 use Rattle.plane_base.specs.declared.fault.Fault.{Fault}
-use Rattle.plane_base.specs.declared.point.IntPoint.{IntPoint}
 use Rattle.segment_arrangement.specs.Fills.{has}
 use Rattle.segment_arrangement.specs.Graphs.{Link, link_of, all_links}
 use Rattle.segment_arrangement.specs.Sweeps.{IsHandled, IsRefused}
@@ -95,7 +93,7 @@ relations_told seen new ps qs ps' qs' l rest is e f =
 -- ---- at first
 
 -- what is answered where no end was met before
-pub none_met : {I T : Type 0} (value : I → ℤ) (with_ends : List Point → List Point → T) (ps qs : List (IntPoint I)) → ps ≡ [] → qs ≡ []
-    → (r : Result T Fault) → IfOk r (λ answer. answer ≡ with_ends (points_of value ps) (points_of value qs)) → IfOk r (λ answer. answer ≡ with_ends [] [])
+pub none_met : {I T : Type 0} (value : I → ℤ) (with_ends : List Point → List Point → T) (ps qs : List Point) → ps ≡ [] → qs ≡ []
+    → (r : Result T Fault) → IfOk r (λ answer. answer ≡ with_ends ps qs) → IfOk r (λ answer. answer ≡ with_ends [] [])
 none_met value with_ends ps qs e f (Err fault) is = tt
-none_met value with_ends ps qs e f (Ok answer) is = is ∙ ap₂ (λ xs ys. with_ends (points_of value xs) (points_of value ys)) e f
+none_met value with_ends ps qs e f (Ok answer) is = is ∙ ap₂ (λ xs ys. with_ends xs ys) e f

@@ -1,6 +1,5 @@
 -- An answer with all its points lays just the boundary that it passes. So it comes back, and each of its contours meets itself in ends alone.
 use Rattle.std.proofs.Common.{◌≡◌, ◌≢◌, ◌<◌, Bool, true, false, cond, List, [], ◌∷◌, ◌++◌, map, filter, flat_map, length, get_or, All, AllPairs, Contains, IsPermutation, ℤ, pos, negsuc, ◌+ℤ◌, ◌≤ℤ◌, refl, sym, ap, ◌∙◌, subst, append_assoc, append-nil, arith}
-use Rattle.std.specs.List.{AllZip}
 use Rattle.std.specs.declared.cmp.Ordering.TheVariants.{Less}
 use Rattle.std.specs.Ordering.{is_eq}
 use Rattle.std.proofs.lemmas.Int.{ints}
@@ -17,9 +16,8 @@ use Rattle.plane_base.specs.Segments.{MeetsInEnds}
 use Rattle.plane_base.specs.Windings.{winding}
 use Rattle.plane_base.proofs.Facts.Lists.Rearrangements.{fold_of_permutation}
 use Rattle.plane_base.proofs.Facts.Maps.Laying.{lay_by, boolean_counting}
-use Rattle.plane_base.proofs.Facts.Maps.Normal.{AllPairs-nil, AllPairs-cons, AllPairs-head, AllPairs-tail, normal_append_comm, normal_append_same, normal_append_normal, normal_of_normal}
+use Rattle.plane_base.proofs.Facts.Maps.Normal.{AllPairs-nil, AllPairs-cons, normal_append_comm, normal_append_same, normal_append_normal, normal_of_normal}
 use Rattle.plane_base.proofs.Facts.Points.Orders.{point_total, before_is_less, greater_from_less, edge_itself}
-use Rattle.segment_split.specs.Adding.{IsTaken}
 use Rattle.segment_split.specs.Passes.{edges_of}
 use Rattle.segment_split.specs.Redrawing.{redrawn}
 use Rattle.segment_split.specs.RedrawLaws.{Rearranges, RedrawsToTheEnd, IsStable}

@@ -1,12 +1,8 @@
 -- What answers a perfect contour, by what becomes of it.
-use Rattle.std.proofs.Common.{◌≡◌, ◌↔◌, ℕ, ◌-◌, ℤ, pos, negsuc, ◌<ℤ◌, int_lt, Bool, true, false, not, cond, IsTrue, List, [], ◌∷◌, ◌++◌, map, reverse, take, drop, Option, Some, None, unwrap_or, refl, sym, ap, ap₂, ◌∙◌, arith}
+use Rattle.std.proofs.Common.{◌≡◌, ◌↔◌, ℤ, pos, negsuc, ◌<ℤ◌, int_lt, Bool, true, false, not, cond, IsTrue, List, [], ◌∷◌, reverse, Option, Some, None, unwrap_or, refl, sym, ap, ap₂, ◌∙◌, arith}
 use Rattle.std.proofs.lemmas.Bool.{false≢true}
 use Rattle.std.proofs.lemmas.Int.{ints}
-use Rattle.std.proofs.lemmas.List.{drop-map, map-append, reverse-append}
-use Rattle.std.specs.List.{take-map}
-use Rattle.std.specs.declared.ops.Range.{Range}
 use Rattle.plane_base.specs.Areas.{area}
-use Rattle.plane_base.specs.Flat.{part, parts}
 use Rattle.plane_base.specs.Plane.{Point}
 use Rattle.plane_base.specs.Regions.{FillRule, is_filled}
 use Rattle.contour_walk.specs.BindingLaws.{all_contours}
@@ -64,24 +60,3 @@ module _ (clockwise : Bool) (fill : FillRule) (points : List Point) where
       by Reverse = refl
       by Correct = refl
       by Empty = refl
-
--- ---- contours of flat buffers
-
-module _ {X Y : Type 0} (f : X → Y) where
-  -- what is seen of a list turned round
-  pub map_reversed : (xs : List X) → map f (reverse xs) ≡ reverse (map f xs)
-  map_reversed [] = refl
-  map_reversed (x ∷ xs) =
-      ap (map f) (reverse-append (x ∷ []) xs)
-      ∙ (map-append f (reverse xs) (x ∷ []) ∙ (ap (λ l. l ++ f x ∷ []) (map_reversed xs) ∙ sym (reverse-append (f x ∷ []) (map f xs))))
-
-  -- the parts of what is seen are what is seen of the parts
-  pub parts_mapped : (xs : List X) (rs : List (Range ℕ)) → parts (map f xs) rs ≡ map (map f) (parts xs rs)
-  parts_mapped xs [] = refl
-  parts_mapped xs (r ∷ rs) = ap₂ (λ p ps. p ∷ ps) (ap (take (r.end - r.start)) (drop-map f r.start xs) ∙ take-map f (r.end - r.start) (drop r.start xs)) (parts_mapped xs rs)
-
-  pub flat_single : (xs : List X) (rs : List (Range ℕ)) (ys : List X) → parts xs rs ≡ ys ∷ [] → parts (map f xs) rs ≡ map f ys ∷ []
-  flat_single xs rs ys is = parts_mapped xs rs ∙ ap (map (map f)) is
-
-  pub flat_turned : (xs : List X) (rs : List (Range ℕ)) (ys : List X) → parts xs rs ≡ reverse ys ∷ [] → parts (map f xs) rs ≡ reverse (map f ys) ∷ []
-  flat_turned xs rs ys is = flat_single xs rs (reverse ys) is ∙ ap (λ zs. zs ∷ []) (map_reversed ys)

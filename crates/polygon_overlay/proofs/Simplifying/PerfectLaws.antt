@@ -1,23 +1,23 @@
 -- What tells a perfect contour: its points differ, as many edges are laid of it, thinned or not, as it has points, and nothing is joined
 -- or marked.
-use Rattle.std.proofs.Common.{◌≡◌, ◌≢◌, ◌↔◌, ◌⊎◌, ℕ, zero, suc, ◌+◌, ◌-◌, ◌≤◌, ◌<◌, Bool, true, false, IsTrue, List, [], ◌∷◌, ◌++◌, length, get_or, All, AllPairs, IsPermutation, map, Ordering, Less, Equal, Greater, is_lt, is_eq, refl, sym, ap, ap₂, ◌∙◌, subst, inl, inr, arith, append-nil}
+use Rattle.std.proofs.Common.{◌≡◌, ◌≢◌, ◌⊎◌, ℕ, suc, ◌+◌, ◌-◌, ◌≤◌, ◌<◌, Bool, true, false, List, [], ◌∷◌, ◌++◌, length, get_or, All, AllPairs, IsPermutation, Ordering, Less, Equal, Greater, is_lt, is_eq, refl, sym, ap, ◌∙◌, subst, inl, inr, arith, append-nil}
 use Rattle.std.specs.Bool.{Decides}
 use Rattle.std.specs.List.Sorted.{IsSorted, IsSortedBy}
 use Rattle.std.proofs.Math.Nat.{eq-or-lt_of_le}
 use Rattle.std.proofs.lemmas.Bool.{false≢true}
 use Rattle.std.proofs.lemmas.Bool.Decides.{same_from_decides, Decides-like}
-use Rattle.std.proofs.lemmas.List.{length-append, length-map, get_or-map, get_or_default}
-use Rattle.std.proofs.lemmas.List.Sorted.{sorted_far, ranks_by}
+use Rattle.std.proofs.lemmas.List.{length-append, get_or_default}
+use Rattle.std.proofs.lemmas.List.Sorted.{sorted_far, ranks_by, IsPermutation-sym}
 use Rattle.std.proofs.lemmas.Map.Keys.{IsDistinct-IsPermutation}
 use Rattle.std.proofs.lemmas.Map.Made.{AllPairs-from_IsDistinct, IsDistinct-from_AllPairs}
-use Rattle.std.proofs.lemmas.List.Elements.{All-nil, All-cons, All-head, All-tail, All-append, All-weaker, All-map}
-use Rattle.plane_base.specs.Plane.{Point, point_order, turn}
+use Rattle.std.proofs.lemmas.List.Elements.{All-cons, All-head, All-tail, All-append, All-weaker}
+use Rattle.plane_base.specs.Plane.{Point, point_order}
 use Rattle.plane_base.specs.Cycles.{SameCycle}
-use Rattle.plane_base.specs.Thinning.{TakesOut, Reaches, same, step, IsBare, IsThinned, bare, empty}
-use Rattle.plane_base.specs.Counts.{Count, Counting, Entry, boolean, one_subject, lay, normal}
-use Rattle.plane_base.specs.Given.{laid_path, closed, laid}
-use Rattle.plane_base.proofs.Facts.Points.Orders.{point_total, point_equal, point_itself, is_equal, less_from_greater, greater_from_less}
-use Rattle.plane_base.proofs.Facts.Lists.Cycles.{cycle_refl, cycle_sym, cycle_same, cycle_length, cycle_rotated, All-front, All-back}
+use Rattle.plane_base.specs.Thinning.{Reaches, same, step, bare, empty}
+use Rattle.plane_base.specs.Counts.{Count, Counting, Entry, boolean, one_subject, lay}
+use Rattle.plane_base.specs.Given.{laid_path, laid}
+use Rattle.plane_base.proofs.Facts.Points.Orders.{point_total, point_equal, point_itself, is_equal, less_from_greater}
+use Rattle.plane_base.proofs.Facts.Lists.Cycles.{cycle_refl, cycle_sym, cycle_same, cycle_length, All-front, All-back}
 use Rattle.plane_base.proofs.Facts.Maps.Laying.{lay_by, lay_nowhere, boolean_counting}
 use Rattle.plane_base.proofs.Facts.Maps.Normal.{AllPairs-nil, AllPairs-cons, AllPairs-head, AllPairs-tail}
 use Rattle.plane_base.proofs.Facts.Thinning.Laws.{reaches_length, takes_out_length, thinned_unique}
@@ -248,33 +248,33 @@ point_tells p q = (λ e. point_equal p q (is_equal (point_order p q) e), λ e. a
 point_flips : (p q : Point) → is_eq (point_order p q) ≡ is_eq (point_order q p)
 point_flips p q = same_from_decides (is_eq (point_order p q)) (is_eq (point_order q p)) (point_tells p q) (Decides-like (is_eq (point_order q p)) sym sym (point_tells q p))
 
-pub once_reordered : (ps qs : List Point) → IsPermutation ps qs → HasEachOnce ps → HasEachOnce qs
+once_reordered : (ps qs : List Point) → IsPermutation ps qs → HasEachOnce ps → HasEachOnce qs
 once_reordered ps qs order once =
     AllPairs-from_IsDistinct point_tells qs (IsDistinct-IsPermutation (λ p q. is_eq (point_order p q)) point_flips ps qs order (IsDistinct-from_AllPairs point_tells ps once))
 
--- ---- sorted points of the code
+-- ---- sorted points
 
-module _ {X : Type 0} (f : X → Point) (cmp : X → X → Ordering) (agree : (x y : X) → cmp x y ≡ point_order (f x) (f y)) where
-  pub sorted_rises : (xs : List X) → IsSorted cmp xs → AllPairs (λ p q. point_order p q ≢ Greater) (map f xs)
-  sorted_rises xs sorted = pairs_mapped xs (λ i j d h k. at (get_or xs i d) (get_or xs j d) (sorted_far lt (ranks_by point_total f) xs up i j d (omega (arith, h)) k))
-    where
-      lt : X → X → Bool
-      lt x y = is_lt (point_order (f x) (f y))
+-- a sorted copy has each once just where the points do
+pub once_sorted : (given copy sorted seen : List Point) → copy ≡ given → IsPermutation copy sorted → seen ≡ sorted
+    → (HasEachOnce seen → HasEachOnce given) × (HasEachOnce given → HasEachOnce seen)
+once_sorted given copy sorted seen copied order is = (
+  λ once. subst HasEachOnce copied (once_reordered sorted copy (IsPermutation-sym copy sorted order) (subst HasEachOnce is once)),
+  λ once. subst HasEachOnce (sym is) (once_reordered copy sorted order (subst HasEachOnce (sym copied) once)),
+)
 
-      up : IsSortedBy lt xs
-      up k d h l = ap is_lt (sym (agree (get_or xs (k + 1) d) (get_or xs k d))) ∙ sorted k d h l
+pub sorted_rises : (cmp : Point → Point → Ordering) → ((p q : Point) → cmp p q ≡ point_order p q) → (ps : List Point) → IsSorted cmp ps
+    → AllPairs (λ p q. point_order p q ≢ Greater) ps
+sorted_rises cmp agree ps sorted i j d h k =
+    at (get_or ps i d) (get_or ps j d) (sorted_far lt (ranks_by point_total (λ p. p)) ps up i j d (omega (arith, h)) k)
+  where
+    lt : Point → Point → Bool
+    lt p q = is_lt (point_order p q)
 
-      at : (x y : X) → lt y x ≡ false → point_order (f x) (f y) ≢ Greater
-      at x y h greater = false≢true (sym h ∙ ap is_lt (less_from_greater point_total (f x) (f y) greater))
+    up : IsSortedBy lt ps
+    up k d h l = ap is_lt (sym (agree (get_or ps (k + 1) d) (get_or ps k d))) ∙ sorted k d h l
 
-      pairs_mapped : (ys : List X) → AllPairs (λ x y. point_order (f x) (f y) ≢ Greater) ys → AllPairs (λ p q. point_order p q ≢ Greater) (map f ys)
-      pairs_mapped [] h = AllPairs-nil (λ p q. point_order p q ≢ Greater)
-      pairs_mapped (y ∷ ys) h =
-          AllPairs-cons (λ p q. point_order p q ≢ Greater) (f y) (map f ys)
-          (All-map (λ q. point_order (f y) q ≢ Greater) f ys (AllPairs-head (λ x z. point_order (f x) (f z) ≢ Greater) y ys h))
-          (pairs_mapped ys (AllPairs-tail (λ x z. point_order (f x) (f z) ≢ Greater) y ys h))
-
--- ---- sorted points, read one by one
+    at : (p q : Point) → lt q p ≡ false → point_order p q ≢ Greater
+    at p q h greater = false≢true (sym h ∙ ap is_lt (less_from_greater point_total p q greater))
 
 -- what the test of two points tells
 pub tells_same : (p q : Point) → is_eq (point_order p q) ≡ true → p ≡ q
@@ -283,36 +283,22 @@ tells_same p q e = point_equal p q (is_equal (point_order p q) e)
 pub tells_other : (p q : Point) → is_eq (point_order p q) ≡ false → p ≢ q
 tells_other p q e level = false≢true (sym e ∙ (point_tells p q).1 level)
 
-module _ {X : Type 0} (f : X → Point) (xs : List X) where
+module _ (ps : List Point) where
   -- two that are equal, one behind the other
-  pub same_beside : (i : ℕ) (x y : X) → 1 ≤ i → i < length xs → x ≡ get_or xs (i - 1) x → y ≡ get_or xs i y → f x ≡ f y → HasEachOnce (map f xs) → ⊥
-  same_beside i x y after within at there level once =
-      once (i - 1) i (f x) (omega (arith, after)) (omega (arith, within, length-map xs f))
-      (get_or-map f xs (i - 1) x (f x) (omega (arith, within)) ∙ (ap f (sym at) ∙ (level ∙ (ap f there ∙ sym (get_or-map f xs i y (f x) within)))))
+  pub same_beside : (i : ℕ) (p q : Point) → 1 ≤ i → i < length ps → p ≡ get_or ps (i - 1) p → q ≡ get_or ps i q → p ≡ q → HasEachOnce ps → ⊥
+  same_beside i p q after within at there level once =
+      once (i - 1) i p (omega (arith, after)) within (sym at ∙ (level ∙ (there ∙ get_or_default ps i q p within)))
 
   -- one more that differs from the one before it
-  pub differ_on : (i : ℕ) (x y : X) → 1 ≤ i → i < length xs → x ≡ get_or xs (i - 1) x → y ≡ get_or xs i y → f x ≢ f y
-      → ((k : ℕ) (d : X) → k + 1 < i → f (get_or xs k d) ≢ f (get_or xs (k + 1) d))
-      → (k : ℕ) (d : X) → k + 1 < i + 1 → f (get_or xs k d) ≢ f (get_or xs (k + 1) d)
-  differ_on i x y after within at there apart before k d below level = by (eq-or-lt_of_le {n = k + 1} {m = i} (omega (arith, below)))
+  pub differ_on : (i : ℕ) (p q : Point) → 1 ≤ i → i < length ps → p ≡ get_or ps (i - 1) p → q ≡ get_or ps i q → p ≢ q
+      → ((k : ℕ) (d : Point) → k + 1 < i → get_or ps k d ≢ get_or ps (k + 1) d)
+      → (k : ℕ) (d : Point) → k + 1 < i + 1 → get_or ps k d ≢ get_or ps (k + 1) d
+  differ_on i p q after within at there apart before k d below level = by (eq-or-lt_of_le {n = k + 1} {m = i} (omega (arith, below)))
     where
       by : (k + 1 ≡ i) ⊎ (k + 1 < i) → ⊥
       by (inr l) = before k d l level
       by (inl e) =
           let k_is : k ≡ i - 1 = omega (arith, e) in
           apart
-          (ap f (at ∙ (get_or_default xs (i - 1) x d (omega (arith, within)) ∙ ap (λ n. get_or xs n d) (sym k_is)))
-          ∙ (level ∙ ap f (ap (λ n. get_or xs n d) e ∙ (get_or_default xs i d y within ∙ sym there))))
-
-  -- all that don't fall and differ so
-  pub differ_all : AllPairs (λ p q. point_order p q ≢ Greater) (map f xs) → ((k : ℕ) (d : X) → k + 1 < length xs → f (get_or xs k d) ≢ f (get_or xs (k + 1) d))
-      → HasEachOnce (map f xs)
-  differ_all risen apart = by xs risen apart
-    where
-      by : (ys : List X) → AllPairs (λ p q. point_order p q ≢ Greater) (map f ys) → ((k : ℕ) (d : X) → k + 1 < length ys → f (get_or ys k d) ≢ f (get_or ys (k + 1) d))
-          → HasEachOnce (map f ys)
-      by [] up differ = AllPairs-nil (λ p q. p ≢ q)
-      by (y ∷ ys) up differ =
-          apart_where_neighbours (map f (y ∷ ys)) up
-          (λ k d below level. let within : k + 1 < length (y ∷ ys) = omega (arith, below, length-map (y ∷ ys) f) in
-          differ k y within (sym (get_or-map f (y ∷ ys) k y d (omega (arith, within))) ∙ (level ∙ get_or-map f (y ∷ ys) (k + 1) y d within)))
+          (at ∙ (get_or_default ps (i - 1) p d (omega (arith, within)) ∙ ap (λ n. get_or ps n d) (sym k_is))
+          ∙ (level ∙ (ap (λ n. get_or ps n d) e ∙ (get_or_default ps i d q within ∙ sym there))))

@@ -1,8 +1,7 @@
 -- What answers contours that are perfect, and what all others.
-use Rattle.std.specs.Prelude.{◌≡◌, ℤ, List, [], ◌∷◌, map, length, Option, Some, None, unwrap_or, slice_index_or}
+use Rattle.std.specs.Prelude.{◌≡◌, ℤ, List, [], ◌∷◌, length, Option, Some, None, unwrap_or, slice_index_or}
 use Rattle.std.proofs.Common.{refl, sym, ap, ◌∙◌, subst, arith}
 use Rattle.std.proofs.lemmas.Bool.{false≢true}
-use Rattle.std.proofs.lemmas.List.{length-map}
 use Rattle.plane_base.specs.Plane.{Point}
 use Rattle.plane_base.specs.Counts.{Count, Entry}
 use Rattle.plane_base.specs.Regions.{FillRule, Subject}
@@ -79,6 +78,6 @@ one_only [] d x long is = absurd (omega (arith, long))
 one_only (y ∷ []) d x long is = ap (λ z. z ∷ []) (sym is)
 one_only (y ∷ z ∷ ys) d x long is = absurd (omega (arith, long))
 
--- what is seen as one is one
-pub one_length : {A B : Type 0} (xs : List A) (f : A → B) (y : B) → map f xs ≡ y ∷ [] → length xs ≡ 1
-one_length xs f y is = sym (length-map xs f) ∙ ap length is
+-- a list of one has one element
+pub one_length : {A : Type 0} (xs : List A) (y : A) → xs ≡ y ∷ [] → length xs ≡ 1
+one_length xs y is = ap length is

@@ -18,11 +18,11 @@ use Rattle.polygon_overlay.specs.SimplifyCalls.{HoldsSimplified, FindsSimplified
 use Rattle.polygon_overlay.specs.declared.overlay.Overlay.{Overlay}
 use Rattle.polygon_overlay.proofs.Answering.QueryLaws.{not_swept}
 
-module _ {I W : Type 0} {int order equality part wide wide_order wide_equality wide_part : _} (contours : List (List Point)) (old : Overlay I W int order equality part wide wide_order wide_equality wide_part) where
+module _ {I W : Type 0} {int number order equality part wide wide_order wide_equality wide_part : _} (contours : List (List Point)) (old : Overlay I W int number order equality part wide wide_order wide_equality wide_part) where
   -- ---- refusals
 
   -- a step was refused
-  pub found_refused : {T : Type 0} {IsFor : List (Entry Count) → T → Type 0} (new : Overlay I W int order equality part wide wide_order wide_equality wide_part) (r : Result T Fault) (f g : Fault) →
+  pub found_refused : {T : Type 0} {IsFor : List (Entry Count) → T → Type 0} (new : Overlay I W int number order equality part wide wide_order wide_equality wide_part) (r : Result T Fault) (f g : Fault) →
       r ≡ Err f → f ≡ g → IsNotSimplified old.options.preserve_input_collinear old.solver.precision contours g → new.options ≡ old.options
       → new.solver ≡ old.solver → (IsSome old.boolean_buffer → IsSome new.boolean_buffer) → FindsSimplified contours IsFor old new r
   found_refused {IsFor = IsFor} new r f g is same why options solver buffer =
@@ -30,18 +30,18 @@ module _ {I W : Type 0} {int order equality part wide wide_order wide_equality w
       (record { answered = tt; ready = tt; refused = why; options = options; solver = solver; buffer = buffer })
 
   -- so was the step whose answer is handed on
-  pub refused_before : {S T : Type 0} {P : List (Entry Count) → S → Type 0} {IsFor : List (Entry Count) → T → Type 0} (new : Overlay I W int order equality part wide wide_order wide_equality wide_part)
+  pub refused_before : {S T : Type 0} {P : List (Entry Count) → S → Type 0} {IsFor : List (Entry Count) → T → Type 0} (new : Overlay I W int number order equality part wide wide_order wide_equality wide_part)
       (r : Result T Fault) (f g : Fault) → r ≡ Err f → f ≡ g → FindsSimplified contours P old new (Err g) → FindsSimplified contours IsFor old new r
   refused_before {IsFor = IsFor} new r f g is same h = found_refused {IsFor = IsFor} new r f g is same h.refused h.options h.solver h.buffer
 
   -- the sweep or the walk of what is held
-  pub sweep_refused : {P : List (Entry Count) → Type 0} (mid : Overlay I W int order equality part wide wide_order wide_equality wide_part) (g : Fault) → HoldsSimplified contours P old mid
+  pub sweep_refused : {P : List (Entry Count) → Type 0} (mid : Overlay I W int number order equality part wide wide_order wide_equality wide_part) (g : Fault) → HoldsSimplified contours P old mid
       → IsSweepRefused (held_by mid) g → IsNotSimplified old.options.preserve_input_collinear old.solver.precision contours g
   sweep_refused mid g h why =
       inr (inr (h.held, h.adds, not_swept old.solver.precision h.held g (subst (λ es. IsSweepRefused es g) h.redrawn why)))
 
   -- the redrawing of the contours
-  pub redrawing_refused : (mid : Overlay I W int order equality part wide wide_order wide_equality wide_part) (g : Fault) → mid.solver ≡ old.solver
+  pub redrawing_refused : (mid : Overlay I W int number order equality part wide wide_order wide_equality wide_part) (g : Fault) → mid.solver ≡ old.solver
       → AddsAll boolean one_subject old.options.preserve_input_collinear contours [] (held_by mid) → IsQueryRefused mid.solver.precision (held_by mid) g
       → IsNotSimplified old.options.preserve_input_collinear old.solver.precision contours g
   redrawing_refused mid g solver adds why = inr (inr (held_by mid, adds, subst (λ s. IsQueryRefused s.precision (held_by mid) g) solver why))
@@ -49,7 +49,7 @@ module _ {I W : Type 0} {int order equality part wide wide_order wide_equality w
   -- ---- what is held
 
   -- the contours, redrawn
-  pub holds_redrawn : {P : List (Entry Count) → Type 0} (mid new : Overlay I W int order equality part wide wide_order wide_equality wide_part) → mid.solver ≡ old.solver
+  pub holds_redrawn : {P : List (Entry Count) → Type 0} (mid new : Overlay I W int number order equality part wide wide_order wide_equality wide_part) → mid.solver ≡ old.solver
       → AddsAll boolean one_subject old.options.preserve_input_collinear contours [] (held_by mid)
       → (holding_of new).edges ≡ redrawn_of mid.solver.precision (held_by mid) → P (held_by mid) → HoldsSimplified contours P old new
   holds_redrawn mid new solver adds is holds = record {
@@ -60,7 +60,7 @@ module _ {I W : Type 0} {int order equality part wide wide_order wide_equality w
   }
 
   -- the same after a further step
-  pub holds_on : {P Q : List (Entry Count) → Type 0} (mid new : Overlay I W int order equality part wide wide_order wide_equality wide_part) → HoldsSimplified contours P old mid
+  pub holds_on : {P Q : List (Entry Count) → Type 0} (mid new : Overlay I W int number order equality part wide wide_order wide_equality wide_part) → HoldsSimplified contours P old mid
       → holding_of new ≡ holding_of mid → ((held : List (Entry Count)) → P held → held_by mid ≡ redrawn_of old.solver.precision held → Q held)
       → HoldsSimplified contours Q old new
   holds_on mid new h same told = record {
@@ -71,7 +71,7 @@ module _ {I W : Type 0} {int order equality part wide wide_order wide_equality w
   }
 
   -- what is told by the options and the solver as they stand is told by those of the call
-  pub told_of_old : (IsHeld : List (Entry Count) → Type 0) (A : IntOverlayOptions → Solver → List (Entry Count) → Type 0) (mid : Overlay I W int order equality part wide wide_order wide_equality wide_part)
+  pub told_of_old : (IsHeld : List (Entry Count) → Type 0) (A : IntOverlayOptions → Solver → List (Entry Count) → Type 0) (mid : Overlay I W int number order equality part wide wide_order wide_equality wide_part)
       → mid.options ≡ old.options → mid.solver ≡ old.solver
       → ((before : List (Entry Count)) → IsHeld before → held_by mid ≡ redrawn_of mid.solver.precision before → A mid.options mid.solver before)
       → (before : List (Entry Count)) → IsHeld before → held_by mid ≡ redrawn_of old.solver.precision before → A old.options old.solver before
@@ -83,7 +83,7 @@ module _ {I W : Type 0} {int order equality part wide wide_order wide_equality w
 
   -- The step that answers by what was redrawn.
   pub overlaid : {S T : Type 0} {IsHeld : List (Entry Count) → Type 0} {IsFor : List (Entry Count) → T → Type 0}
-      (A : T → IntOverlayOptions → Solver → List (Entry Count) → Type 0) (mid new : Overlay I W int order equality part wide wide_order wide_equality wide_part) (s : S) (r : Result T Fault)
+      (A : T → IntOverlayOptions → Solver → List (Entry Count) → Type 0) (mid new : Overlay I W int number order equality part wide wide_order wide_equality wide_part) (s : S) (r : Result T Fault)
       → FindsSimplified contours (λ held done. IsHeld held) old mid (Ok s)
       → IfOk r (λ t. (before : List (Entry Count)) → IsHeld before → held_by mid ≡ redrawn_of mid.solver.precision before → A t mid.options mid.solver before)
       → OnOk r (holding_of new ≡ holding_of mid) → IfErr r (IsSweepRefused (held_by mid)) → new.options ≡ mid.options → new.solver ≡ mid.solver
@@ -110,7 +110,7 @@ module _ {I W : Type 0} {int order equality part wide wide_order wide_equality w
 
   -- The same where it was answered.
   pub overlaid_as : {S T : Type 0} {IsHeld : List (Entry Count) → Type 0} {IsFor : List (Entry Count) → T → Type 0}
-      (A : IntOverlayOptions → Solver → List (Entry Count) → Type 0) (mid new : Overlay I W int order equality part wide wide_order wide_equality wide_part) (s : S) (t : T)
+      (A : IntOverlayOptions → Solver → List (Entry Count) → Type 0) (mid new : Overlay I W int number order equality part wide wide_order wide_equality wide_part) (s : S) (t : T)
       → FindsSimplified contours (λ held done. IsHeld held) old mid (Ok s)
       → ((before : List (Entry Count)) → IsHeld before → held_by mid ≡ redrawn_of mid.solver.precision before → A mid.options mid.solver before)
       → holding_of new ≡ holding_of mid → new.options ≡ mid.options → new.solver ≡ mid.solver → IsSome new.boolean_buffer
@@ -127,7 +127,7 @@ module _ {I W : Type 0} {int order equality part wide wide_order wide_equality w
   }
 
   -- A step that answers without the builder, for want of memory alone refused.
-  pub aside : {S T : Type 0} {P : List (Entry Count) → S → Type 0} {IsFor : List (Entry Count) → T → Type 0} (mid : Overlay I W int order equality part wide wide_order wide_equality wide_part)
+  pub aside : {S T : Type 0} {P : List (Entry Count) → S → Type 0} {IsFor : List (Entry Count) → T → Type 0} (mid : Overlay I W int number order equality part wide wide_order wide_equality wide_part)
       (s : S) (r : Result T Fault) → FindsSimplified contours P old mid (Ok s) → IsOkUnless r Memory
       → IfOk r (λ t. (held : List (Entry Count)) → P held s → IsFor held t) → FindsSimplified contours IsFor old mid r
   aside mid s (Ok t) h why told = record {
@@ -148,7 +148,7 @@ module _ {I W : Type 0} {int order equality part wide wide_order wide_equality w
   }
 
   -- The same answers, for another reason.
-  pub answered_for : {T : Type 0} {P Q : List (Entry Count) → T → Type 0} (new : Overlay I W int order equality part wide wide_order wide_equality wide_part) (r : Result T Fault)
+  pub answered_for : {T : Type 0} {P Q : List (Entry Count) → T → Type 0} (new : Overlay I W int number order equality part wide wide_order wide_equality wide_part) (r : Result T Fault)
       → ((held : List (Entry Count)) (t : T) → P held t → Q held t) → FindsSimplified contours P old new r → FindsSimplified contours Q old new r
   answered_for new (Ok t) goes h = record {
     answered = let was = h.answered in record { held = was.held; adds = was.adds; redrawn = was.redrawn; answer = goes was.held t was.answer };
@@ -171,9 +171,9 @@ module _ {I W : Type 0} {int order equality part wide wide_order wide_equality w
 pub kept_some : {A : Type 0} {now was : Option A} → now ≡ was → IsSome was → IsSome now
 kept_some same some = subst IsSome (sym same) some
 
-module _ {I W : Type 0} {int order equality part wide wide_order wide_equality wide_part : _} (contours : List (List Point)) (old : Overlay I W int order equality part wide wide_order wide_equality wide_part) where
+module _ {I W : Type 0} {int number order equality part wide wide_order wide_equality wide_part : _} (contours : List (List Point)) (old : Overlay I W int number order equality part wide wide_order wide_equality wide_part) where
   -- ---- the builder after a refusal
 
-  pub simplifies : {T : Type 0} {IsFor : List (Entry Count) → T → Type 0} (new : Overlay I W int order equality part wide wide_order wide_equality wide_part) (r : Result T Fault) →
+  pub simplifies : {T : Type 0} {IsFor : List (Entry Count) → T → Type 0} (new : Overlay I W int number order equality part wide wide_order wide_equality wide_part) (r : Result T Fault) →
       FindsSimplified contours IsFor old new r → OnErr r (holding_of new ≡ failed) → Simplifies contours IsFor old new r
   simplifies new r finds fails = record { finds = finds; failed = fails }

@@ -5,7 +5,6 @@ ghost use Rattle.std.specs.Prelude.{◌≡◌, ◌≢◌, ◌⊎◌, ◌↔◌, 
 ghost use Rattle.std.specs.Iterator.{IsFinite, Drains, HoldsAlong};
 ghost use Rattle.plane_base.specs.Balance.{IsBalancedMap};
 ghost use Rattle.plane_base.specs.Counts.{boolean, lay};
-ghost use Rattle.plane_base.specs.Views.{point_of};
 ghost use Rattle.segment_split.specs.Adding.{LacksRoom};
 ghost use Rattle.segment_split.specs.Data.{carried, MayBeTurned, LaysWith};
 ghost use Rattle.polygon_overlay.specs.Builders.{count_of_type};
@@ -57,12 +56,12 @@ impl<I: OverlayInt, D: OverlayEdgeData<ShapeCountBoolean>> EdgeOverlay<I, D> {
     /// A refusal leaves builder and store as they were: `Failed` after a refused query, `Edges` where 2^31 edges would be held, `Memory`
     /// only without room for the edge.
     pub fn add_edge(&mut self, edge: InputEdge<I, D>, shape_type: ShapeType) -> Result<(), Fault>
-        requires in_range { IsInputWithin I.value I.least I.greatest edge }
-        ensures adds { AddsEdge I.value shape_type edge self.old self.new result }
-        ensures data { OnOk result (LaysEdge I.value D.join (MayBeTurned D.JOINS D.turns_to) shape_type edge
+        requires in_range { IsInputWithin I.least I.greatest edge }
+        ensures adds { AddsEdge shape_type edge self.old self.new result }
+        ensures data { OnOk result (LaysEdge D.join (MayBeTurned D.JOINS D.turns_to) shape_type edge
             (with_data_of self.old) (with_data_of self.new)) }
         ensures joined { D.JOINS ≡ true → OnOk result (with_data_of self.new ≡ with_data_of self.old
-            ++ lay (carried boolean D.join) (point_of I.value edge.a) (point_of I.value edge.b) (count_of_type shape_type, edge.datum)) }
+            ++ lay (carried boolean D.join) edge.a edge.b (count_of_type shape_type, edge.datum)) }
     {
         if self.held.has_failed() {
             return Err(Fault::Failed);
@@ -87,7 +86,7 @@ impl<I: OverlayInt, D: OverlayEdgeData<ShapeCountBoolean>> EdgeOverlay<I, D> {
     ) -> Result<(), Fault>
         requires can { It.can_next edges }
         requires ends { IsFinite (It.remaining edges) }
-        requires in_range { HoldsAlong It.next_gives edges (All (IsInputWithin I.value I.least I.greatest)) }
+        requires in_range { HoldsAlong It.next_gives edges (All (IsInputWithin I.least I.greatest)) }
         ensures { AddsEdges I.value (MayBeTurned D.JOINS D.turns_to) D.JOINS D.join shape_type (Drains It.next_gives edges) (IsGivenBy It.next_gives edges)
             self.old self.new result }
     {
@@ -111,7 +110,7 @@ impl<I: OverlayInt, D: OverlayEdgeData<ShapeCountBoolean>> EdgeOverlay<I, D> {
 
     /// The ends of each edge that is held, the lesser first, in order.
     pub fn edges(&self) -> EdgePairs<'_, I, D>
-        ensures { pairs_left I.value result ≡ map pair_of (held_by self.now) }
+        ensures { pairs_left result ≡ map pair_of (held_by self.now) }
     {
         EdgePairs::new(self.held.segments())
     }
@@ -126,7 +125,7 @@ impl<I: OverlayInt, D: OverlayEdgeData<ShapeCountBoolean>> EdgeOverlay<I, D> {
     /// The store of the data, to be written. All else stays.
     pub fn data_store_mut(&mut self) -> &mut D::Store
         ensures value { result.now ≡ store_of self.old }
-        ensures* writes_back { sem 𝓛 (Lends (the_row I.row D.row I.Wide.row D.Store.row I.OverlayInt.own I.Ord.own I.PartialEq.own I.PartialOrd.own
+        ensures* writes_back { sem 𝓛 (Lends (the_row I.row D.row I.Wide.row D.Store.row I.OverlayInt.own I.IntNumber.own I.Ord.own I.PartialEq.own I.PartialOrd.own
             I.Wide.WideIntNumber.own I.Wide.Ord.own I.Wide.PartialEq.own I.Wide.PartialOrd.own
             D.OverlayEdgeData.own D.PartialEq.own I.Clone.own I.Eq.own I.Expiration.own I.Wide.Clone.own I.Wide.Eq.own) D.Store.row self.entry result (with_store self.old)) }
     {
@@ -149,21 +148,21 @@ fn add_with_ends<I: OverlayInt, D: OverlayEdgeData<ShapeCountBoolean>>(
     count: ShapeCountBoolean,
 ) -> Result<(), Fault>
     requires ready { held.old.has_failed ≡ false }
-    requires apart { point_of I.value edge.a ≢ point_of I.value edge.b }
-    ensures added { OnOk result (held.new.edges ≡ held.old.edges ++ lay boolean (point_of I.value edge.a) (point_of I.value edge.b) count) }
+    requires apart { edge.a ≢ edge.b }
+    ensures added { OnOk result (held.new.edges ≡ held.old.edges ++ lay boolean edge.a edge.b count) }
     ensures data { OnOk result (LaysWith (carried boolean D.join) (MayBeTurned D.JOINS D.turns_to)
-        (point_of I.value edge.a) (point_of I.value edge.b) count edge.datum held.old.with_data held.new.with_data) }
+        edge.a edge.b count edge.datum held.old.with_data held.new.with_data) }
     ensures joined { D.JOINS ≡ true → OnOk result (held.new.with_data ≡ held.old.with_data
-        ++ lay (carried boolean D.join) (point_of I.value edge.a) (point_of I.value edge.b) (count, edge.datum)) }
+        ++ lay (carried boolean D.join) edge.a edge.b (count, edge.datum)) }
     ensures unchanged { OnErr result (held.new ≡ held.old) }
     ensures stays { held.new.has_failed ≡ false }
     ensures room { held.old.room ≤ held.new.room }
-    ensures tallied { IsTallyOf (leavings_of I.value tally.old.ends.items) held.old.edges → IsTallyOf (leavings_of I.value tally.new.ends.items) held.new.edges }
+    ensures tallied { IsTallyOf (leavings_of tally.old.ends.items) held.old.edges → IsTallyOf (leavings_of tally.new.ends.items) held.new.edges }
     ensures ends_room { length held.old.edges + (spare_of tally.old / 2) ≤ length held.new.edges + (spare_of tally.new / 2) }
     ensures refused { IfErr result (λ fault.
-        LacksRoom held.new.room (length held.old.edges) (length (lay boolean (point_of I.value edge.a) (point_of I.value edge.b) count)) fault
+        LacksRoom held.new.room (length held.old.edges) (length (lay boolean edge.a edge.b count)) fault
         ⊎ LacksRoom (length held.new.edges + (spare_of tally.new / 2)) (length held.old.edges)
-        (length (lay boolean (point_of I.value edge.a) (point_of I.value edge.b) count)) fault) }
+        (length (lay boolean edge.a edge.b count)) fault) }
 {
     tally.reserve()?;
     held.add_edge(edge.a, edge.b, count, edge.datum)?;

@@ -1,8 +1,5 @@
 //! The ends of the edges that are held, one edge after another: an iterator that takes no memory.
 
-ghost use Rattle.std.specs.Prelude.{List};
-ghost use Rattle.plane_base.specs.Plane.{Point};
-
 use plane_base::int::OverlayInt;
 use plane_base::point::IntPoint;
 use segment_split::count::ShapeCountBoolean;
@@ -21,7 +18,7 @@ impl<'a, I: OverlayInt, D: Copy> EdgePairs<'a, I, D> {
 
     // The pairs of these segments.
     pub(crate) fn new(segments: &'a [Segment<ShapeCountBoolean, I, D>]) -> Self
-        ensures { pairs_left I.value result ≡ map pair_of (entries_of I.value segments.now) }
+        ensures { pairs_left result ≡ map pair_of (entries_of segments.now) }
     {
         EdgePairs { segments }
     }
@@ -34,9 +31,9 @@ impl<'a, I: OverlayInt, D: Copy> Iterator for EdgePairs<'a, I, D> {
 
     type Item = [IntPoint<I>; 2];
 
-    ghost remaining = { item_count (pairs_left I.value) };
+    ghost remaining = { item_count pairs_left };
 
-    ghost next_gives = { YieldsFirstBy (points_of I.value) (pairs_left I.value) };
+    ghost next_gives = { YieldsFirstBy points_of pairs_left };
 
     fn size_hint(&self) -> (usize, Option<usize>) {
         (0, None)

@@ -37,7 +37,7 @@ impl<I: OverlayInt, D: OverlayEdgeData<ShapeCountBoolean>> EdgeOverlay<I, D> {
         fill_rule: FillRule,
     ) -> Result<Vec<DataVectorEdge<I, D>>, Fault>
         requires balanced { IsBalancedMap (held_by self.old) }
-        ensures answered { IfOk result (λ edges. data_vectors_of I.value edges.items
+        ensures answered { IfOk result (λ edges. data_vectors_of edges.items
             ≡ boundary_vectors (fill_rule_of fill_rule) (overlay_rule_of overlay_rule) (with_data_of self.new)) }
         ensures data { D.JOINS ≡ true → LeavesData D.join self.old self.new result }
         ensures asked { Asks self.old result }

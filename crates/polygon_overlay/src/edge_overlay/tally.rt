@@ -1,14 +1,13 @@
 //! What leaves each point less what enters it, of edges that were added: their ends are sorted in place, and what runs of equal points count is
 //! summed in 128 bits. Degenerate cases: where no edges are held all is balanced. It takes n log n time, and no memory but what adders made.
 
-ghost use Rattle.std.specs.Prelude.{◌≡◌, ◌≤◌, ◌<◌, ◌+◌, ◌*◌, ◌++◌, ◌∷◌, ◌↔◌, ℤ, pos, [], length, map, take, All, IsTrue, IfOk, IfErr, OnOk, IsOkUnless, IsPermutation, vec_capacity, not, slice_index_or};
+ghost use Rattle.std.specs.Prelude.{◌≡◌, ◌≤◌, ◌<◌, ◌+◌, ◌*◌, ◌++◌, ◌∷◌, ◌↔◌, pos, [], length, take, IsTrue, IfOk, IfErr, OnOk, IsOkUnless, IsPermutation, vec_capacity, not, slice_index_or};
 ghost use Rattle.plane_base.specs.Counts.{boolean};
-ghost use Rattle.plane_base.specs.Views.{point_of};
 ghost use Rattle.polygon_overlay.specs.Tallies.{leavings_of, spare_of, AreSorted, IsLevel, is_last};
 ghost use Rattle.polygon_overlay.specs.declared.edge_overlay.tally.End.{End};
 
 use plane_base::fault::Fault;
-use plane_base::int::OverlayInt;
+use plane_base::int::{IntNumber, OverlayInt};
 use plane_base::laws::order_of_points;
 use plane_base::point::IntPoint;
 use segment_split::count::{ShapeCountBoolean, WindingCount};
@@ -17,7 +16,7 @@ use std::alloc::Global;
 // An end of an edge, and how often the edge leaves it. Ends are compared by their points alone.
 #[derive(Clone, Copy)]
 #[derive_where(PartialEq, Eq, PartialOrd, Ord)]
-pub(crate) struct End<I: Ord> {
+pub(crate) struct End<I: IntNumber> {
     pub(crate) point: IntPoint<I>,
     #[derive_where(skip(EqHashOrd))]
     pub(crate) count: ShapeCountBoolean,
@@ -25,7 +24,7 @@ pub(crate) struct End<I: Ord> {
 
 // The ends of edges, in any order.
 #[derive(Drop)]
-pub(crate) struct Tally<I: Ord> {
+pub(crate) struct Tally<I: IntNumber> {
     ends: Vec<End<I>>,
 }
 
@@ -58,8 +57,8 @@ impl<I: OverlayInt> Tally<I> {
     // Adds the ends of an edge, for which there is room.
     pub(crate) fn add(&mut self, a: IntPoint<I>, b: IntPoint<I>, count: ShapeCountBoolean)
         requires room { length self.old.ends.items + 2 ≤ vec_capacity self.old.ends }
-        ensures added { leavings_of I.value self.new.ends.items ≡ leavings_of I.value self.old.ends.items
-            ++ record { point = point_of I.value a; count = count } ∷ record { point = point_of I.value b; count = boolean.turned count } ∷ [] }
+        ensures added { leavings_of self.new.ends.items ≡ leavings_of self.old.ends.items
+            ++ record { point = a; count = count } ∷ record { point = b; count = boolean.turned count } ∷ [] }
         ensures longer { length self.new.ends.items ≡ length self.old.ends.items + 2 }
         ensures capacity { vec_capacity self.new.ends ≡ vec_capacity self.old.ends }
     {
@@ -80,7 +79,7 @@ impl<I: OverlayInt> Tally<I> {
 
     // Whether as much leaves each point as enters it, in subject and in clip. The ends are put in order.
     pub(crate) fn is_level(&mut self) -> bool
-        ensures is { IsTrue result ↔ IsLevel (leavings_of I.value self.new.ends.items) }
+        ensures is { IsTrue result ↔ IsLevel (leavings_of self.new.ends.items) }
         ensures same { IsPermutation self.old.ends.items self.new.ends.items }
         ensures spare { spare_of self.new ≡ spare_of self.old }
     {
@@ -92,8 +91,8 @@ impl<I: OverlayInt> Tally<I> {
 
 // Whether as much leaves each point as enters it, of ends in order.
 fn are_level<I: OverlayInt>(ends: &[End<I>]) -> bool
-    requires sorted { AreSorted (leavings_of I.value ends.now) }
-    ensures { IsTrue result ↔ IsLevel (leavings_of I.value ends.now) }
+    requires sorted { AreSorted (leavings_of ends.now) }
+    ensures { IsTrue result ↔ IsLevel (leavings_of ends.now) }
 {
     let mut subject = 0_i128;
     let mut clip = 0_i128;
@@ -112,7 +111,7 @@ fn are_level<I: OverlayInt>(ends: &[End<I>]) -> bool
 fn starts_point<I: OverlayInt>(ends: &[End<I>], place: usize) -> bool
     requires { place < length ends.now }
     ensures { (end : End I) → end ≡ slice_index_or ends.now place end
-        → result ≡ not (is_last (leavings_of I.value (take place ends.now)) (point_of I.value end.point)) }
+        → result ≡ not (is_last (leavings_of (take place ends.now)) end.point) }
 {
     order_of_points::<I>();
     place == 0 || ends[place - 1].point.cmp(&ends[place].point).is_ne()

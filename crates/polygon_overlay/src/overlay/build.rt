@@ -3,9 +3,8 @@
 
 ghost use Rattle.std.specs.Prelude.{◌≡◌, List, All};
 ghost use Rattle.std.specs.Iterator.{IsFinite, Drains};
-ghost use Rattle.plane_base.specs.Plane.{IsWithin};
+ghost use Rattle.plane_base.specs.Plane.{Point, IsWithin};
 ghost use Rattle.plane_base.specs.Views.{points_of};
-ghost use Rattle.plane_base.specs.declared.point.IntPoint.{IntPoint};
 ghost use Rattle.polygon_overlay.specs.Builders.{count_of_type, default_options, default_solver};
 
 use crate::overlay::Overlay;
@@ -66,9 +65,9 @@ impl<I: OverlayInt> Overlay<I> {
     ) -> Result<Overlay<I>, Fault>
         requires subj_ready { S.is_ready subj.now }
         requires clip_ready { C.is_ready clip.now }
-        requires subj_in_range { AreInRange I.least I.greatest (contours_of I.value (S.paths subj.now)) }
-        requires clip_in_range { AreInRange I.least I.greatest (contours_of I.value (C.paths clip.now)) }
-        ensures { MakesBoth default_options default_solver (contours_of I.value (S.paths subj.now)) (contours_of I.value (C.paths clip.now)) result }
+        requires subj_in_range { AreInRange I.least I.greatest (contours_of (S.paths subj.now)) }
+        requires clip_in_range { AreInRange I.least I.greatest (contours_of (C.paths clip.now)) }
+        ensures { MakesBoth default_options default_solver (contours_of (S.paths subj.now)) (contours_of (C.paths clip.now)) result }
     {
         Overlay::from_subj_and_clip_custom(
             alloc,
@@ -89,9 +88,9 @@ impl<I: OverlayInt> Overlay<I> {
     ) -> Result<Overlay<I>, Fault>
         requires subj_ready { S.is_ready subj.now }
         requires clip_ready { C.is_ready clip.now }
-        requires subj_in_range { AreInRange I.least I.greatest (contours_of I.value (S.paths subj.now)) }
-        requires clip_in_range { AreInRange I.least I.greatest (contours_of I.value (C.paths clip.now)) }
-        ensures { MakesBoth options solver (contours_of I.value (S.paths subj.now)) (contours_of I.value (C.paths clip.now)) result }
+        requires subj_in_range { AreInRange I.least I.greatest (contours_of (S.paths subj.now)) }
+        requires clip_in_range { AreInRange I.least I.greatest (contours_of (C.paths clip.now)) }
+        ensures { MakesBoth options solver (contours_of (S.paths subj.now)) (contours_of (C.paths clip.now)) result }
     {
         let mut overlay = Overlay::new_custom(alloc, 0, options, solver)?;
         overlay.add_source(subj, ShapeType::Subject)?;
@@ -102,8 +101,8 @@ impl<I: OverlayInt> Overlay<I> {
     /// A builder that holds the contours of a subject, with default options and solver.
     pub fn from_subj<R: IntShapeResource<I>>(alloc: Global, subj: &R) -> Result<Overlay<I>, Fault>
         requires ready { R.is_ready subj.now }
-        requires in_range { AreInRange I.least I.greatest (contours_of I.value (R.paths subj.now)) }
-        ensures { MakesSubject default_options default_solver (contours_of I.value (R.paths subj.now)) result }
+        requires in_range { AreInRange I.least I.greatest (contours_of (R.paths subj.now)) }
+        ensures { MakesSubject default_options default_solver (contours_of (R.paths subj.now)) result }
     {
         Overlay::from_subj_custom(alloc, subj, IntOverlayOptions::default(), Solver::default())
     }
@@ -116,8 +115,8 @@ impl<I: OverlayInt> Overlay<I> {
         solver: Solver,
     ) -> Result<Overlay<I>, Fault>
         requires ready { R.is_ready subj.now }
-        requires in_range { AreInRange I.least I.greatest (contours_of I.value (R.paths subj.now)) }
-        ensures { MakesSubject options solver (contours_of I.value (R.paths subj.now)) result }
+        requires in_range { AreInRange I.least I.greatest (contours_of (R.paths subj.now)) }
+        ensures { MakesSubject options solver (contours_of (R.paths subj.now)) result }
     {
         let mut overlay = Overlay::new_custom(alloc, 0, options, solver)?;
         overlay.add_source(subj, ShapeType::Subject)?;
@@ -133,9 +132,9 @@ impl<I: OverlayInt> Overlay<I> {
     ) -> Result<(), Fault>
         requires subj_ready { S.is_ready subj.now }
         requires clip_ready { C.is_ready clip.now }
-        requires subj_in_range { AreInRange I.least I.greatest (contours_of I.value (S.paths subj.now)) }
-        requires clip_in_range { AreInRange I.least I.greatest (contours_of I.value (C.paths clip.now)) }
-        ensures { ReplacesBoth (contours_of I.value (S.paths subj.now)) (contours_of I.value (C.paths clip.now)) self.old self.new result }
+        requires subj_in_range { AreInRange I.least I.greatest (contours_of (S.paths subj.now)) }
+        requires clip_in_range { AreInRange I.least I.greatest (contours_of (C.paths clip.now)) }
+        ensures { ReplacesBoth (contours_of (S.paths subj.now)) (contours_of (C.paths clip.now)) self.old self.new result }
     {
         self.clear();
         self.add_source(subj, ShapeType::Subject)?;
@@ -146,8 +145,8 @@ impl<I: OverlayInt> Overlay<I> {
     /// that was refused are held.
     pub fn reinit_with_subj<R: IntShapeResource<I>>(&mut self, subj: &R) -> Result<(), Fault>
         requires ready { R.is_ready subj.now }
-        requires in_range { AreInRange I.least I.greatest (contours_of I.value (R.paths subj.now)) }
-        ensures { ReplacesSubject (contours_of I.value (R.paths subj.now)) self.old self.new result }
+        requires in_range { AreInRange I.least I.greatest (contours_of (R.paths subj.now)) }
+        ensures { ReplacesSubject (contours_of (R.paths subj.now)) self.old self.new result }
     {
         self.clear();
         self.add_source(subj, ShapeType::Subject)
@@ -168,8 +167,8 @@ impl<I: OverlayInt> Overlay<I> {
         contour: &[IntPoint<I>],
         shape_type: ShapeType,
     ) -> Result<(), Fault>
-        requires in_range { All (IsWithin I.least I.greatest) (points_of I.value contour.now) }
-        ensures { AddsContour shape_type (points_of I.value contour.now) self.old self.new result }
+        requires in_range { All (IsWithin I.least I.greatest) contour.now }
+        ensures { AddsContour shape_type contour.now self.old self.new result }
     {
         self.held.add_contour(
             contour,
@@ -187,8 +186,8 @@ impl<I: OverlayInt> Overlay<I> {
     ) -> Result<(), Fault>
         requires can { It.can_next iter }
         requires ends { IsFinite (It.remaining iter) }
-        requires in_range { (points : List (IntPoint I)) → Drains It.next_gives iter points → All (IsWithin I.least I.greatest) (points_of I.value points) }
-        ensures { AddsPath shape_type (Drains It.next_gives iter) (points_of I.value) self.old self.new result }
+        requires in_range { (points : List Point) → Drains It.next_gives iter points → All (IsWithin I.least I.greatest) points }
+        ensures { AddsPath shape_type (Drains It.next_gives iter) points_of self.old self.new result }
     {
         if self.held.has_failed() {
             return Err(Fault::Failed);
@@ -204,8 +203,8 @@ impl<I: OverlayInt> Overlay<I> {
         shape_type: ShapeType,
     ) -> Result<(), Fault>
         requires ready { R.is_ready resource.now }
-        requires in_range { AreInRange I.least I.greatest (contours_of I.value (R.paths resource.now)) }
-        ensures { AddsSource shape_type (contours_of I.value (R.paths resource.now)) self.old self.new result }
+        requires in_range { AreInRange I.least I.greatest (contours_of (R.paths resource.now)) }
+        ensures { AddsSource shape_type (contours_of (R.paths resource.now)) self.old self.new result }
     {
         self.held.add_source(
             resource,

@@ -30,7 +30,7 @@ impl<I: OverlayInt> Overlay<I> {
         fill_rule: FillRule,
         output: &mut FlatContoursBuffer<I>,
     ) -> Result<(), Fault>
-        ensures laid { LaysFlat I.value (flat_overlay_of self.old.options (fill_rule_of fill_rule) (overlay_rule_of overlay_rule)
+        ensures laid { LaysFlat (flat_overlay_of self.old.options (fill_rule_of fill_rule) (overlay_rule_of overlay_rule)
             self.old.solver.precision (held_by self.old)) output.new result }
         ensures asked { Asks self.old result }
         ensures left { Leaves self.old self.new result }

@@ -32,10 +32,10 @@ impl<I: OverlayInt> Overlay<I> {
         &mut self,
         fill_rule: FillRule,
     ) -> Result<Option<OverlayGraph<'_, I, ()>>, Fault>
-        ensures lent { IfOk result (LendsGraph I.value I.least I.greatest (fill_rule_of fill_rule)
+        ensures lent { IfOk result (LendsGraph I.least I.greatest (fill_rule_of fill_rule)
             (redrawn_of self.old.solver.precision (held_by self.old))) }
         ensures asked { Asks self.old result }
-        ensures* after { sem 𝓛 (Rests (the_row I.row I.Wide.row I.OverlayInt.own I.Ord.own I.PartialEq.own I.PartialOrd.own
+        ensures* after { sem 𝓛 (Rests (the_row I.row I.Wide.row I.OverlayInt.own I.IntNumber.own I.Ord.own I.PartialEq.own I.PartialOrd.own
             I.Wide.WideIntNumber.own I.Wide.Ord.own I.Wide.PartialEq.own I.Wide.PartialOrd.own
             I.Clone.own I.Eq.own I.Expiration.own I.Wide.Clone.own I.Wide.Eq.own) self.entry (λ new. Leaves self.old new result × (new.boolean_buffer ≡ self.old.boolean_buffer))) }
     {
@@ -47,7 +47,7 @@ impl<I: OverlayInt> Overlay<I> {
 
     // Redraws what is held, and makes the links and nodes of its graph: whether no edge is left.
     fn make_graph(&mut self, fill_rule: FillRule) -> Result<bool, Fault>
-        ensures links { OnOk result (map (overlay_link_of I.value) (links_made_by self.new)
+        ensures links { OnOk result (map overlay_link_of (links_made_by self.new)
             ≡ all_links (fill_rule_of fill_rule) (redrawn_of self.old.solver.precision (held_by self.old))) }
         ensures arrangement { OnOk result (IsArrangement (redrawn_of self.old.solver.precision (held_by self.old))) }
         ensures empty { IfOk result (λ is_empty. IsTrue is_empty ↔ (redrawn_of self.old.solver.precision (held_by self.old) ≡ [])) }

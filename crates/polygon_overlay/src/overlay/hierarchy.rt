@@ -29,7 +29,7 @@ impl<I: OverlayInt> Overlay<I> {
         fill_rule: FillRule,
     ) -> Result<FlatShapeHierarchy<I>, Fault>
         ensures answered { IfOk result (λ found. IsHierarchy I.least I.greatest self.old.options (fill_rule_of fill_rule) (overlay_rule_of overlay_rule)
-            self.old.solver.precision (held_by self.old) (flat_shapes_of I.value found.shapes) found.links.items) }
+            self.old.solver.precision (held_by self.old) (flat_shapes_of found.shapes) found.links.items) }
         ensures well_formed { IfOk result (λ found. AreFlatShapes found.shapes) }
         ensures asked { Asks self.old result }
         ensures left { Leaves self.old self.new result }

@@ -22,9 +22,9 @@ impl<I: OverlayInt> Overlay<I> {
     ) -> Result<Overlay<I>, Fault>
         requires subj_ready { S.is_ready subj.now }
         requires clip_ready { C.is_ready clip.now }
-        requires subj_in_range { AreInRange I.least I.greatest (contours_of I.value (S.paths subj.now)) }
-        requires clip_in_range { AreInRange I.least I.greatest (contours_of I.value (C.paths clip.now)) }
-        ensures { MakesBoth default_options default_solver (contours_of I.value (S.paths subj.now)) (contours_of I.value (C.paths clip.now)) result }
+        requires subj_in_range { AreInRange I.least I.greatest (contours_of (S.paths subj.now)) }
+        requires clip_in_range { AreInRange I.least I.greatest (contours_of (C.paths clip.now)) }
+        ensures { MakesBoth default_options default_solver (contours_of (S.paths subj.now)) (contours_of (C.paths clip.now)) result }
     {
         Overlay::from_subj_and_clip(alloc, subj, clip)
     }
@@ -37,10 +37,10 @@ impl<I: OverlayInt> Overlay<I> {
     ) -> Result<Overlay<I>, Fault>
         requires subj_ready { S.is_ready subj_contours.now }
         requires clip_ready { C.is_ready clip_contours.now }
-        requires subj_in_range { AreInRange I.least I.greatest (contours_of I.value (S.paths subj_contours.now)) }
-        requires clip_in_range { AreInRange I.least I.greatest (contours_of I.value (C.paths clip_contours.now)) }
-        ensures { MakesBoth default_options default_solver (contours_of I.value (S.paths subj_contours.now))
-            (contours_of I.value (C.paths clip_contours.now)) result }
+        requires subj_in_range { AreInRange I.least I.greatest (contours_of (S.paths subj_contours.now)) }
+        requires clip_in_range { AreInRange I.least I.greatest (contours_of (C.paths clip_contours.now)) }
+        ensures { MakesBoth default_options default_solver (contours_of (S.paths subj_contours.now))
+            (contours_of (C.paths clip_contours.now)) result }
     {
         Overlay::from_subj_and_clip(alloc, subj_contours, clip_contours)
     }
@@ -53,10 +53,10 @@ impl<I: OverlayInt> Overlay<I> {
     ) -> Result<Overlay<I>, Fault>
         requires subj_ready { S.is_ready subj_shapes.now }
         requires clip_ready { C.is_ready clip_shapes.now }
-        requires subj_in_range { AreInRange I.least I.greatest (contours_of I.value (S.paths subj_shapes.now)) }
-        requires clip_in_range { AreInRange I.least I.greatest (contours_of I.value (C.paths clip_shapes.now)) }
-        ensures { MakesBoth default_options default_solver (contours_of I.value (S.paths subj_shapes.now))
-            (contours_of I.value (C.paths clip_shapes.now)) result }
+        requires subj_in_range { AreInRange I.least I.greatest (contours_of (S.paths subj_shapes.now)) }
+        requires clip_in_range { AreInRange I.least I.greatest (contours_of (C.paths clip_shapes.now)) }
+        ensures { MakesBoth default_options default_solver (contours_of (S.paths subj_shapes.now))
+            (contours_of (C.paths clip_shapes.now)) result }
     {
         Overlay::from_subj_and_clip(alloc, subj_shapes, clip_shapes)
     }
@@ -71,9 +71,9 @@ impl<I: OverlayInt> Overlay<I> {
     ) -> Result<Overlay<I>, Fault>
         requires subj_ready { S.is_ready subj.now }
         requires clip_ready { C.is_ready clip.now }
-        requires subj_in_range { AreInRange I.least I.greatest (contours_of I.value (S.paths subj.now)) }
-        requires clip_in_range { AreInRange I.least I.greatest (contours_of I.value (C.paths clip.now)) }
-        ensures { MakesBoth options solver (contours_of I.value (S.paths subj.now)) (contours_of I.value (C.paths clip.now)) result }
+        requires subj_in_range { AreInRange I.least I.greatest (contours_of (S.paths subj.now)) }
+        requires clip_in_range { AreInRange I.least I.greatest (contours_of (C.paths clip.now)) }
+        ensures { MakesBoth options solver (contours_of (S.paths subj.now)) (contours_of (C.paths clip.now)) result }
     {
         Overlay::from_subj_and_clip_custom(alloc, subj, clip, options, solver)
     }
@@ -88,10 +88,10 @@ impl<I: OverlayInt> Overlay<I> {
     ) -> Result<Overlay<I>, Fault>
         requires subj_ready { S.is_ready subj_contours.now }
         requires clip_ready { C.is_ready clip_contours.now }
-        requires subj_in_range { AreInRange I.least I.greatest (contours_of I.value (S.paths subj_contours.now)) }
-        requires clip_in_range { AreInRange I.least I.greatest (contours_of I.value (C.paths clip_contours.now)) }
-        ensures { MakesBoth options solver (contours_of I.value (S.paths subj_contours.now))
-            (contours_of I.value (C.paths clip_contours.now)) result }
+        requires subj_in_range { AreInRange I.least I.greatest (contours_of (S.paths subj_contours.now)) }
+        requires clip_in_range { AreInRange I.least I.greatest (contours_of (C.paths clip_contours.now)) }
+        ensures { MakesBoth options solver (contours_of (S.paths subj_contours.now))
+            (contours_of (C.paths clip_contours.now)) result }
     {
         Overlay::from_subj_and_clip_custom(alloc, subj_contours, clip_contours, options, solver)
     }
@@ -106,9 +106,9 @@ impl<I: OverlayInt> Overlay<I> {
     ) -> Result<Overlay<I>, Fault>
         requires subj_ready { S.is_ready subj_shapes.now }
         requires clip_ready { C.is_ready clip_shapes.now }
-        requires subj_in_range { AreInRange I.least I.greatest (contours_of I.value (S.paths subj_shapes.now)) }
-        requires clip_in_range { AreInRange I.least I.greatest (contours_of I.value (C.paths clip_shapes.now)) }
-        ensures { MakesBoth options solver (contours_of I.value (S.paths subj_shapes.now)) (contours_of I.value (C.paths clip_shapes.now)) result }
+        requires subj_in_range { AreInRange I.least I.greatest (contours_of (S.paths subj_shapes.now)) }
+        requires clip_in_range { AreInRange I.least I.greatest (contours_of (C.paths clip_shapes.now)) }
+        ensures { MakesBoth options solver (contours_of (S.paths subj_shapes.now)) (contours_of (C.paths clip_shapes.now)) result }
     {
         Overlay::from_subj_and_clip_custom(alloc, subj_shapes, clip_shapes, options, solver)
     }
@@ -120,8 +120,8 @@ impl<I: OverlayInt> Overlay<I> {
         shape_type: ShapeType,
     ) -> Result<(), Fault>
         requires ready { R.is_ready contours.now }
-        requires in_range { AreInRange I.least I.greatest (contours_of I.value (R.paths contours.now)) }
-        ensures { AddsSource shape_type (contours_of I.value (R.paths contours.now)) self.old self.new result }
+        requires in_range { AreInRange I.least I.greatest (contours_of (R.paths contours.now)) }
+        ensures { AddsSource shape_type (contours_of (R.paths contours.now)) self.old self.new result }
     {
         self.add_source(contours, shape_type)
     }
@@ -133,8 +133,8 @@ impl<I: OverlayInt> Overlay<I> {
         shape_type: ShapeType,
     ) -> Result<(), Fault>
         requires ready { R.is_ready shape.now }
-        requires in_range { AreInRange I.least I.greatest (contours_of I.value (R.paths shape.now)) }
-        ensures { AddsSource shape_type (contours_of I.value (R.paths shape.now)) self.old self.new result }
+        requires in_range { AreInRange I.least I.greatest (contours_of (R.paths shape.now)) }
+        ensures { AddsSource shape_type (contours_of (R.paths shape.now)) self.old self.new result }
     {
         self.add_source(shape, shape_type)
     }
@@ -146,8 +146,8 @@ impl<I: OverlayInt> Overlay<I> {
         shape_type: ShapeType,
     ) -> Result<(), Fault>
         requires ready { R.is_ready shapes.now }
-        requires in_range { AreInRange I.least I.greatest (contours_of I.value (R.paths shapes.now)) }
-        ensures { AddsSource shape_type (contours_of I.value (R.paths shapes.now)) self.old self.new result }
+        requires in_range { AreInRange I.least I.greatest (contours_of (R.paths shapes.now)) }
+        ensures { AddsSource shape_type (contours_of (R.paths shapes.now)) self.old self.new result }
     {
         self.add_source(shapes, shape_type)
     }
@@ -159,8 +159,8 @@ impl<I: OverlayInt> Overlay<I> {
         shape_type: ShapeType,
     ) -> Result<(), Fault>
         requires ready { R.is_ready buffer.now }
-        requires in_range { AreInRange I.least I.greatest (contours_of I.value (R.paths buffer.now)) }
-        ensures { AddsSource shape_type (contours_of I.value (R.paths buffer.now)) self.old self.new result }
+        requires in_range { AreInRange I.least I.greatest (contours_of (R.paths buffer.now)) }
+        ensures { AddsSource shape_type (contours_of (R.paths buffer.now)) self.old self.new result }
     {
         self.add_source(buffer, shape_type)
     }

@@ -30,10 +30,10 @@ impl<I: OverlayInt> Overlay<I> {
         fill_rule: FillRule,
     ) -> Result<IntShapes<I>, Fault>
         ensures answered { IfOk result (λ shapes. IsAnswered I.least I.greatest self.old.options (fill_rule_of fill_rule) (overlay_rule_of overlay_rule)
-            self.old.solver.precision (held_by self.old) (shapes_of I.value shapes.shapes.items)) }
+            self.old.solver.precision (held_by self.old) (shapes_of shapes.shapes.items)) }
         // Without a least area groups of what is held, in boxes no two of which share a point, are answered each as if alone.
         ensures alone { IfOk result (λ shapes. AnswersGroupsAlone self.old.options (fill_rule_of fill_rule) (overlay_rule_of overlay_rule)
-            self.old.solver.precision (held_by self.old) (shapes_of I.value shapes.shapes.items)) }
+            self.old.solver.precision (held_by self.old) (shapes_of shapes.shapes.items)) }
         ensures asked { Asks self.old result }
         ensures left { Leaves self.old self.new result }
         ensures buffer { OnOk result (IsSome self.new.boolean_buffer) }

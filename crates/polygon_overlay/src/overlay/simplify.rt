@@ -9,7 +9,6 @@ ghost use Rattle.plane_base.specs.Counts.{Count, Entry, boolean};
 ghost use Rattle.plane_base.specs.Regions.{Subject};
 ghost use Rattle.plane_base.specs.Flat.{parts};
 ghost use Rattle.plane_base.specs.PathViews.{paths_of_shape, paths_of_shapes};
-ghost use Rattle.plane_base.specs.Views.{points_of};
 ghost use Rattle.segment_arrangement.specs.RuleViews.{fill_rule_of};
 ghost use Rattle.segment_arrangement.specs.SideLaws.{IsArrangement};
 ghost use Rattle.segment_split.specs.Redrawing.{IsChanged};
@@ -54,9 +53,9 @@ impl<I: OverlayInt> Overlay<I> {
         contour: &[IntPoint<I>],
         fill_rule: FillRule,
     ) -> Result<Option<IntShapes<I>>, Fault>
-        requires in_range { All (IsWithin I.least I.greatest) (points_of I.value contour.now) }
-        ensures { Simplifies (points_of I.value contour.now ∷ []) (λ held found. IsSimplified I.least I.greatest self.old.options (fill_rule_of fill_rule)
-            self.old.solver.precision (points_of I.value contour.now ∷ []) held (shapes_if_any I.value found)) self.old self.new result }
+        requires in_range { All (IsWithin I.least I.greatest) contour.now }
+        ensures { Simplifies (contour.now ∷ []) (λ held found. IsSimplified I.least I.greatest self.old.options (fill_rule_of fill_rule)
+            self.old.solver.precision (contour.now ∷ []) held (shapes_if_any found)) self.old self.new result }
     {
         match self.contour_simplified(contour, fill_rule) {
             Ok(found) => Ok(found),
@@ -77,9 +76,9 @@ impl<I: OverlayInt> Overlay<I> {
         fill_rule: FillRule,
     ) -> Result<IntShapes<I>, Fault>
         requires ready { R.is_ready resource.now }
-        requires in_range { AreInRange I.least I.greatest (contours_of I.value (R.paths resource.now)) }
-        ensures { Simplifies (contours_of I.value (R.paths resource.now)) (λ held shapes. IsSourceSimplified I.least I.greatest self.old.options
-            (fill_rule_of fill_rule) self.old.solver.precision (contours_of I.value (R.paths resource.now)) held (shapes_of I.value shapes.shapes.items))
+        requires in_range { AreInRange I.least I.greatest (contours_of (R.paths resource.now)) }
+        ensures { Simplifies (contours_of (R.paths resource.now)) (λ held shapes. IsSourceSimplified I.least I.greatest self.old.options
+            (fill_rule_of fill_rule) self.old.solver.precision (contours_of (R.paths resource.now)) held (shapes_of shapes.shapes.items))
             self.old self.new result }
     {
         match self.source_simplified(resource, fill_rule) {
@@ -99,9 +98,9 @@ impl<I: OverlayInt> Overlay<I> {
         shape: &IntShape<I>,
         fill_rule: FillRule,
     ) -> Result<Option<IntShapes<I>>, Fault>
-        requires in_range { AreInRange I.least I.greatest (contours_of I.value (paths_of_shape shape.now)) }
-        ensures { Simplifies (contours_of I.value (paths_of_shape shape.now)) (λ held found. IsSimplified I.least I.greatest self.old.options
-            (fill_rule_of fill_rule) self.old.solver.precision (contours_of I.value (paths_of_shape shape.now)) held (shapes_if_any I.value found))
+        requires in_range { AreInRange I.least I.greatest (contours_of (paths_of_shape shape.now)) }
+        ensures { Simplifies (contours_of (paths_of_shape shape.now)) (λ held found. IsSimplified I.least I.greatest self.old.options
+            (fill_rule_of fill_rule) self.old.solver.precision (contours_of (paths_of_shape shape.now)) held (shapes_if_any found))
             self.old self.new result }
     {
         if has_one_path(shape) {
@@ -124,9 +123,9 @@ impl<I: OverlayInt> Overlay<I> {
         shapes: &IntShapes<I>,
         fill_rule: FillRule,
     ) -> Result<IntShapes<I>, Fault>
-        requires in_range { AreInRange I.least I.greatest (contours_of I.value (paths_of_shapes shapes.now.shapes.items)) }
-        ensures { Simplifies (contours_of I.value (paths_of_shapes shapes.now.shapes.items)) (λ held found. IsAnswered I.least I.greatest self.old.options
-            (fill_rule_of fill_rule) Subject self.old.solver.precision held (shapes_of I.value found.shapes.items)) self.old self.new result }
+        requires in_range { AreInRange I.least I.greatest (contours_of (paths_of_shapes shapes.now.shapes.items)) }
+        ensures { Simplifies (contours_of (paths_of_shapes shapes.now.shapes.items)) (λ held found. IsAnswered I.least I.greatest self.old.options
+            (fill_rule_of fill_rule) Subject self.old.solver.precision held (shapes_of found.shapes.items)) self.old self.new result }
     {
         match self.overlay_of_source(shapes, fill_rule) {
             Ok(found) => Ok(found),
@@ -147,9 +146,9 @@ impl<I: OverlayInt> Overlay<I> {
         fill_rule: FillRule,
     ) -> Result<(), Fault>
         requires well_formed { IsFlat buffer.old }
-        requires in_range { AreInRange I.least I.greatest (flat_of I.value buffer.old) }
-        ensures simplified { Simplifies (flat_of I.value buffer.old) (λ held done. IsFlatSimplified self.old.options (fill_rule_of fill_rule)
-            self.old.solver.precision (flat_of I.value buffer.old) held (flat_of I.value buffer.new)) self.old self.new result }
+        requires in_range { AreInRange I.least I.greatest (flat_of buffer.old) }
+        ensures simplified { Simplifies (flat_of buffer.old) (λ held done. IsFlatSimplified self.old.options (fill_rule_of fill_rule)
+            self.old.solver.precision (flat_of buffer.old) held (flat_of buffer.new)) self.old self.new result }
         ensures well_formed { IsFlat buffer.new }
         ensures unchanged { OnErr result ((buffer.new.points.items ≡ buffer.old.points.items) × (buffer.new.ranges.items ≡ buffer.old.ranges.items)) }
     {
@@ -168,9 +167,9 @@ impl<I: OverlayInt> Overlay<I> {
         contour: &[IntPoint<I>],
         fill_rule: FillRule,
     ) -> Result<Option<IntShapes<I>>, Fault>
-        requires in_range { All (IsWithin I.least I.greatest) (points_of I.value contour.now) }
-        ensures { FindsSimplified (points_of I.value contour.now ∷ []) (λ held found. IsSimplified I.least I.greatest self.old.options
-            (fill_rule_of fill_rule) self.old.solver.precision (points_of I.value contour.now ∷ []) held (shapes_if_any I.value found))
+        requires in_range { All (IsWithin I.least I.greatest) contour.now }
+        ensures { FindsSimplified (contour.now ∷ []) (λ held found. IsSimplified I.least I.greatest self.old.options
+            (fill_rule_of fill_rule) self.old.solver.precision (contour.now ∷ []) held (shapes_if_any found))
             self.old self.new result }
     {
         if self.is_perfect(contour)? {
@@ -191,9 +190,9 @@ impl<I: OverlayInt> Overlay<I> {
         fill_rule: FillRule,
     ) -> Result<IntShapes<I>, Fault>
         requires ready { R.is_ready resource.now }
-        requires in_range { AreInRange I.least I.greatest (contours_of I.value (R.paths resource.now)) }
-        ensures { FindsSimplified (contours_of I.value (R.paths resource.now)) (λ held shapes. IsSourceSimplified I.least I.greatest self.old.options
-            (fill_rule_of fill_rule) self.old.solver.precision (contours_of I.value (R.paths resource.now)) held (shapes_of I.value shapes.shapes.items))
+        requires in_range { AreInRange I.least I.greatest (contours_of (R.paths resource.now)) }
+        ensures { FindsSimplified (contours_of (R.paths resource.now)) (λ held shapes. IsSourceSimplified I.least I.greatest self.old.options
+            (fill_rule_of fill_rule) self.old.solver.precision (contours_of (R.paths resource.now)) held (shapes_of shapes.shapes.items))
             self.old self.new result }
     {
         if self.may_be_fast(resource) {
@@ -217,9 +216,9 @@ impl<I: OverlayInt> Overlay<I> {
         fill_rule: FillRule,
     ) -> Result<IntShapes<I>, Fault>
         requires least { self.old.options.min_output_area ≡ 0 }
-        requires in_range { All (IsWithin I.least I.greatest) (points_of I.value contour.now) }
-        ensures { FindsSimplified (points_of I.value contour.now ∷ []) (λ held shapes. IsSourceSimplified I.least I.greatest self.old.options
-            (fill_rule_of fill_rule) self.old.solver.precision (points_of I.value contour.now ∷ []) held (shapes_of I.value shapes.shapes.items))
+        requires in_range { All (IsWithin I.least I.greatest) contour.now }
+        ensures { FindsSimplified (contour.now ∷ []) (λ held shapes. IsSourceSimplified I.least I.greatest self.old.options
+            (fill_rule_of fill_rule) self.old.solver.precision (contour.now ∷ []) held (shapes_of shapes.shapes.items))
             self.old self.new result }
     {
         match self.contour_simplified(contour, fill_rule)? {
@@ -235,10 +234,10 @@ impl<I: OverlayInt> Overlay<I> {
         fill_rule: FillRule,
     ) -> Result<(), Fault>
         requires well_formed { IsFlat buffer.old }
-        requires in_range { AreInRange I.least I.greatest (contours_of I.value (parts buffer.old.points.items buffer.old.ranges.items)) }
-        ensures simplified { FindsSimplified (contours_of I.value (parts buffer.old.points.items buffer.old.ranges.items))
+        requires in_range { AreInRange I.least I.greatest (contours_of (parts buffer.old.points.items buffer.old.ranges.items)) }
+        ensures simplified { FindsSimplified (contours_of (parts buffer.old.points.items buffer.old.ranges.items))
             (λ held done. IsFlatSimplified self.old.options (fill_rule_of fill_rule) self.old.solver.precision
-            (contours_of I.value (parts buffer.old.points.items buffer.old.ranges.items)) held (flat_of I.value buffer.new)) self.old self.new result }
+            (contours_of (parts buffer.old.points.items buffer.old.ranges.items)) held (flat_of buffer.new)) self.old self.new result }
         ensures well_formed { IsFlat buffer.new }
         ensures unchanged { OnErr result ((buffer.new.points.items ≡ buffer.old.points.items) × (buffer.new.ranges.items ≡ buffer.old.ranges.items)) }
     {
@@ -260,9 +259,9 @@ impl<I: OverlayInt> Overlay<I> {
         fill_rule: FillRule,
     ) -> Result<IntShapes<I>, Fault>
         requires ready { R.is_ready resource.now }
-        requires in_range { AreInRange I.least I.greatest (contours_of I.value (R.paths resource.now)) }
-        ensures { FindsSimplified (contours_of I.value (R.paths resource.now)) (λ held shapes. IsAnswered I.least I.greatest self.old.options
-            (fill_rule_of fill_rule) Subject self.old.solver.precision held (shapes_of I.value shapes.shapes.items)) self.old self.new result }
+        requires in_range { AreInRange I.least I.greatest (contours_of (R.paths resource.now)) }
+        ensures { FindsSimplified (contours_of (R.paths resource.now)) (λ held shapes. IsAnswered I.least I.greatest self.old.options
+            (fill_rule_of fill_rule) Subject self.old.solver.precision held (shapes_of shapes.shapes.items)) self.old self.new result }
     {
         self.hold_redrawn(resource)?;
         self.overlay_of_redrawn(fill_rule)
@@ -276,8 +275,8 @@ impl<I: OverlayInt> Overlay<I> {
         output: &mut FlatContoursBuffer<I>,
     ) -> Result<(), Fault>
         requires ready { R.is_ready resource.now }
-        requires in_range { AreInRange I.least I.greatest (contours_of I.value (R.paths resource.now)) }
-        ensures laid { FindsSimplified (contours_of I.value (R.paths resource.now)) (λ held done. flat_of I.value output.new
+        requires in_range { AreInRange I.least I.greatest (contours_of (R.paths resource.now)) }
+        ensures laid { FindsSimplified (contours_of (R.paths resource.now)) (λ held done. flat_of output.new
             ≡ flat_overlay_of self.old.options (fill_rule_of fill_rule) Subject self.old.solver.precision held) self.old self.new result }
         ensures well_formed { OnOk result (IsFlat output.new) }
     {
@@ -288,8 +287,8 @@ impl<I: OverlayInt> Overlay<I> {
     // Holds the contours of a source alone, and redraws them.
     fn hold_redrawn<R: IntShapeResource<I>>(&mut self, resource: &R) -> Result<(), Fault>
         requires ready { R.is_ready resource.now }
-        requires in_range { AreInRange I.least I.greatest (contours_of I.value (R.paths resource.now)) }
-        ensures held { FindsSimplified (contours_of I.value (R.paths resource.now)) (λ held done. IsHeld I.least I.greatest held) self.old self.new result }
+        requires in_range { AreInRange I.least I.greatest (contours_of (R.paths resource.now)) }
+        ensures held { FindsSimplified (contours_of (R.paths resource.now)) (λ held done. IsHeld I.least I.greatest held) self.old self.new result }
         ensures arrangement { OnOk result (IsArrangement (held_by self.new)) }
     {
         self.clear();
@@ -301,11 +300,11 @@ impl<I: OverlayInt> Overlay<I> {
     // Holds a contour alone, and redraws it: whether it is perfect. No point was taken out of one whose points differ where as many
     // edges are held as it has points.
     fn is_perfect(&mut self, contour: &[IntPoint<I>]) -> Result<bool, Fault>
-        requires in_range { All (IsWithin I.least I.greatest) (points_of I.value contour.now) }
-        ensures held { FindsSimplified (points_of I.value contour.now ∷ []) (λ held found. IsHeld I.least I.greatest held) self.old self.new result }
+        requires in_range { All (IsWithin I.least I.greatest) contour.now }
+        ensures held { FindsSimplified (contour.now ∷ []) (λ held found. IsHeld I.least I.greatest held) self.old self.new result }
         ensures arrangement { OnOk result (IsArrangement (held_by self.new)) }
         ensures is { IfOk result (λ found. IsTrue found ↔
-            IsPerfect self.old.options.preserve_input_collinear self.old.solver.precision (points_of I.value contour.now)) }
+            IsPerfect self.old.options.preserve_input_collinear self.old.solver.precision contour.now) }
     {
         self.clear();
         self.add_contour(contour, ShapeType::Subject)?;
@@ -345,7 +344,7 @@ impl<I: OverlayInt> Overlay<I> {
         ensures answered { IfOk result (λ shapes. (before : List (Entry Count)) → IsHeld I.least I.greatest before →
             held_by self.old ≡ redrawn_of self.old.solver.precision before →
             IsAnswered I.least I.greatest self.old.options (fill_rule_of fill_rule) Subject self.old.solver.precision before
-            (shapes_of I.value shapes.shapes.items)) }
+            (shapes_of shapes.shapes.items)) }
         ensures holding { OnOk result (holding_of self.new ≡ holding_of self.old) }
         ensures refused { IfErr result (IsSweepRefused (held_by self.old)) }
         ensures options { self.new.options ≡ self.old.options }
@@ -380,7 +379,7 @@ impl<I: OverlayInt> Overlay<I> {
         fill_rule: FillRule,
     ) -> Result<(), Fault>
         requires arrangement { IsArrangement (held_by self.old) }
-        ensures is { OnOk result (flat_of I.value output.new ≡
+        ensures is { OnOk result (flat_of output.new ≡
             flat_answer (answering_of self.old.options) (borders (fill_rule_of fill_rule) Subject (held_by self.old))) }
         ensures well_formed { OnOk result (IsFlat output.new) }
         ensures unchanged { OnErr result (output.new ≡ output.old) }

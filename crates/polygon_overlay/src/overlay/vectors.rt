@@ -77,7 +77,7 @@ impl<I: OverlayInt> Overlay<I> {
         &mut self,
         fill_rule: FillRule,
     ) -> Result<Vec<DataVectorEdge<I, ()>>, Fault>
-        ensures answered { IfOk result (λ edges. map (vector_of I.value) edges.items ≡ all_vectors (fill_rule_of fill_rule)
+        ensures answered { IfOk result (λ edges. map vector_of edges.items ≡ all_vectors (fill_rule_of fill_rule)
             (redrawn_of self.old.solver.precision (held_by self.old))) }
         ensures asked { Asks self.old result }
         ensures left { Leaves self.old self.new result }
@@ -111,7 +111,7 @@ fn list_vectors<I: OverlayInt, L: Ledger>(
     requires name { blank.name ≡ L.name }
     requires parts { blank.parts ≡ L.parts }
     requires two { blank.parts ≡ 2 }
-    ensures answered { IfOk result (λ edges. map (vector_of I.value) edges.items ≡ all_vectors (fill_rule_of fill_rule)
+    ensures answered { IfOk result (λ edges. map vector_of edges.items ≡ all_vectors (fill_rule_of fill_rule)
         (redrawn_of solver.now.precision held.old.edges)) }
     ensures redrawn { OnOk result (holding held.new ≡ record (holding held.old) { edges = redrawn_of solver.now.precision held.old.edges }) }
     ensures failed { OnErr result (holding held.new ≡ failed) }

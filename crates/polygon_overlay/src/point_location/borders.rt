@@ -7,7 +7,6 @@ ghost use Rattle.std.specs.Prelude.{◌≡◌, ◌≤◌, ◌<◌, true, false, 
 ghost use Rattle.std.specs.List.{AllZip};
 ghost use Rattle.plane_base.specs.Plane.{Point, IsWithin, lies_on};
 ghost use Rattle.plane_base.specs.GivenViews.{contours_of};
-ghost use Rattle.plane_base.specs.Views.{point_of, points_of};
 ghost use Rattle.segment_split.specs.Groups.{LiesWithin};
 ghost use Rattle.segment_arrangement.specs.FanLaws.{whole};
 ghost use Rattle.contour_walk.specs.BindingLaws.{all_contours};
@@ -34,10 +33,10 @@ pub(super) fn is_on_index<I: OverlayInt>(
     index: &ShapeIndex<I>,
     point: IntPoint<I>,
 ) -> bool
-    requires in_range { All (All (All (IsWithin I.least I.greatest))) (shapes_of I.value shapes.now) }
-    requires point_in_range { IsWithin I.least I.greatest (point_of I.value point) }
-    requires indexed { IsIndexed I.value (shapes_of I.value shapes.now) index.now }
-    ensures { result ≡ is_on_edge (all_contours (shapes_of I.value shapes.now)) (whole (point_of I.value point)) }
+    requires in_range { All (All (All (IsWithin I.least I.greatest))) (shapes_of shapes.now) }
+    requires point_in_range { IsWithin I.least I.greatest point }
+    requires indexed { IsIndexed I.value (shapes_of shapes.now) index.now }
+    ensures { result ≡ is_on_edge (all_contours (shapes_of shapes.now)) (whole point) }
 {
     on_fields(shapes, &index.outlines, &index.order, &index.fields, point)
 }
@@ -49,13 +48,13 @@ fn on_fields<I: OverlayInt>(
     fields: &[Stretch<I>],
     point: IntPoint<I>,
 ) -> bool
-    requires in_range { All (All (All (IsWithin I.least I.greatest))) (shapes_of I.value shapes.now) }
-    requires point_in_range { IsWithin I.least I.greatest (point_of I.value point) }
-    requires outlined { AreOutlined I.value (shapes_of I.value shapes.now) outlines.now }
+    requires in_range { All (All (All (IsWithin I.least I.greatest))) (shapes_of shapes.now) }
+    requires point_in_range { IsWithin I.least I.greatest point }
+    requires outlined { AreOutlined I.value (shapes_of shapes.now) outlines.now }
     requires inside { All (λ s. s.number < length shapes.now) order.now }
     requires each { (n : ℕ) → n < length shapes.now → Contains (map number_of order.now) n }
-    requires fields { AreStretches I.value (points_by (shapes_of I.value shapes.now) order.now) fields.now }
-    ensures { result ≡ is_on_edge (all_contours (shapes_of I.value shapes.now)) (whole (point_of I.value point)) }
+    requires fields { AreStretches I.value (points_by (shapes_of shapes.now) order.now) fields.now }
+    ensures { result ≡ is_on_edge (all_contours (shapes_of shapes.now)) (whole point) }
 {
     if some_borders(shapes, outlines, order, end_of(fields), order.len(), point) {
         return true;
@@ -80,18 +79,18 @@ fn look_at_field<I: OverlayInt>(
     number: usize,
     point: IntPoint<I>,
 ) -> Look
-    requires in_range { All (All (All (IsWithin I.least I.greatest))) (shapes_of I.value shapes.now) }
-    requires point_in_range { IsWithin I.least I.greatest (point_of I.value point) }
-    requires outlined { AreOutlined I.value (shapes_of I.value shapes.now) outlines.now }
+    requires in_range { All (All (All (IsWithin I.least I.greatest))) (shapes_of shapes.now) }
+    requires point_in_range { IsWithin I.least I.greatest point }
+    requires outlined { AreOutlined I.value (shapes_of shapes.now) outlines.now }
     requires inside { All (λ s. s.number < length shapes.now) order.now }
     requires within { field.end ≤ length order.now }
     requires boxed { (k : ℕ) (d : List Point) → field.first ≤ k → k < field.end
-        → All (LiesWithin (bounds_of I.value field.bounds)) (slice_index_or (points_by (shapes_of I.value shapes.now) order.now) k d) }
+        → All (LiesWithin (bounds_of I.value field.bounds)) (slice_index_or (points_by (shapes_of shapes.now) order.now) k d) }
     requires earlier { field.from ≤ number }
     ensures fewer { result.left ≤ number }
-    ensures found { result.is_so ≡ true → is_on_edge (all_contours (shapes_of I.value shapes.now)) (whole (point_of I.value point)) ≡ true }
+    ensures found { result.is_so ≡ true → is_on_edge (all_contours (shapes_of shapes.now)) (whole point) ≡ true }
     ensures looked { LooksPast number field (λ found. found ≡ false
-        → NoneBorders (shapes_of I.value shapes.now) order.now (whole (point_of I.value point)) field.first field.end) result }
+        → NoneBorders (shapes_of shapes.now) order.now (whole point) field.first field.end) result }
 {
     if is_outside(field.bounds, point) {
         return Look {
@@ -121,13 +120,13 @@ fn some_borders<I: OverlayInt>(
     end: usize,
     point: IntPoint<I>,
 ) -> bool
-    requires in_range { All (All (All (IsWithin I.least I.greatest))) (shapes_of I.value shapes.now) }
-    requires point_in_range { IsWithin I.least I.greatest (point_of I.value point) }
-    requires outlined { AreOutlined I.value (shapes_of I.value shapes.now) outlines.now }
+    requires in_range { All (All (All (IsWithin I.least I.greatest))) (shapes_of shapes.now) }
+    requires point_in_range { IsWithin I.least I.greatest point }
+    requires outlined { AreOutlined I.value (shapes_of shapes.now) outlines.now }
     requires inside { All (λ s. s.number < length shapes.now) order.now }
     requires within { end ≤ length order.now }
-    ensures found { result ≡ true → is_on_edge (all_contours (shapes_of I.value shapes.now)) (whole (point_of I.value point)) ≡ true }
-    ensures none { result ≡ false → NoneBorders (shapes_of I.value shapes.now) order.now (whole (point_of I.value point)) first end }
+    ensures found { result ≡ true → is_on_edge (all_contours (shapes_of shapes.now)) (whole point) ≡ true }
+    ensures none { result ≡ false → NoneBorders (shapes_of shapes.now) order.now (whole point) first end }
 {
     for place in first..end {
         let number = number_at(order, place);
@@ -146,10 +145,10 @@ fn borders_shape<I: OverlayInt>(
     outlines: &[Outline<I>],
     point: IntPoint<I>,
 ) -> bool
-    requires in_range { All (All (IsWithin I.least I.greatest)) (contours_of I.value contours.now) }
-    requires point_in_range { IsWithin I.least I.greatest (point_of I.value point) }
-    requires outlined { AllZip (IsOutlined I.value) (contours_of I.value contours.now) outlines.now }
-    ensures { result ≡ is_on_edge (contours_of I.value contours.now) (whole (point_of I.value point)) }
+    requires in_range { All (All (IsWithin I.least I.greatest)) (contours_of contours.now) }
+    requires point_in_range { IsWithin I.least I.greatest point }
+    requires outlined { AllZip (IsOutlined I.value) (contours_of contours.now) outlines.now }
+    ensures { result ≡ is_on_edge (contours_of contours.now) (whole point) }
 {
     for place in 0..contours.len() {
         if borders_contour(&contours[place].points, &outlines[place], point) {
@@ -164,10 +163,10 @@ fn borders_contour<I: OverlayInt>(
     outline: &Outline<I>,
     point: IntPoint<I>,
 ) -> bool
-    requires in_range { All (IsWithin I.least I.greatest) (points_of I.value points.now) }
-    requires point_in_range { IsWithin I.least I.greatest (point_of I.value point) }
-    requires outlined { IsOutlined I.value (points_of I.value points.now) outline.now }
-    ensures { result ≡ is_on_edge (points_of I.value points.now ∷ []) (whole (point_of I.value point)) }
+    requires in_range { All (IsWithin I.least I.greatest) points.now }
+    requires point_in_range { IsWithin I.least I.greatest point }
+    requires outlined { IsOutlined I.value points.now outline.now }
+    ensures { result ≡ is_on_edge (points.now ∷ []) (whole point) }
 {
     if is_outside(outline.bounds, point) {
         return false;
@@ -180,10 +179,10 @@ fn on_stretches<I: OverlayInt>(
     stretches: &[Stretch<I>],
     point: IntPoint<I>,
 ) -> bool
-    requires in_range { All (IsWithin I.least I.greatest) (points_of I.value points.now) }
-    requires point_in_range { IsWithin I.least I.greatest (point_of I.value point) }
-    requires stretches { AreStretches I.value (edge_ends (points_of I.value points.now)) stretches.now }
-    ensures { result ≡ is_on_edge (points_of I.value points.now ∷ []) (whole (point_of I.value point)) }
+    requires in_range { All (IsWithin I.least I.greatest) points.now }
+    requires point_in_range { IsWithin I.least I.greatest point }
+    requires stretches { AreStretches I.value (edge_ends points.now) stretches.now }
+    ensures { result ≡ is_on_edge (points.now ∷ []) (whole point) }
 {
     if some_edge_has(points, end_of(stretches), points.len(), point) {
         return true;
@@ -206,16 +205,16 @@ fn look_at_stretch<I: OverlayInt>(
     number: usize,
     point: IntPoint<I>,
 ) -> Look
-    requires in_range { All (IsWithin I.least I.greatest) (points_of I.value points.now) }
-    requires point_in_range { IsWithin I.least I.greatest (point_of I.value point) }
+    requires in_range { All (IsWithin I.least I.greatest) points.now }
+    requires point_in_range { IsWithin I.least I.greatest point }
     requires within { stretch.end ≤ length points.now }
     requires boxed { (k : ℕ) (d : List Point) → stretch.first ≤ k → k < stretch.end
-        → All (LiesWithin (bounds_of I.value stretch.bounds)) (slice_index_or (edge_ends (points_of I.value points.now)) k d) }
+        → All (LiesWithin (bounds_of I.value stretch.bounds)) (slice_index_or (edge_ends points.now) k d) }
     requires earlier { stretch.from ≤ number }
     ensures fewer { result.left ≤ number }
-    ensures found { result.is_so ≡ true → is_on_edge (points_of I.value points.now ∷ []) (whole (point_of I.value point)) ≡ true }
+    ensures found { result.is_so ≡ true → is_on_edge (points.now ∷ []) (whole point) ≡ true }
     ensures looked { LooksPast number stretch (λ found. found ≡ false
-        → NoneBetween (λ s. lies_on s (whole (point_of I.value point))) (contour_edges (points_of I.value points.now)) stretch.first stretch.end) result }
+        → NoneBetween (λ s. lies_on s (whole point)) (contour_edges points.now) stretch.first stretch.end) result }
 {
     if is_outside(stretch.bounds, point) {
         return Look {
@@ -243,12 +242,12 @@ fn some_edge_has<I: OverlayInt>(
     end: usize,
     point: IntPoint<I>,
 ) -> bool
-    requires in_range { All (IsWithin I.least I.greatest) (points_of I.value points.now) }
-    requires point_in_range { IsWithin I.least I.greatest (point_of I.value point) }
+    requires in_range { All (IsWithin I.least I.greatest) points.now }
+    requires point_in_range { IsWithin I.least I.greatest point }
     requires within { end ≤ length points.now }
-    ensures found { result ≡ true → is_on_edge (points_of I.value points.now ∷ []) (whole (point_of I.value point)) ≡ true }
+    ensures found { result ≡ true → is_on_edge (points.now ∷ []) (whole point) ≡ true }
     ensures none { result ≡ false
-        → NoneBetween (λ s. lies_on s (whole (point_of I.value point))) (contour_edges (points_of I.value points.now)) first end }
+        → NoneBetween (λ s. lies_on s (whole point)) (contour_edges points.now) first end }
 {
     for place in first..end {
         let edge = edge_at(points, place);

@@ -5,7 +5,6 @@
 ghost use Rattle.std.specs.Prelude.{◌≡◌, All, IfOk, IsOkUnless, map};
 ghost use Rattle.plane_base.specs.GivenViews.{contours_of};
 ghost use Rattle.plane_base.specs.Plane.{IsWithin};
-ghost use Rattle.plane_base.specs.Views.{points_of};
 ghost use Rattle.segment_arrangement.specs.FanLaws.{whole};
 ghost use Rattle.contour_walk.specs.ShapeViews.{shapes_of};
 ghost use Rattle.polygon_overlay.specs.Location.{in_contour, in_shape, in_shapes};
@@ -23,9 +22,9 @@ pub(super) fn contour_by_columns<I: OverlayInt>(
     contour: &[IntPoint<I>],
     points: &[IntPoint<I>],
 ) -> Result<Vec<bool>, Fault>
-    requires in_range { All (IsWithin I.least I.greatest) (points_of I.value contour.now) }
-    requires points_in_range { All (IsWithin I.least I.greatest) (points_of I.value points.now) }
-    ensures located { IfOk result (λ inside. inside.items ≡ map (λ p. in_contour (points_of I.value contour.now) (whole p)) (points_of I.value points.now)) }
+    requires in_range { All (IsWithin I.least I.greatest) contour.now }
+    requires points_in_range { All (IsWithin I.least I.greatest) points.now }
+    ensures located { IfOk result (λ inside. inside.items ≡ map (λ p. in_contour contour.now (whole p)) points.now) }
     ensures memory { IsOkUnless result Fault.Memory }
 {
     let mut queries = sorted_queries(alloc, points)?;
@@ -39,9 +38,9 @@ pub(super) fn shape_by_columns<I: OverlayInt>(
     contours: &[IntContour<I>],
     points: &[IntPoint<I>],
 ) -> Result<Vec<bool>, Fault>
-    requires in_range { All (All (IsWithin I.least I.greatest)) (contours_of I.value contours.now) }
-    requires points_in_range { All (IsWithin I.least I.greatest) (points_of I.value points.now) }
-    ensures located { IfOk result (λ inside. inside.items ≡ map (λ p. in_shape (contours_of I.value contours.now) (whole p)) (points_of I.value points.now)) }
+    requires in_range { All (All (IsWithin I.least I.greatest)) (contours_of contours.now) }
+    requires points_in_range { All (IsWithin I.least I.greatest) points.now }
+    ensures located { IfOk result (λ inside. inside.items ≡ map (λ p. in_shape (contours_of contours.now) (whole p)) points.now) }
     ensures memory { IsOkUnless result Fault.Memory }
 {
     let mut queries = sorted_queries(alloc, points)?;
@@ -55,9 +54,9 @@ pub(super) fn shapes_by_columns<I: OverlayInt>(
     shapes: &[IntShape<I>],
     points: &[IntPoint<I>],
 ) -> Result<Vec<bool>, Fault>
-    requires in_range { All (All (All (IsWithin I.least I.greatest))) (shapes_of I.value shapes.now) }
-    requires points_in_range { All (IsWithin I.least I.greatest) (points_of I.value points.now) }
-    ensures located { IfOk result (λ inside. inside.items ≡ map (λ p. in_shapes (shapes_of I.value shapes.now) (whole p)) (points_of I.value points.now)) }
+    requires in_range { All (All (All (IsWithin I.least I.greatest))) (shapes_of shapes.now) }
+    requires points_in_range { All (IsWithin I.least I.greatest) points.now }
+    ensures located { IfOk result (λ inside. inside.items ≡ map (λ p. in_shapes (shapes_of shapes.now) (whole p)) points.now) }
     ensures memory { IsOkUnless result Fault.Memory }
 {
     let mut queries = sorted_queries(alloc, points)?;

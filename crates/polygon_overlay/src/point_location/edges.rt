@@ -5,9 +5,7 @@ ghost use Rattle.std.specs.Prelude.{◌≡◌, [], ◌∷◌, All};
 ghost use Rattle.std.specs.Ordering.{is_le};
 ghost use Rattle.plane_base.specs.Plane.{IsWithin, point_order, lies_on};
 ghost use Rattle.plane_base.specs.Segments.{IsEdgeWithin};
-ghost use Rattle.plane_base.specs.Views.{point_of, points_of};
 ghost use Rattle.plane_base.specs.GivenViews.{contours_of};
-ghost use Rattle.plane_base.specs.SegmentViews.{edge_of};
 ghost use Rattle.segment_arrangement.specs.FanLaws.{whole};
 ghost use Rattle.contour_walk.specs.BindingLaws.{all_contours};
 ghost use Rattle.contour_walk.specs.ShapeViews.{shapes_of};
@@ -22,9 +20,9 @@ use plane_base::segment::XSegment;
 
 /// Whether a point lies on an edge of some contour of some shape.
 pub(crate) fn is_on_shapes<I: OverlayInt>(shapes: &[IntShape<I>], point: IntPoint<I>) -> bool
-    requires in_range { All (All (IsWithin I.least I.greatest)) (all_contours (shapes_of I.value shapes.now)) }
-    requires point_in_range { IsWithin I.least I.greatest (point_of I.value point) }
-    ensures { result ≡ is_on_edge (all_contours (shapes_of I.value shapes.now)) (whole (point_of I.value point)) }
+    requires in_range { All (All (IsWithin I.least I.greatest)) (all_contours (shapes_of shapes.now)) }
+    requires point_in_range { IsWithin I.least I.greatest point }
+    ensures { result ≡ is_on_edge (all_contours (shapes_of shapes.now)) (whole point) }
 {
     for shape in shapes {
         if is_on_contours(&shape.contours, point) {
@@ -36,9 +34,9 @@ pub(crate) fn is_on_shapes<I: OverlayInt>(shapes: &[IntShape<I>], point: IntPoin
 
 /// Whether a point lies on an edge of some contour.
 pub(crate) fn is_on_contours<I: OverlayInt>(contours: &[IntContour<I>], point: IntPoint<I>) -> bool
-    requires in_range { All (All (IsWithin I.least I.greatest)) (contours_of I.value contours.now) }
-    requires point_in_range { IsWithin I.least I.greatest (point_of I.value point) }
-    ensures { result ≡ is_on_edge (contours_of I.value contours.now) (whole (point_of I.value point)) }
+    requires in_range { All (All (IsWithin I.least I.greatest)) (contours_of contours.now) }
+    requires point_in_range { IsWithin I.least I.greatest point }
+    ensures { result ≡ is_on_edge (contours_of contours.now) (whole point) }
 {
     for contour in contours {
         if is_on_contour(&contour.points, point) {
@@ -50,9 +48,9 @@ pub(crate) fn is_on_contours<I: OverlayInt>(contours: &[IntContour<I>], point: I
 
 /// Whether a point lies on an edge of a contour.
 pub(crate) fn is_on_contour<I: OverlayInt>(points: &[IntPoint<I>], point: IntPoint<I>) -> bool
-    requires in_range { All (IsWithin I.least I.greatest) (points_of I.value points.now) }
-    requires point_in_range { IsWithin I.least I.greatest (point_of I.value point) }
-    ensures { result ≡ is_on_edge (points_of I.value points.now ∷ []) (whole (point_of I.value point)) }
+    requires in_range { All (IsWithin I.least I.greatest) points.now }
+    requires point_in_range { IsWithin I.least I.greatest point }
+    ensures { result ≡ is_on_edge (points.now ∷ []) (whole point) }
 {
     for place in 0..points.len() {
         if lies_on(edge_at(points, place), point) {
@@ -64,9 +62,9 @@ pub(crate) fn is_on_contour<I: OverlayInt>(points: &[IntPoint<I>], point: IntPoi
 
 /// Whether a point lies on an edge, its ends included.
 pub(super) fn lies_on<I: OverlayInt>(edge: XSegment<I>, point: IntPoint<I>) -> bool
-    requires in_range { IsEdgeWithin I.least I.greatest (edge_of I.value edge) }
-    requires point_in_range { IsWithin I.least I.greatest (point_of I.value point) }
-    ensures { result ≡ lies_on (edge_of I.value edge) (whole (point_of I.value point)) }
+    requires in_range { IsEdgeWithin I.least I.greatest edge }
+    requires point_in_range { IsWithin I.least I.greatest point }
+    ensures { result ≡ lies_on edge (whole point) }
 {
     if !orientation(edge.a, edge.b, point).is_eq() {
         return false;
@@ -76,7 +74,7 @@ pub(super) fn lies_on<I: OverlayInt>(edge: XSegment<I>, point: IntPoint<I>) -> b
 
 // Whether a point comes before another, or is it.
 fn comes_first<I: OverlayInt>(a: IntPoint<I>, b: IntPoint<I>) -> bool
-    ensures { result ≡ is_le (point_order (point_of I.value a) (point_of I.value b)) }
+    ensures { result ≡ is_le (point_order a b) }
 {
     a.cmp(&b).is_le()
 }

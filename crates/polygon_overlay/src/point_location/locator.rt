@@ -3,7 +3,6 @@
 
 ghost use Rattle.std.specs.Prelude.{◌≡◌, All, IfOk, IsOkUnless};
 ghost use Rattle.plane_base.specs.Plane.{IsWithin};
-ghost use Rattle.plane_base.specs.Views.{point_of};
 ghost use Rattle.segment_arrangement.specs.FanLaws.{whole};
 ghost use Rattle.contour_walk.specs.BindingLaws.{all_contours};
 ghost use Rattle.contour_walk.specs.ShapeViews.{shapes_of};
@@ -38,17 +37,17 @@ impl<I: OverlayInt> Model for PointLocator<I> {
 
     ghost Value = { List (List (List Point)) };
 
-    ghost view = { λ l. shapes_of I.value l.shapes.shapes.items };
+    ghost view = { λ l. shapes_of l.shapes.shapes.items };
 
-    ghost invariant = { λ l. All (All (All (IsWithin I.least I.greatest))) (shapes_of I.value l.shapes.shapes.items)
-        × IsIndexed I.value (shapes_of I.value l.shapes.shapes.items) l.index };
+    ghost invariant = { λ l. All (All (All (IsWithin I.least I.greatest))) (shapes_of l.shapes.shapes.items)
+        × IsIndexed I.value (shapes_of l.shapes.shapes.items) l.index };
 }
 
 impl<I: OverlayInt> PointLocator<I> {
     /// A locator of these shapes, all of whose points are in range. Refused with `Memory` alone.
     pub fn new(alloc: Global, shapes: &IntShapes<I>) -> Result<PointLocator<I>, Fault>
-        requires in_range { All (All (IsWithin I.least I.greatest)) (all_contours (shapes_of I.value shapes.now.shapes.items)) }
-        ensures made { IfOk result (λ l. l ≡ shapes_of I.value shapes.now.shapes.items) }
+        requires in_range { All (All (IsWithin I.least I.greatest)) (all_contours (shapes_of shapes.now.shapes.items)) }
+        ensures made { IfOk result (λ l. l ≡ shapes_of shapes.now.shapes.items) }
         ensures memory { IsOkUnless result Fault.Memory }
     {
         let shapes = shapes.clone()?;
@@ -59,16 +58,16 @@ impl<I: OverlayInt> PointLocator<I> {
     /// Whether a point lies inside of one of the shapes: inside of an odd number of its contours, of each by parity. So it is for points on edges, too: of a
     /// square those on its left and its upper side lie inside, but for the ends of these on the other two sides, whose points don't.
     pub fn contains(&self, point: IntPoint<I>) -> bool
-        requires { IsWithin I.least I.greatest (point_of I.value point) }
-        ensures { result ≡ in_shapes self.now (whole (point_of I.value point)) }
+        requires { IsWithin I.least I.greatest point }
+        ensures { result ≡ in_shapes self.now (whole point) }
     {
         is_in_shapes(&self.shapes.shapes, &self.index, point)
     }
 
     /// Whether a point lies on an edge of a contour of some shape, the edge's ends included.
     pub fn is_on_edge(&self, point: IntPoint<I>) -> bool
-        requires { IsWithin I.least I.greatest (point_of I.value point) }
-        ensures { result ≡ is_on_edge (all_contours self.now) (whole (point_of I.value point)) }
+        requires { IsWithin I.least I.greatest point }
+        ensures { result ≡ is_on_edge (all_contours self.now) (whole point) }
     {
         is_on_index(&self.shapes.shapes, &self.index, point)
     }

@@ -13,10 +13,8 @@
 
 ghost use Rattle.std.specs.Prelude.{◌≡◌, ◌≤◌, ◌<◌, ◌+◌, ℕ, List, All, length, slice_index_or, int_lt, IfOk, OnOk, IsOkUnless};
 ghost use Rattle.plane_base.specs.Given.{closed};
-ghost use Rattle.plane_base.specs.Plane.{Point, IsWithin, is_below, lies_on};
+ghost use Rattle.plane_base.specs.Plane.{Point, IsWithin, is_below};
 ghost use Rattle.plane_base.specs.Segments.{IsEdgeWithin};
-ghost use Rattle.plane_base.specs.SegmentViews.{edge_of};
-ghost use Rattle.plane_base.specs.Views.{point_of, points_of};
 ghost use Rattle.segment_split.specs.Groups.{LiesWithin};
 ghost use Rattle.segment_arrangement.specs.EdgeSides.{differ};
 ghost use Rattle.segment_arrangement.specs.FanLaws.{whole};
@@ -31,7 +29,7 @@ use crate::point_location::stretches::{
     FEW, Look, Stretch, differ, end_of, is_clear, is_off, is_under, join_all, join_equals, runs_of,
 };
 use plane_base::fault::Fault;
-use plane_base::int::OverlayInt;
+use plane_base::int::{IntNumber, OverlayInt};
 use plane_base::orientation::orientation;
 use plane_base::point::IntPoint;
 use plane_base::segment::XSegment;
@@ -40,7 +38,7 @@ use std::alloc::Global;
 /// The box of all points of a contour, and stretches of its edges. Edges behind the last stretch are looked at one by one: all of a contour of
 /// a few edges, which has no stretches.
 #[derive(Drop)]
-pub(crate) struct Outline<I> {
+pub(crate) struct Outline<I: IntNumber> {
     pub(crate) bounds: PointBox<I>,
     pub(crate) stretches: Vec<Stretch<I>>,
 }
@@ -52,7 +50,7 @@ pub(super) fn outline_of<I: OverlayInt>(
     alloc: Global,
     points: &[IntPoint<I>],
 ) -> Result<Outline<I>, Fault>
-    ensures outlined { IfOk result (IsOutlined I.value (points_of I.value points.now)) }
+    ensures outlined { IfOk result (IsOutlined I.value points.now) }
     ensures memory { IsOkUnless result Fault.Memory }
 {
     let stretches = stretches_of(alloc, points)?;
@@ -65,7 +63,7 @@ fn stretches_of<I: OverlayInt>(
     alloc: Global,
     points: &[IntPoint<I>],
 ) -> Result<Vec<Stretch<I>>, Fault>
-    ensures are { IfOk result (λ all. AreStretches I.value (edge_ends (points_of I.value points.now)) all.items) }
+    ensures are { IfOk result (λ all. AreStretches I.value (edge_ends points.now) all.items) }
     ensures memory { IsOkUnless result Fault.Memory }
 {
     let mut stretches = Vec::new(alloc);
@@ -86,8 +84,8 @@ fn push_run<I: OverlayInt>(
 ) -> Result<(), Fault>
     requires within { first + 8 ≤ length points.now }
     requires behind { end_before stretches.old.items (length stretches.old.items) ≡ first }
-    ensures pushed { OnOk result (AreStretches I.value (edge_ends (points_of I.value points.now)) stretches.old.items
-        → AreStretches I.value (edge_ends (points_of I.value points.now)) stretches.new.items) }
+    ensures pushed { OnOk result (AreStretches I.value (edge_ends points.now) stretches.old.items
+        → AreStretches I.value (edge_ends points.now) stretches.new.items) }
     ensures end { OnOk result (end_before stretches.new.items (length stretches.new.items) ≡ first + 8) }
     ensures memory { IsOkUnless result Fault.Memory }
 {
@@ -107,7 +105,7 @@ fn push_run<I: OverlayInt>(
 fn bounds_of_run<I: OverlayInt>(points: &[IntPoint<I>], first: usize, end: usize) -> PointBox<I>
     requires within { end ≤ length points.now }
     ensures { (k : ℕ) (d : List Point) → first ≤ k → k < end
-        → All (LiesWithin (bounds_of I.value result)) (slice_index_or (edge_ends (points_of I.value points.now)) k d) }
+        → All (LiesWithin (bounds_of I.value result)) (slice_index_or (edge_ends points.now) k d) }
 {
     let mut bounds = PointBox::of_nothing();
     for place in first..end {
@@ -124,7 +122,7 @@ fn with_edge<I: OverlayInt>(
 ) -> PointBox<I>
     requires within { place < length points.now }
     ensures kept { (p : Point) → LiesWithin (bounds_of I.value bounds) p → LiesWithin (bounds_of I.value result) p }
-    ensures edge { (d : List Point) → All (LiesWithin (bounds_of I.value result)) (slice_index_or (edge_ends (points_of I.value points.now)) place d) }
+    ensures edge { (d : List Point) → All (LiesWithin (bounds_of I.value result)) (slice_index_or (edge_ends points.now) place d) }
 {
     let edge = edge_at(points, place);
     bounds.with(edge.a).with(edge.b)
@@ -138,10 +136,10 @@ pub(super) fn is_inside<I: OverlayInt>(
     outline: &Outline<I>,
     point: IntPoint<I>,
 ) -> bool
-    requires in_range { All (IsWithin I.least I.greatest) (points_of I.value points.now) }
-    requires point_in_range { IsWithin I.least I.greatest (point_of I.value point) }
-    requires outlined { IsOutlined I.value (points_of I.value points.now) outline.now }
-    ensures { result ≡ in_contour (points_of I.value points.now) (whole (point_of I.value point)) }
+    requires in_range { All (IsWithin I.least I.greatest) points.now }
+    requires point_in_range { IsWithin I.least I.greatest point }
+    requires outlined { IsOutlined I.value points.now outline.now }
+    ensures { result ≡ in_contour points.now (whole point) }
 {
     if is_off(outline.bounds, point) {
         return false;
@@ -155,10 +153,10 @@ fn all_are_odd<I: OverlayInt>(
     stretches: &[Stretch<I>],
     point: IntPoint<I>,
 ) -> bool
-    requires in_range { All (IsWithin I.least I.greatest) (points_of I.value points.now) }
-    requires point_in_range { IsWithin I.least I.greatest (point_of I.value point) }
-    requires stretches { AreStretches I.value (edge_ends (points_of I.value points.now)) stretches.now }
-    ensures { result ≡ in_contour (points_of I.value points.now) (whole (point_of I.value point)) }
+    requires in_range { All (IsWithin I.least I.greatest) points.now }
+    requires point_in_range { IsWithin I.least I.greatest point }
+    requires stretches { AreStretches I.value (edge_ends points.now) stretches.now }
+    ensures { result ≡ in_contour points.now (whole point) }
 {
     let mut is_odd = edges_are_odd(points, end_of(stretches), points.len(), point);
     let mut left = stretches.len();
@@ -177,16 +175,16 @@ fn look_at<I: OverlayInt>(
     number: usize,
     point: IntPoint<I>,
 ) -> Look
-    requires in_range { All (IsWithin I.least I.greatest) (points_of I.value points.now) }
-    requires point_in_range { IsWithin I.least I.greatest (point_of I.value point) }
+    requires in_range { All (IsWithin I.least I.greatest) points.now }
+    requires point_in_range { IsWithin I.least I.greatest point }
     requires some { stretch.first < stretch.end }
     requires within { stretch.end ≤ length points.now }
     requires boxed { (k : ℕ) (d : List Point) → stretch.first ≤ k → k < stretch.end
-        → All (LiesWithin (bounds_of I.value stretch.bounds)) (slice_index_or (edge_ends (points_of I.value points.now)) k d) }
+        → All (LiesWithin (bounds_of I.value stretch.bounds)) (slice_index_or (edge_ends points.now) k d) }
     requires earlier { stretch.from ≤ number }
     ensures fewer { result.left ≤ number }
     ensures looked { LooksPast number stretch
-        (IsParityBetween (contour_edges (points_of I.value points.now)) (whole (point_of I.value point)) stretch.first stretch.end) result }
+        (IsParityBetween (contour_edges points.now) (whole point) stretch.first stretch.end) result }
 {
     if is_clear(stretch.bounds, point) {
         return Look {
@@ -221,8 +219,8 @@ fn ends_are_parted<I: OverlayInt>(
 ) -> bool
     requires some { first < end }
     requires within { end ≤ length points.now }
-    ensures { (d : Point) → result ≡ differ (int_lt (I.value point.x) (slice_index_or (closed (points_of I.value points.now)) first d).x)
-        (int_lt (I.value point.x) (slice_index_or (closed (points_of I.value points.now)) end d).x) }
+    ensures { (d : Point) → result ≡ differ (int_lt point.x (slice_index_or (closed points.now) first d).x)
+        (int_lt point.x (slice_index_or (closed points.now) end d).x) }
 {
     let from = corner_at(points, first);
     let to = corner_at(points, end);
@@ -233,7 +231,7 @@ fn ends_are_parted<I: OverlayInt>(
 fn corner_at<I: OverlayInt>(points: &[IntPoint<I>], place: usize) -> IntPoint<I>
     requires some { 0 < length points.now }
     requires within { place ≤ length points.now }
-    ensures { (d : Point) → point_of I.value result ≡ slice_index_or (closed (points_of I.value points.now)) place d }
+    ensures { (d : Point) → result ≡ slice_index_or (closed points.now) place d }
 {
     if place < points.len() {
         return points[place];
@@ -248,11 +246,11 @@ fn edges_are_odd<I: OverlayInt>(
     end: usize,
     point: IntPoint<I>,
 ) -> bool
-    requires in_range { All (IsWithin I.least I.greatest) (points_of I.value points.now) }
-    requires point_in_range { IsWithin I.least I.greatest (point_of I.value point) }
+    requires in_range { All (IsWithin I.least I.greatest) points.now }
+    requires point_in_range { IsWithin I.least I.greatest point }
     requires ordered { first ≤ end }
     requires within { end ≤ length points.now }
-    ensures { IsParityBetween (contour_edges (points_of I.value points.now)) (whole (point_of I.value point)) first end result }
+    ensures { IsParityBetween (contour_edges points.now) (whole point) first end result }
 {
     let mut is_odd = false;
     for place in first..end {
@@ -265,9 +263,9 @@ fn edges_are_odd<I: OverlayInt>(
 
 // Whether the edge passes below the point.
 fn passes_below<I: OverlayInt>(edge: XSegment<I>, point: IntPoint<I>) -> bool
-    requires in_range { IsEdgeWithin I.least I.greatest (edge_of I.value edge) }
-    requires point_in_range { IsWithin I.least I.greatest (point_of I.value point) }
-    ensures { result ≡ is_below (edge_of I.value edge).a (edge_of I.value edge).b (whole (point_of I.value point)) }
+    requires in_range { IsEdgeWithin I.least I.greatest edge }
+    requires point_in_range { IsWithin I.least I.greatest point }
+    ensures { result ≡ is_below edge.a edge.b (whole point) }
 {
     if is_left_of(point, edge.a) {
         return false;
@@ -280,7 +278,7 @@ fn passes_below<I: OverlayInt>(edge: XSegment<I>, point: IntPoint<I>) -> bool
 
 // Whether a point lies left of another.
 fn is_left_of<I: OverlayInt>(point: IntPoint<I>, other: IntPoint<I>) -> bool
-    ensures { result ≡ int_lt (I.value point.x) (I.value other.x) }
+    ensures { result ≡ int_lt point.x other.x }
 {
     is_less(point.x, other.x)
 }

@@ -5,11 +5,10 @@
 //! points, an edge two binary searches and a step for each point in its columns.
 
 ghost use Rattle.std.specs.Prelude.{◌≡◌, ◌≤◌, ◌<◌, ◌≤ℤ◌, ◌<ℤ◌, Bool, false, [], ◌∷◌, IfOk, IsOkUnless, IsPermutation, All, length, map, slice_index_or};
+ghost use Rattle.std.specs.Ordering.{int_cmp};
 ghost use Rattle.plane_base.specs.Plane.{IsWithin, RationalPoint};
 ghost use Rattle.plane_base.specs.Segments.{IsEdgeWithin};
-ghost use Rattle.plane_base.specs.Views.{point_of, points_of};
 ghost use Rattle.plane_base.specs.GivenViews.{contours_of};
-ghost use Rattle.plane_base.specs.SegmentViews.{edge_of};
 ghost use Rattle.segment_arrangement.specs.FanLaws.{whole};
 ghost use Rattle.contour_walk.specs.Walks.{contour_edges};
 ghost use Rattle.polygon_overlay.specs.LocationViews.{place_of, all_asked, passed, located, AreReady, AreOddWithin, AnswerEach};
@@ -23,15 +22,16 @@ use plane_base::path::IntContour;
 use plane_base::point::IntPoint;
 use plane_base::segment::XSegment;
 use std::alloc::Global;
+use std::cmp::Ordering;
 
 /// The queries of points, by rising x.
 pub(crate) fn sorted_queries<I: OverlayInt>(
     alloc: Global,
     points: &[IntPoint<I>],
 ) -> Result<Vec<QueryPoint<I>>, Fault>
-    requires { All (IsWithin I.least I.greatest) (points_of I.value points.now) }
+    requires { All (IsWithin I.least I.greatest) points.now }
     ensures all { IfOk result (λ queries. IsPermutation (all_asked 0 points.now) queries.items) }
-    ensures ready { IfOk result (λ queries. AreReady I.least I.greatest I.value queries.items) }
+    ensures ready { IfOk result (λ queries. AreReady I.least I.greatest queries.items) }
     ensures memory { IsOkUnless result Fault.Memory }
 {
     let mut queries = Vec::with_capacity(alloc, points.len())?;
@@ -48,13 +48,17 @@ pub(crate) fn sorted_queries<I: OverlayInt>(
 }
 
 fn sort_by_column<I: OverlayInt>(queries: &mut [QueryPoint<I>])
-    requires { All (λ q. IsWithin I.least I.greatest (point_of I.value q.point)) queries.old }
+    requires { All (λ q. IsWithin I.least I.greatest q.point) queries.old }
     ensures permutation { IsPermutation queries.old queries.new }
-    ensures ready { AreReady I.least I.greatest I.value queries.new }
+    ensures ready { AreReady I.least I.greatest queries.new }
 {
-    queries.sort_unstable_by(|one: &QueryPoint<I>, other: &QueryPoint<I>| {
-        one.point.x.cmp(&other.point.x)
-    });
+    queries.sort_unstable_by(|one: &QueryPoint<I>, other: &QueryPoint<I>| column_order(one, other));
+}
+
+fn column_order<I: OverlayInt>(one: &QueryPoint<I>, other: &QueryPoint<I>) -> Ordering
+    ensures { result ≡ int_cmp one.now.point.x other.now.point.x }
+{
+    one.point.x.cmp(&other.point.x)
 }
 
 /// Finds which points lie inside of a contour.
@@ -62,10 +66,10 @@ pub(crate) fn locate_in_contour<I: OverlayInt>(
     points: &[IntPoint<I>],
     queries: &mut [QueryPoint<I>],
 )
-    requires in_range { All (IsWithin I.least I.greatest) (points_of I.value points.now) }
-    requires ready { AreReady I.least I.greatest I.value queries.old }
+    requires in_range { All (IsWithin I.least I.greatest) points.now }
+    requires ready { AreReady I.least I.greatest queries.old }
     requires even { All (λ q. q.is_odd ≡ false) queries.old }
-    ensures { queries.new ≡ map (located I.value (points_of I.value points.now ∷ [])) queries.old }
+    ensures { queries.new ≡ map (located (points.now ∷ [])) queries.old }
 {
     let none_odd = no_places(queries);
     let odd = pass_contour(points, none_odd, queries);
@@ -77,10 +81,10 @@ pub(crate) fn locate_in_shape<I: OverlayInt>(
     contours: &[IntContour<I>],
     queries: &mut [QueryPoint<I>],
 )
-    requires in_range { All (All (IsWithin I.least I.greatest)) (contours_of I.value contours.now) }
-    requires ready { AreReady I.least I.greatest I.value queries.old }
+    requires in_range { All (All (IsWithin I.least I.greatest)) (contours_of contours.now) }
+    requires ready { AreReady I.least I.greatest queries.old }
     requires even { All (λ q. q.is_odd ≡ false) queries.old }
-    ensures { queries.new ≡ map (located I.value (contours_of I.value contours.now)) queries.old }
+    ensures { queries.new ≡ map (located (contours_of contours.now)) queries.old }
 {
     let mut odd = no_places(queries);
     for contour in contours {
@@ -102,7 +106,7 @@ fn no_places<I: OverlayInt>(queries: &[QueryPoint<I>]) -> Places
 // What is odd is found, and the next shape begins.
 fn end_shape<I: OverlayInt>(odd: Places, queries: &mut [QueryPoint<I>])
     requires { AreOddWithin odd.first odd.end queries.old }
-    ensures { queries.new ≡ map (located I.value []) queries.old }
+    ensures { queries.new ≡ map (located []) queries.old }
 {
     for place in odd.first..odd.end.min(queries.len()) {
         queries[place] = ended(queries[place]);
@@ -111,7 +115,7 @@ fn end_shape<I: OverlayInt>(odd: Places, queries: &mut [QueryPoint<I>])
 
 // A query once a shape has ended.
 fn ended<I: OverlayInt>(query: QueryPoint<I>) -> QueryPoint<I>
-    ensures { result ≡ located I.value [] query }
+    ensures { result ≡ located [] query }
 {
     QueryPoint {
         is_odd: false,
@@ -126,10 +130,10 @@ fn pass_contour<I: OverlayInt>(
     odd: Places,
     queries: &mut [QueryPoint<I>],
 ) -> Places
-    requires in_range { All (IsWithin I.least I.greatest) (points_of I.value points.now) }
-    requires ready { AreReady I.least I.greatest I.value queries.old }
+    requires in_range { All (IsWithin I.least I.greatest) points.now }
+    requires ready { AreReady I.least I.greatest queries.old }
     requires odd { AreOddWithin odd.first odd.end queries.old }
-    ensures is { queries.new ≡ map (passed I.value (contour_edges (points_of I.value points.now))) queries.old }
+    ensures is { queries.new ≡ map (passed (contour_edges points.now)) queries.old }
     ensures odd { AreOddWithin result.first result.end queries.new }
 {
     let mut odd = odd;
@@ -141,10 +145,10 @@ fn pass_contour<I: OverlayInt>(
 
 // Turns the parity of the points that the edge passes below: they lie in its column.
 fn pass_edge<I: OverlayInt>(edge: XSegment<I>, odd: Places, queries: &mut [QueryPoint<I>]) -> Places
-    requires in_range { IsEdgeWithin I.least I.greatest (edge_of I.value edge) }
-    requires ready { AreReady I.least I.greatest I.value queries.old }
+    requires in_range { IsEdgeWithin I.least I.greatest edge }
+    requires ready { AreReady I.least I.greatest queries.old }
     requires odd { AreOddWithin odd.first odd.end queries.old }
-    ensures is { queries.new ≡ map (passed I.value (edge_of I.value edge ∷ [])) queries.old }
+    ensures is { queries.new ≡ map (passed (edge ∷ [])) queries.old }
     ensures odd { AreOddWithin result.first result.end queries.new }
 {
     let first = first_from(edge.a, queries);
@@ -160,21 +164,21 @@ fn pass_edge<I: OverlayInt>(edge: XSegment<I>, odd: Places, queries: &mut [Query
 
 // The place of the first query that doesn't lie left of a point.
 fn first_from<I: OverlayInt>(start: IntPoint<I>, queries: &[QueryPoint<I>]) -> usize
-    requires { AreReady I.least I.greatest I.value queries.now }
+    requires { AreReady I.least I.greatest queries.now }
     ensures within { result ≤ length queries.now }
-    ensures left { (n : _) (d : _) → n < result → I.value (slice_index_or queries.now n d).point.x <ℤ I.value start.x }
-    ensures right { (n : _) (d : _) → result ≤ n → n < length queries.now → I.value start.x ≤ℤ I.value (slice_index_or queries.now n d).point.x }
+    ensures left { (n : _) (d : _) → n < result → (slice_index_or queries.now n d).point.x <ℤ start.x }
+    ensures right { (n : _) (d : _) → result ≤ n → n < length queries.now → start.x ≤ℤ (slice_index_or queries.now n d).point.x }
 {
     queries.partition_point(|query: &QueryPoint<I>| query.point.x.to_i64() < start.x.to_i64())
 }
 
 // A query in an edge's column, its parity turned if the edge passes below the point.
 fn turned<I: OverlayInt>(edge: XSegment<I>, query: QueryPoint<I>) -> QueryPoint<I>
-    requires in_range { IsEdgeWithin I.least I.greatest (edge_of I.value edge) }
-    requires point_in_range { IsWithin I.least I.greatest (point_of I.value query.point) }
-    requires from { I.value edge.a.x ≤ℤ I.value query.point.x }
-    requires up_to { I.value query.point.x <ℤ I.value edge.b.x }
-    ensures { result ≡ passed I.value (edge_of I.value edge ∷ []) query }
+    requires in_range { IsEdgeWithin I.least I.greatest edge }
+    requires point_in_range { IsWithin I.least I.greatest query.point }
+    requires from { edge.a.x ≤ℤ query.point.x }
+    requires up_to { query.point.x <ℤ edge.b.x }
+    ensures { result ≡ passed (edge ∷ []) query }
 {
     if orientation(edge.a, edge.b, query.point).is_le() {
         return query;
@@ -192,8 +196,8 @@ pub(crate) fn answers<I: OverlayInt>(
     queries: &[QueryPoint<I>],
 ) -> Result<Vec<bool>, Fault>
     requires { AnswerEach points.now queries.now }
-    ensures is { (inside : RationalPoint → Bool) → All (λ q. q.is_found ≡ inside (place_of I.value q)) queries.now →
-        IfOk result (λ found. found.items ≡ map (λ p. inside (whole p)) (points_of I.value points.now)) }
+    ensures is { (inside : RationalPoint → Bool) → All (λ q. q.is_found ≡ inside (place_of q)) queries.now →
+        IfOk result (λ found. found.items ≡ map (λ p. inside (whole p)) points.now) }
     ensures memory { IsOkUnless result Fault.Memory }
 {
     let mut found = vec![in alloc; false; points.len()]?;

@@ -5,7 +5,6 @@ ghost use Rattle.std.specs.Prelude.{◌≡◌, All, IfOk, IsOkUnless, map};
 ghost use Rattle.std.specs.List.{AllZip};
 ghost use Rattle.plane_base.specs.GivenViews.{contours_of};
 ghost use Rattle.plane_base.specs.Plane.{IsWithin};
-ghost use Rattle.plane_base.specs.Views.{points_of};
 ghost use Rattle.segment_arrangement.specs.FanLaws.{whole};
 ghost use Rattle.contour_walk.specs.ShapeViews.{shapes_of};
 ghost use Rattle.polygon_overlay.specs.Location.{in_contour, in_shape, in_shapes};
@@ -33,9 +32,9 @@ pub(super) fn contour_located<I: OverlayInt>(
     contour: &[IntPoint<I>],
     points: &[IntPoint<I>],
 ) -> Result<Vec<bool>, Fault>
-    requires in_range { All (IsWithin I.least I.greatest) (points_of I.value contour.now) }
-    requires points_in_range { All (IsWithin I.least I.greatest) (points_of I.value points.now) }
-    ensures located { IfOk result (λ inside. inside.items ≡ map (λ p. in_contour (points_of I.value contour.now) (whole p)) (points_of I.value points.now)) }
+    requires in_range { All (IsWithin I.least I.greatest) contour.now }
+    requires points_in_range { All (IsWithin I.least I.greatest) points.now }
+    ensures located { IfOk result (λ inside. inside.items ≡ map (λ p. in_contour contour.now (whole p)) points.now) }
     ensures memory { IsOkUnless result Fault.Memory }
 {
     if contour.len() < FEWEST_EDGES {
@@ -54,10 +53,10 @@ fn contour_by_stretches<I: OverlayInt>(
     outline: &Outline<I>,
     points: &[IntPoint<I>],
 ) -> Result<Vec<bool>, Fault>
-    requires in_range { All (IsWithin I.least I.greatest) (points_of I.value contour.now) }
-    requires points_in_range { All (IsWithin I.least I.greatest) (points_of I.value points.now) }
-    requires outlined { IsOutlined I.value (points_of I.value contour.now) outline.now }
-    ensures located { IfOk result (λ inside. inside.items ≡ map (λ p. in_contour (points_of I.value contour.now) (whole p)) (points_of I.value points.now)) }
+    requires in_range { All (IsWithin I.least I.greatest) contour.now }
+    requires points_in_range { All (IsWithin I.least I.greatest) points.now }
+    requires outlined { IsOutlined I.value contour.now outline.now }
+    ensures located { IfOk result (λ inside. inside.items ≡ map (λ p. in_contour contour.now (whole p)) points.now) }
     ensures memory { IsOkUnless result Fault.Memory }
 {
     let mut inside = Vec::with_capacity(alloc, points.len())?;
@@ -76,9 +75,9 @@ pub(super) fn shape_located<I: OverlayInt>(
     contours: &[IntContour<I>],
     points: &[IntPoint<I>],
 ) -> Result<Vec<bool>, Fault>
-    requires in_range { All (All (IsWithin I.least I.greatest)) (contours_of I.value contours.now) }
-    requires points_in_range { All (IsWithin I.least I.greatest) (points_of I.value points.now) }
-    ensures located { IfOk result (λ inside. inside.items ≡ map (λ p. in_shape (contours_of I.value contours.now) (whole p)) (points_of I.value points.now)) }
+    requires in_range { All (All (IsWithin I.least I.greatest)) (contours_of contours.now) }
+    requires points_in_range { All (IsWithin I.least I.greatest) points.now }
+    ensures located { IfOk result (λ inside. inside.items ≡ map (λ p. in_shape (contours_of contours.now) (whole p)) points.now) }
     ensures memory { IsOkUnless result Fault.Memory }
 {
     let edges = count_edges(contours);
@@ -98,10 +97,10 @@ fn shape_by_stretches<I: OverlayInt>(
     outlines: &[Outline<I>],
     points: &[IntPoint<I>],
 ) -> Result<Vec<bool>, Fault>
-    requires in_range { All (All (IsWithin I.least I.greatest)) (contours_of I.value contours.now) }
-    requires points_in_range { All (IsWithin I.least I.greatest) (points_of I.value points.now) }
-    requires outlined { AllZip (IsOutlined I.value) (contours_of I.value contours.now) outlines.now }
-    ensures located { IfOk result (λ inside. inside.items ≡ map (λ p. in_shape (contours_of I.value contours.now) (whole p)) (points_of I.value points.now)) }
+    requires in_range { All (All (IsWithin I.least I.greatest)) (contours_of contours.now) }
+    requires points_in_range { All (IsWithin I.least I.greatest) points.now }
+    requires outlined { AllZip (IsOutlined I.value) (contours_of contours.now) outlines.now }
+    ensures located { IfOk result (λ inside. inside.items ≡ map (λ p. in_shape (contours_of contours.now) (whole p)) points.now) }
     ensures memory { IsOkUnless result Fault.Memory }
 {
     let mut inside = Vec::with_capacity(alloc, points.len())?;
@@ -120,9 +119,9 @@ pub(super) fn shapes_located<I: OverlayInt>(
     shapes: &[IntShape<I>],
     points: &[IntPoint<I>],
 ) -> Result<Vec<bool>, Fault>
-    requires in_range { All (All (All (IsWithin I.least I.greatest))) (shapes_of I.value shapes.now) }
-    requires points_in_range { All (IsWithin I.least I.greatest) (points_of I.value points.now) }
-    ensures located { IfOk result (λ inside. inside.items ≡ map (λ p. in_shapes (shapes_of I.value shapes.now) (whole p)) (points_of I.value points.now)) }
+    requires in_range { All (All (All (IsWithin I.least I.greatest))) (shapes_of shapes.now) }
+    requires points_in_range { All (IsWithin I.least I.greatest) points.now }
+    ensures located { IfOk result (λ inside. inside.items ≡ map (λ p. in_shapes (shapes_of shapes.now) (whole p)) points.now) }
     ensures memory { IsOkUnless result Fault.Memory }
 {
     let edges = count_edges_of_shapes(shapes);
@@ -142,10 +141,10 @@ fn shapes_by_stretches<I: OverlayInt>(
     index: &ShapeIndex<I>,
     points: &[IntPoint<I>],
 ) -> Result<Vec<bool>, Fault>
-    requires in_range { All (All (All (IsWithin I.least I.greatest))) (shapes_of I.value shapes.now) }
-    requires points_in_range { All (IsWithin I.least I.greatest) (points_of I.value points.now) }
-    requires indexed { IsIndexed I.value (shapes_of I.value shapes.now) index.now }
-    ensures located { IfOk result (λ inside. inside.items ≡ map (λ p. in_shapes (shapes_of I.value shapes.now) (whole p)) (points_of I.value points.now)) }
+    requires in_range { All (All (All (IsWithin I.least I.greatest))) (shapes_of shapes.now) }
+    requires points_in_range { All (IsWithin I.least I.greatest) points.now }
+    requires indexed { IsIndexed I.value (shapes_of shapes.now) index.now }
+    ensures located { IfOk result (λ inside. inside.items ≡ map (λ p. in_shapes (shapes_of shapes.now) (whole p)) points.now) }
     ensures memory { IsOkUnless result Fault.Memory }
 {
     let mut inside = Vec::with_capacity(alloc, points.len())?;

@@ -9,7 +9,6 @@ ghost use Rattle.std.specs.Prelude.{◌≡◌, ◌≤◌, ◌<◌, ◌+◌, true
 ghost use Rattle.std.specs.List.{AllZip};
 ghost use Rattle.plane_base.specs.Plane.{Point, IsWithin};
 ghost use Rattle.plane_base.specs.GivenViews.{contours_of};
-ghost use Rattle.plane_base.specs.Views.{point_of};
 ghost use Rattle.segment_split.specs.Groups.{LiesWithin};
 ghost use Rattle.segment_arrangement.specs.FanLaws.{whole};
 ghost use Rattle.contour_walk.specs.ShapeViews.{shapes_of};
@@ -23,7 +22,7 @@ use crate::point_location::stretches::{
     FEW, Look, Stretch, differ, end_of, is_off, join_all, join_equals, runs_of,
 };
 use plane_base::fault::Fault;
-use plane_base::int::OverlayInt;
+use plane_base::int::{IntNumber, OverlayInt};
 use plane_base::path::{IntContour, IntShape};
 use plane_base::point::IntPoint;
 use std::alloc::Global;
@@ -31,7 +30,7 @@ use std::alloc::Global;
 /// The outlines of the contours of each shape; the shapes in their order; and the fields, stretches of them in it. Shapes behind the last field are
 /// looked at one by one: all of a few shapes, which have no fields.
 #[derive(Drop)]
-pub(crate) struct ShapeIndex<I> {
+pub(crate) struct ShapeIndex<I: IntNumber> {
     pub(crate) outlines: Vec<Vec<Outline<I>>>,
     pub(crate) order: Vec<Placed>,
     pub(crate) fields: Vec<Stretch<I>>,
@@ -51,7 +50,7 @@ pub(super) fn index_of<I: OverlayInt>(
     alloc: Global,
     shapes: &[IntShape<I>],
 ) -> Result<ShapeIndex<I>, Fault>
-    ensures indexed { IfOk result (IsIndexed I.value (shapes_of I.value shapes.now)) }
+    ensures indexed { IfOk result (IsIndexed I.value (shapes_of shapes.now)) }
     ensures memory { IsOkUnless result Fault.Memory }
 {
     let outlines = outlines_of_shapes(alloc, shapes)?;
@@ -68,7 +67,7 @@ fn outlines_of_shapes<I: OverlayInt>(
     alloc: Global,
     shapes: &[IntShape<I>],
 ) -> Result<Vec<Vec<Outline<I>>>, Fault>
-    ensures outlined { IfOk result (λ all. AreOutlined I.value (shapes_of I.value shapes.now) all.items) }
+    ensures outlined { IfOk result (λ all. AreOutlined I.value (shapes_of shapes.now) all.items) }
     ensures memory { IsOkUnless result Fault.Memory }
 {
     let mut all = Vec::with_capacity(alloc, shapes.len())?;
@@ -84,7 +83,7 @@ pub(super) fn outlines_of<I: OverlayInt>(
     alloc: Global,
     contours: &[IntContour<I>],
 ) -> Result<Vec<Outline<I>>, Fault>
-    ensures outlined { IfOk result (λ outlines. AllZip (IsOutlined I.value) (contours_of I.value contours.now) outlines.items) }
+    ensures outlined { IfOk result (λ outlines. AllZip (IsOutlined I.value) (contours_of contours.now) outlines.items) }
     ensures memory { IsOkUnless result Fault.Memory }
 {
     let mut outlines = Vec::with_capacity(alloc, contours.len())?;
@@ -236,10 +235,10 @@ pub(super) fn is_in_shape<I: OverlayInt>(
     outlines: &[Outline<I>],
     point: IntPoint<I>,
 ) -> bool
-    requires in_range { All (All (IsWithin I.least I.greatest)) (contours_of I.value contours.now) }
-    requires point_in_range { IsWithin I.least I.greatest (point_of I.value point) }
-    requires outlined { AllZip (IsOutlined I.value) (contours_of I.value contours.now) outlines.now }
-    ensures { result ≡ in_shape (contours_of I.value contours.now) (whole (point_of I.value point)) }
+    requires in_range { All (All (IsWithin I.least I.greatest)) (contours_of contours.now) }
+    requires point_in_range { IsWithin I.least I.greatest point }
+    requires outlined { AllZip (IsOutlined I.value) (contours_of contours.now) outlines.now }
+    ensures { result ≡ in_shape (contours_of contours.now) (whole point) }
 {
     let mut is_odd = false;
     for place in 0..contours.len() {
@@ -255,10 +254,10 @@ pub(super) fn is_in_shapes<I: OverlayInt>(
     index: &ShapeIndex<I>,
     point: IntPoint<I>,
 ) -> bool
-    requires in_range { All (All (All (IsWithin I.least I.greatest))) (shapes_of I.value shapes.now) }
-    requires point_in_range { IsWithin I.least I.greatest (point_of I.value point) }
-    requires indexed { IsIndexed I.value (shapes_of I.value shapes.now) index.now }
-    ensures { result ≡ in_shapes (shapes_of I.value shapes.now) (whole (point_of I.value point)) }
+    requires in_range { All (All (All (IsWithin I.least I.greatest))) (shapes_of shapes.now) }
+    requires point_in_range { IsWithin I.least I.greatest point }
+    requires indexed { IsIndexed I.value (shapes_of shapes.now) index.now }
+    ensures { result ≡ in_shapes (shapes_of shapes.now) (whole point) }
 {
     in_fields(shapes, &index.outlines, &index.order, &index.fields, point)
 }
@@ -270,13 +269,13 @@ fn in_fields<I: OverlayInt>(
     fields: &[Stretch<I>],
     point: IntPoint<I>,
 ) -> bool
-    requires in_range { All (All (All (IsWithin I.least I.greatest))) (shapes_of I.value shapes.now) }
-    requires point_in_range { IsWithin I.least I.greatest (point_of I.value point) }
-    requires outlined { AreOutlined I.value (shapes_of I.value shapes.now) outlines.now }
+    requires in_range { All (All (All (IsWithin I.least I.greatest))) (shapes_of shapes.now) }
+    requires point_in_range { IsWithin I.least I.greatest point }
+    requires outlined { AreOutlined I.value (shapes_of shapes.now) outlines.now }
     requires inside { All (λ s. s.number < length shapes.now) order.now }
     requires each { (n : ℕ) → n < length shapes.now → Contains (map number_of order.now) n }
-    requires fields { AreStretches I.value (points_by (shapes_of I.value shapes.now) order.now) fields.now }
-    ensures { result ≡ in_shapes (shapes_of I.value shapes.now) (whole (point_of I.value point)) }
+    requires fields { AreStretches I.value (points_by (shapes_of shapes.now) order.now) fields.now }
+    ensures { result ≡ in_shapes (shapes_of shapes.now) (whole point) }
 {
     if some_has(shapes, outlines, order, end_of(fields), order.len(), point) {
         return true;
@@ -301,18 +300,18 @@ fn look_at<I: OverlayInt>(
     number: usize,
     point: IntPoint<I>,
 ) -> Look
-    requires in_range { All (All (All (IsWithin I.least I.greatest))) (shapes_of I.value shapes.now) }
-    requires point_in_range { IsWithin I.least I.greatest (point_of I.value point) }
-    requires outlined { AreOutlined I.value (shapes_of I.value shapes.now) outlines.now }
+    requires in_range { All (All (All (IsWithin I.least I.greatest))) (shapes_of shapes.now) }
+    requires point_in_range { IsWithin I.least I.greatest point }
+    requires outlined { AreOutlined I.value (shapes_of shapes.now) outlines.now }
     requires inside { All (λ s. s.number < length shapes.now) order.now }
     requires within { field.end ≤ length order.now }
     requires boxed { (k : ℕ) (d : List Point) → field.first ≤ k → k < field.end
-        → All (LiesWithin (bounds_of I.value field.bounds)) (slice_index_or (points_by (shapes_of I.value shapes.now) order.now) k d) }
+        → All (LiesWithin (bounds_of I.value field.bounds)) (slice_index_or (points_by (shapes_of shapes.now) order.now) k d) }
     requires earlier { field.from ≤ number }
     ensures fewer { result.left ≤ number }
-    ensures found { result.is_so ≡ true → in_shapes (shapes_of I.value shapes.now) (whole (point_of I.value point)) ≡ true }
+    ensures found { result.is_so ≡ true → in_shapes (shapes_of shapes.now) (whole point) ≡ true }
     ensures looked { LooksPast number field (λ found. found ≡ false
-        → NoneContains (shapes_of I.value shapes.now) order.now (whole (point_of I.value point)) field.first field.end) result }
+        → NoneContains (shapes_of shapes.now) order.now (whole point) field.first field.end) result }
 {
     if is_off(field.bounds, point) {
         return Look {
@@ -342,13 +341,13 @@ fn some_has<I: OverlayInt>(
     end: usize,
     point: IntPoint<I>,
 ) -> bool
-    requires in_range { All (All (All (IsWithin I.least I.greatest))) (shapes_of I.value shapes.now) }
-    requires point_in_range { IsWithin I.least I.greatest (point_of I.value point) }
-    requires outlined { AreOutlined I.value (shapes_of I.value shapes.now) outlines.now }
+    requires in_range { All (All (All (IsWithin I.least I.greatest))) (shapes_of shapes.now) }
+    requires point_in_range { IsWithin I.least I.greatest point }
+    requires outlined { AreOutlined I.value (shapes_of shapes.now) outlines.now }
     requires inside { All (λ s. s.number < length shapes.now) order.now }
     requires within { end ≤ length order.now }
-    ensures found { result ≡ true → in_shapes (shapes_of I.value shapes.now) (whole (point_of I.value point)) ≡ true }
-    ensures none { result ≡ false → NoneContains (shapes_of I.value shapes.now) order.now (whole (point_of I.value point)) first end }
+    ensures found { result ≡ true → in_shapes (shapes_of shapes.now) (whole point) ≡ true }
+    ensures none { result ≡ false → NoneContains (shapes_of shapes.now) order.now (whole point) first end }
 {
     for place in first..end {
         let number = number_at(order, place);

@@ -7,14 +7,13 @@
 //! is sorted: n items have n / 4 stretches, made in linear time.
 
 ghost use Rattle.std.specs.Prelude.{◌≡◌, ◌≤◌, ◌<◌, ◌*◌, true, length, int_lt, OnOk, IsOkUnless};
-ghost use Rattle.plane_base.specs.Views.{point_of};
 ghost use Rattle.segment_arrangement.specs.EdgeSides.{differ};
 ghost use Rattle.polygon_overlay.specs.PointBoxes.{bounds_of};
 ghost use Rattle.polygon_overlay.specs.Stretches.{end_before, is_clear, is_off, is_outside, JoinsOn};
 
 use crate::point_box::{PointBox, is_less};
 use plane_base::fault::Fault;
-use plane_base::int::OverlayInt;
+use plane_base::int::{IntNumber, OverlayInt};
 use plane_base::point::IntPoint;
 
 /// Of so many items is the shortest stretch.
@@ -22,7 +21,7 @@ pub(super) const FEW: usize = 8;
 
 /// The items from the first up to the end, under their box. Its parts stand right before it, from a number on; where it has none, that is its own.
 #[derive(Clone, Copy)]
-pub(crate) struct Stretch<I> {
+pub(crate) struct Stretch<I: IntNumber> {
     pub(crate) bounds: PointBox<I>,
     pub(crate) first: usize,
     pub(crate) end: usize,
@@ -132,7 +131,7 @@ pub(super) fn opens<I: OverlayInt>(stretch: Stretch<I>, number: usize, point: In
 
 /// Whether no edge in the box passes below the point.
 pub(super) fn is_clear<I: OverlayInt>(bounds: PointBox<I>, point: IntPoint<I>) -> bool
-    ensures { result ≡ is_clear (bounds_of I.value bounds) (point_of I.value point) }
+    ensures { result ≡ is_clear (bounds_of I.value bounds) point }
 {
     let x = point.x;
     (is_less(x, bounds.left) || !is_less(x, bounds.right)) || !is_less(bounds.bottom, point.y)
@@ -140,21 +139,21 @@ pub(super) fn is_clear<I: OverlayInt>(bounds: PointBox<I>, point: IntPoint<I>) -
 
 /// Whether no contour in the box has the point inside.
 pub(super) fn is_off<I: OverlayInt>(bounds: PointBox<I>, point: IntPoint<I>) -> bool
-    ensures { result ≡ is_off (bounds_of I.value bounds) (point_of I.value point) }
+    ensures { result ≡ is_off (bounds_of I.value bounds) point }
 {
     is_clear(bounds, point) || is_under(bounds, point)
 }
 
 /// Whether the box lies below the point.
 pub(super) fn is_under<I: OverlayInt>(bounds: PointBox<I>, point: IntPoint<I>) -> bool
-    ensures { result ≡ int_lt (I.value bounds.top) (I.value point.y) }
+    ensures { result ≡ int_lt (I.value bounds.top) point.y }
 {
     is_less(bounds.top, point.y)
 }
 
 /// Whether the point lies outside of the box, on none of its sides.
 pub(super) fn is_outside<I: OverlayInt>(bounds: PointBox<I>, point: IntPoint<I>) -> bool
-    ensures { result ≡ is_outside (bounds_of I.value bounds) (point_of I.value point) }
+    ensures { result ≡ is_outside (bounds_of I.value bounds) point }
 {
     let x = point.x;
     let y = point.y;

@@ -1,7 +1,6 @@
 //! Queries whose contours are laid flat: the stages of `query`, without binding holes.
 
-ghost use Rattle.std.specs.Prelude.{◌≡◌, ◌<◌, ◌^◌, List, length, IfErr, OnOk, OnErr};
-ghost use Rattle.plane_base.specs.Counts.{Count, Entry};
+ghost use Rattle.std.specs.Prelude.{◌≡◌, ◌<◌, ◌^◌, length, IfErr, OnOk, OnErr};
 ghost use Rattle.segment_arrangement.specs.SideLaws.{IsArrangement};
 ghost use Rattle.segment_arrangement.specs.RuleViews.{fill_rule_of, overlay_rule_of};
 ghost use Rattle.segment_split.specs.Holdings.{holding, failed};
@@ -39,7 +38,7 @@ pub(crate) fn find_contours_into<I: OverlayInt, L: Ledger>(
     requires name { blank.name ≡ L.name }
     requires parts { blank.parts ≡ L.parts }
     requires two { blank.parts ≡ 2 }
-    ensures laid { LaysFlat I.value (flat_overlay_of query.options (fill_rule_of query.fill_rule) (overlay_rule_of query.overlay_rule)
+    ensures laid { LaysFlat (flat_overlay_of query.options (fill_rule_of query.fill_rule) (overlay_rule_of query.overlay_rule)
         query.solver.precision held.old.edges) output.new result }
     ensures redrawn { OnOk result (holding held.new ≡ record (holding held.old) { edges = redrawn_of query.solver.precision held.old.edges }) }
     ensures failed { OnErr result (holding held.new ≡ failed) }
@@ -61,7 +60,7 @@ pub(crate) fn contours_of_redrawn<I: OverlayInt>(
 ) -> Result<(), Fault>
     requires held { IsHeld I.least I.greatest held.old.edges }
     requires arrangement { IsArrangement held.old.edges }
-    ensures laid { LaysFlat I.value (flat_answer (answering_of query.options)
+    ensures laid { LaysFlat (flat_answer (answering_of query.options)
         (borders (fill_rule_of query.fill_rule) (overlay_rule_of query.overlay_rule) held.old.edges)) output.new result }
     ensures stays { OnOk result (holding held.new ≡ holding held.old) }
     ensures failed { OnErr result (holding held.new ≡ failed) }
@@ -85,12 +84,12 @@ fn contours_of_arrangement<I: OverlayInt>(
     buffer: &mut BooleanExtractionBuffer<I>,
     output: &mut FlatContoursBuffer<I>,
 ) -> Result<(), Fault>
-    requires in_range { AreWithin I.least I.greatest (entries_of I.value segments.now) }
-    requires arrangement { IsArrangement (entries_of I.value segments.now) }
+    requires in_range { AreWithin I.least I.greatest (entries_of segments.now) }
+    requires arrangement { IsArrangement (entries_of segments.now) }
     requires few { length segments.now < 2 ^ 31 }
-    ensures laid { LaysFlat I.value (flat_answer (answering_of query.options)
-        (borders (fill_rule_of query.fill_rule) (overlay_rule_of query.overlay_rule) (entries_of I.value segments.now))) output.new result }
-    ensures refused { IfErr result (IsSweepRefused (entries_of I.value segments.now)) }
+    ensures laid { LaysFlat (flat_answer (answering_of query.options)
+        (borders (fill_rule_of query.fill_rule) (overlay_rule_of query.overlay_rule) (entries_of segments.now))) output.new result }
+    ensures refused { IfErr result (IsSweepRefused (entries_of segments.now)) }
 {
     empty(output);
     let graph = graph_builder.build_boolean_overlay(

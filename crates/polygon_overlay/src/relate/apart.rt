@@ -4,9 +4,8 @@
 //! two, is told by their first points. It takes no memory, and a step or two for each point. Boxes that share a corner or a side aren't apart,
 //! though nothing may be filled there.
 
-ghost use Rattle.std.specs.Prelude.{◌≡◌, true, All, map};
+ghost use Rattle.std.specs.Prelude.{◌≡◌, true, All};
 ghost use Rattle.plane_base.specs.Plane.{IsWithin};
-ghost use Rattle.plane_base.specs.Views.{points_of};
 ghost use Rattle.polygon_overlay.specs.RelationLaws.{LieApart};
 ghost use Rattle.polygon_overlay.specs.Singles.{AreDisjoint};
 
@@ -25,9 +24,9 @@ pub fn lie_apart<I: OverlayInt, S: IntShapeResource<I>, C: IntShapeResource<I>>(
 ) -> bool
     requires subj_ready { S.is_ready subj.now }
     requires clip_ready { C.is_ready clip.now }
-    requires subj_in_range { All (All (IsWithin I.least I.greatest)) (map (points_of I.value) (S.paths subj.now)) }
-    requires clip_in_range { All (All (IsWithin I.least I.greatest)) (map (points_of I.value) (C.paths clip.now)) }
-    ensures { result ≡ true → AreDisjoint (map (points_of I.value) (S.paths subj.now)) (map (points_of I.value) (C.paths clip.now)) }
+    requires subj_in_range { All (All (IsWithin I.least I.greatest)) (S.paths subj.now) }
+    requires clip_in_range { All (All (IsWithin I.least I.greatest)) (C.paths clip.now) }
+    ensures { result ≡ true → AreDisjoint (S.paths subj.now) (C.paths clip.now) }
 {
     apart_is_disjoint();
     holding_goes_on();
@@ -91,9 +90,9 @@ fn are_beside<I: OverlayInt, S: IntShapeResource<I>, C: IntShapeResource<I>>(
 ) -> bool
     requires subj_ready { S.is_ready subj.now }
     requires clip_ready { C.is_ready clip.now }
-    requires subj_in_range { All (All (IsWithin I.least I.greatest)) (map (points_of I.value) (S.paths subj.now)) }
-    requires clip_in_range { All (All (IsWithin I.least I.greatest)) (map (points_of I.value) (C.paths clip.now)) }
-    ensures { result ≡ true → LieApart (map (points_of I.value) (S.paths subj.now)) (map (points_of I.value) (C.paths clip.now)) }
+    requires subj_in_range { All (All (IsWithin I.least I.greatest)) (S.paths subj.now) }
+    requires clip_in_range { All (All (IsWithin I.least I.greatest)) (C.paths clip.now) }
+    ensures { result ≡ true → LieApart (S.paths subj.now) (C.paths clip.now) }
 {
     if way < 0 {
         let clip_end = reach_of::<I, ToRight, C>(clip);
@@ -113,9 +112,9 @@ fn are_stacked<I: OverlayInt, S: IntShapeResource<I>, C: IntShapeResource<I>>(
 ) -> bool
     requires subj_ready { S.is_ready subj.now }
     requires clip_ready { C.is_ready clip.now }
-    requires subj_in_range { All (All (IsWithin I.least I.greatest)) (map (points_of I.value) (S.paths subj.now)) }
-    requires clip_in_range { All (All (IsWithin I.least I.greatest)) (map (points_of I.value) (C.paths clip.now)) }
-    ensures { result ≡ true → LieApart (map (points_of I.value) (S.paths subj.now)) (map (points_of I.value) (C.paths clip.now)) }
+    requires subj_in_range { All (All (IsWithin I.least I.greatest)) (S.paths subj.now) }
+    requires clip_in_range { All (All (IsWithin I.least I.greatest)) (C.paths clip.now) }
+    ensures { result ≡ true → LieApart (S.paths subj.now) (C.paths clip.now) }
 {
     if way < 0 {
         let clip_end = reach_of::<I, ToTop, C>(clip);

@@ -1,10 +1,9 @@
 //! Calls that make a builder, that add to it, and that take all out. Each contour is thinned. They take linear time.
 
-ghost use Rattle.std.specs.Prelude.{◌≡◌, List, All};
+ghost use Rattle.std.specs.Prelude.{List, All};
 ghost use Rattle.std.specs.Iterator.{IsFinite, Drains};
-ghost use Rattle.plane_base.specs.Plane.{IsWithin};
+ghost use Rattle.plane_base.specs.Plane.{Point, IsWithin};
 ghost use Rattle.plane_base.specs.Views.{points_of};
-ghost use Rattle.plane_base.specs.declared.point.IntPoint.{IntPoint};
 ghost use Rattle.segment_arrangement.specs.declared.fill_rule.FillRule.TheVariants.{EvenOdd};
 ghost use Rattle.polygon_overlay.specs.Builders.{default_solver};
 
@@ -48,9 +47,9 @@ impl<I: OverlayInt> PredicateOverlay<I> {
     ) -> Result<PredicateOverlay<I>, Fault>
         requires subj_ready { S.is_ready subj.now }
         requires clip_ready { C.is_ready clip.now }
-        requires subj_in_range { AreInRange I.least I.greatest (contours_of I.value (S.paths subj.now)) }
-        requires clip_in_range { AreInRange I.least I.greatest (contours_of I.value (C.paths clip.now)) }
-        ensures { MakesBoth EvenOdd default_solver (contours_of I.value (S.paths subj.now)) (contours_of I.value (C.paths clip.now)) result }
+        requires subj_in_range { AreInRange I.least I.greatest (contours_of (S.paths subj.now)) }
+        requires clip_in_range { AreInRange I.least I.greatest (contours_of (C.paths clip.now)) }
+        ensures { MakesBoth EvenOdd default_solver (contours_of (S.paths subj.now)) (contours_of (C.paths clip.now)) result }
     {
         PredicateOverlay::from_subj_and_clip_custom(
             alloc,
@@ -71,9 +70,9 @@ impl<I: OverlayInt> PredicateOverlay<I> {
     ) -> Result<PredicateOverlay<I>, Fault>
         requires subj_ready { S.is_ready subj.now }
         requires clip_ready { C.is_ready clip.now }
-        requires subj_in_range { AreInRange I.least I.greatest (contours_of I.value (S.paths subj.now)) }
-        requires clip_in_range { AreInRange I.least I.greatest (contours_of I.value (C.paths clip.now)) }
-        ensures { MakesBoth fill_rule solver (contours_of I.value (S.paths subj.now)) (contours_of I.value (C.paths clip.now)) result }
+        requires subj_in_range { AreInRange I.least I.greatest (contours_of (S.paths subj.now)) }
+        requires clip_in_range { AreInRange I.least I.greatest (contours_of (C.paths clip.now)) }
+        ensures { MakesBoth fill_rule solver (contours_of (S.paths subj.now)) (contours_of (C.paths clip.now)) result }
     {
         let mut overlay = PredicateOverlay::new(alloc, 0)?;
         overlay.fill_rule = fill_rule;
@@ -92,9 +91,9 @@ impl<I: OverlayInt> PredicateOverlay<I> {
     ) -> Result<(), Fault>
         requires subj_ready { S.is_ready subj.now }
         requires clip_ready { C.is_ready clip.now }
-        requires subj_in_range { AreInRange I.least I.greatest (contours_of I.value (S.paths subj.now)) }
-        requires clip_in_range { AreInRange I.least I.greatest (contours_of I.value (C.paths clip.now)) }
-        ensures { ReplacesBoth (contours_of I.value (S.paths subj.now)) (contours_of I.value (C.paths clip.now)) self.old self.new result }
+        requires subj_in_range { AreInRange I.least I.greatest (contours_of (S.paths subj.now)) }
+        requires clip_in_range { AreInRange I.least I.greatest (contours_of (C.paths clip.now)) }
+        ensures { ReplacesBoth (contours_of (S.paths subj.now)) (contours_of (C.paths clip.now)) self.old self.new result }
     {
         self.clear();
         self.add_source(subj, ShapeType::Subject)?;
@@ -115,8 +114,8 @@ impl<I: OverlayInt> PredicateOverlay<I> {
         contour: &[IntPoint<I>],
         shape_type: ShapeType,
     ) -> Result<(), Fault>
-        requires in_range { All (IsWithin I.least I.greatest) (points_of I.value contour.now) }
-        ensures { AddsContour shape_type (points_of I.value contour.now) self.old self.new result }
+        requires in_range { All (IsWithin I.least I.greatest) contour.now }
+        ensures { AddsContour shape_type contour.now self.old self.new result }
     {
         self.held
             .add_contour(contour, false, count_of_type(shape_type), ())
@@ -130,8 +129,8 @@ impl<I: OverlayInt> PredicateOverlay<I> {
     ) -> Result<(), Fault>
         requires can { It.can_next iter }
         requires ends { IsFinite (It.remaining iter) }
-        requires in_range { (points : List (IntPoint I)) → Drains It.next_gives iter points → All (IsWithin I.least I.greatest) (points_of I.value points) }
-        ensures { AddsPath shape_type (Drains It.next_gives iter) (points_of I.value) self.old self.new result }
+        requires in_range { (points : List Point) → Drains It.next_gives iter points → All (IsWithin I.least I.greatest) points }
+        ensures { AddsPath shape_type (Drains It.next_gives iter) points_of self.old self.new result }
     {
         if self.held.has_failed() {
             return Err(Fault::Failed);
@@ -147,8 +146,8 @@ impl<I: OverlayInt> PredicateOverlay<I> {
         shape_type: ShapeType,
     ) -> Result<(), Fault>
         requires ready { R.is_ready resource.now }
-        requires in_range { AreInRange I.least I.greatest (contours_of I.value (R.paths resource.now)) }
-        ensures { AddsSource shape_type (contours_of I.value (R.paths resource.now)) self.old self.new result }
+        requires in_range { AreInRange I.least I.greatest (contours_of (R.paths resource.now)) }
+        ensures { AddsSource shape_type (contours_of (R.paths resource.now)) self.old self.new result }
     {
         self.held
             .add_source(resource, false, count_of_type(shape_type), ())
@@ -161,8 +160,8 @@ impl<I: OverlayInt> PredicateOverlay<I> {
         shape_type: ShapeType,
     ) -> Result<(), Fault>
         requires ready { R.is_ready contours.now }
-        requires in_range { AreInRange I.least I.greatest (contours_of I.value (R.paths contours.now)) }
-        ensures { AddsSource shape_type (contours_of I.value (R.paths contours.now)) self.old self.new result }
+        requires in_range { AreInRange I.least I.greatest (contours_of (R.paths contours.now)) }
+        ensures { AddsSource shape_type (contours_of (R.paths contours.now)) self.old self.new result }
     {
         self.add_source(contours, shape_type)
     }
@@ -174,8 +173,8 @@ impl<I: OverlayInt> PredicateOverlay<I> {
         shape_type: ShapeType,
     ) -> Result<(), Fault>
         requires ready { R.is_ready shape.now }
-        requires in_range { AreInRange I.least I.greatest (contours_of I.value (R.paths shape.now)) }
-        ensures { AddsSource shape_type (contours_of I.value (R.paths shape.now)) self.old self.new result }
+        requires in_range { AreInRange I.least I.greatest (contours_of (R.paths shape.now)) }
+        ensures { AddsSource shape_type (contours_of (R.paths shape.now)) self.old self.new result }
     {
         self.add_source(shape, shape_type)
     }
@@ -187,8 +186,8 @@ impl<I: OverlayInt> PredicateOverlay<I> {
         shape_type: ShapeType,
     ) -> Result<(), Fault>
         requires ready { R.is_ready shapes.now }
-        requires in_range { AreInRange I.least I.greatest (contours_of I.value (R.paths shapes.now)) }
-        ensures { AddsSource shape_type (contours_of I.value (R.paths shapes.now)) self.old self.new result }
+        requires in_range { AreInRange I.least I.greatest (contours_of (R.paths shapes.now)) }
+        ensures { AddsSource shape_type (contours_of (R.paths shapes.now)) self.old self.new result }
     {
         self.add_source(shapes, shape_type)
     }

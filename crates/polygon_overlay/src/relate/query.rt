@@ -2,9 +2,8 @@
 //!
 //! After a predicate the redrawn segments are held. After a refusal nothing is held, and the builder answers `Failed` until it is cleared.
 
-ghost use Rattle.std.specs.Prelude.{◌≡◌, ◌&&◌, not, Bool, List, IfOk};
+ghost use Rattle.std.specs.Prelude.{◌≡◌, ◌&&◌, not, IfOk};
 ghost use Rattle.plane_base.specs.Regions.{Subject, Intersect, Difference};
-ghost use Rattle.segment_arrangement.specs.Graphs.{Link};
 ghost use Rattle.polygon_overlay.specs.Predicates.{intersects, interiors_intersect, touches, point_intersects, within, relations_of};
 
 use crate::laws::predicates_agree_with_overlays;

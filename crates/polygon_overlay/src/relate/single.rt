@@ -3,9 +3,8 @@
 //! Where the boxes of all points of the two share no point the answer is known at once: they are disjoint. It takes a step for each point, and
 //! saves the redrawing of both. Boxes that share a corner or a side, and all else, are asked by a builder.
 
-ghost use Rattle.std.specs.Prelude.{◌≡◌, All, IfOk, IfErr, map};
+ghost use Rattle.std.specs.Prelude.{All, IfOk, IfErr};
 ghost use Rattle.plane_base.specs.Plane.{IsWithin};
-ghost use Rattle.plane_base.specs.Views.{points_of};
 ghost use Rattle.polygon_overlay.specs.Predicates.{intersects, interiors_intersect, touches, point_intersects, within, disjoint, covers};
 ghost use Rattle.polygon_overlay.specs.Singles.{IsRelated, IsSingleRefused};
 
@@ -24,71 +23,71 @@ pub trait IntRelate<R: IntShapeResource<I>, I: OverlayInt>: IntShapeResource<I> 
     fn intersects(&self, alloc: Global, other: &R) -> Result<bool, Fault>
         requires subj_ready { Self.is_ready self.now }
         requires clip_ready { R.is_ready other.now }
-        requires subj_in_range { All (All (IsWithin I.least I.greatest)) (map (points_of I.value) (Self.paths self.now)) }
-        requires clip_in_range { All (All (IsWithin I.least I.greatest)) (map (points_of I.value) (R.paths other.now)) }
-        ensures is { IfOk result (IsRelated intersects (map (points_of I.value) (Self.paths self.now)) (map (points_of I.value) (R.paths other.now))) }
+        requires subj_in_range { All (All (IsWithin I.least I.greatest)) (Self.paths self.now) }
+        requires clip_in_range { All (All (IsWithin I.least I.greatest)) (R.paths other.now) }
+        ensures is { IfOk result (IsRelated intersects (Self.paths self.now) (R.paths other.now)) }
         ensures refused { IfErr result (IsSingleRefused
-            (map (points_of I.value) (Self.paths self.now)) (map (points_of I.value) (R.paths other.now))) };
+            (Self.paths self.now) (R.paths other.now)) };
 
     /// Whether their interiors have a point in common.
     fn interiors_intersect(&self, alloc: Global, other: &R) -> Result<bool, Fault>
         requires subj_ready { Self.is_ready self.now }
         requires clip_ready { R.is_ready other.now }
-        requires subj_in_range { All (All (IsWithin I.least I.greatest)) (map (points_of I.value) (Self.paths self.now)) }
-        requires clip_in_range { All (All (IsWithin I.least I.greatest)) (map (points_of I.value) (R.paths other.now)) }
-        ensures is { IfOk result (IsRelated interiors_intersect (map (points_of I.value) (Self.paths self.now)) (map (points_of I.value) (R.paths other.now))) }
+        requires subj_in_range { All (All (IsWithin I.least I.greatest)) (Self.paths self.now) }
+        requires clip_in_range { All (All (IsWithin I.least I.greatest)) (R.paths other.now) }
+        ensures is { IfOk result (IsRelated interiors_intersect (Self.paths self.now) (R.paths other.now)) }
         ensures refused { IfErr result (IsSingleRefused
-            (map (points_of I.value) (Self.paths self.now)) (map (points_of I.value) (R.paths other.now))) };
+            (Self.paths self.now) (R.paths other.now)) };
 
     /// Whether they intersect, and their interiors don't.
     fn touches(&self, alloc: Global, other: &R) -> Result<bool, Fault>
         requires subj_ready { Self.is_ready self.now }
         requires clip_ready { R.is_ready other.now }
-        requires subj_in_range { All (All (IsWithin I.least I.greatest)) (map (points_of I.value) (Self.paths self.now)) }
-        requires clip_in_range { All (All (IsWithin I.least I.greatest)) (map (points_of I.value) (R.paths other.now)) }
-        ensures is { IfOk result (IsRelated touches (map (points_of I.value) (Self.paths self.now)) (map (points_of I.value) (R.paths other.now))) }
+        requires subj_in_range { All (All (IsWithin I.least I.greatest)) (Self.paths self.now) }
+        requires clip_in_range { All (All (IsWithin I.least I.greatest)) (R.paths other.now) }
+        ensures is { IfOk result (IsRelated touches (Self.paths self.now) (R.paths other.now)) }
         ensures refused { IfErr result (IsSingleRefused
-            (map (points_of I.value) (Self.paths self.now)) (map (points_of I.value) (R.paths other.now))) };
+            (Self.paths self.now) (R.paths other.now)) };
 
     /// Whether they meet at ends of segments alone.
     fn point_intersects(&self, alloc: Global, other: &R) -> Result<bool, Fault>
         requires subj_ready { Self.is_ready self.now }
         requires clip_ready { R.is_ready other.now }
-        requires subj_in_range { All (All (IsWithin I.least I.greatest)) (map (points_of I.value) (Self.paths self.now)) }
-        requires clip_in_range { All (All (IsWithin I.least I.greatest)) (map (points_of I.value) (R.paths other.now)) }
-        ensures is { IfOk result (IsRelated point_intersects (map (points_of I.value) (Self.paths self.now)) (map (points_of I.value) (R.paths other.now))) }
+        requires subj_in_range { All (All (IsWithin I.least I.greatest)) (Self.paths self.now) }
+        requires clip_in_range { All (All (IsWithin I.least I.greatest)) (R.paths other.now) }
+        ensures is { IfOk result (IsRelated point_intersects (Self.paths self.now) (R.paths other.now)) }
         ensures refused { IfErr result (IsSingleRefused
-            (map (points_of I.value) (Self.paths self.now)) (map (points_of I.value) (R.paths other.now))) };
+            (Self.paths self.now) (R.paths other.now)) };
 
     /// Whether this one fills something, and the other fills all that it fills.
     fn within(&self, alloc: Global, other: &R) -> Result<bool, Fault>
         requires subj_ready { Self.is_ready self.now }
         requires clip_ready { R.is_ready other.now }
-        requires subj_in_range { All (All (IsWithin I.least I.greatest)) (map (points_of I.value) (Self.paths self.now)) }
-        requires clip_in_range { All (All (IsWithin I.least I.greatest)) (map (points_of I.value) (R.paths other.now)) }
-        ensures is { IfOk result (IsRelated within (map (points_of I.value) (Self.paths self.now)) (map (points_of I.value) (R.paths other.now))) }
+        requires subj_in_range { All (All (IsWithin I.least I.greatest)) (Self.paths self.now) }
+        requires clip_in_range { All (All (IsWithin I.least I.greatest)) (R.paths other.now) }
+        ensures is { IfOk result (IsRelated within (Self.paths self.now) (R.paths other.now)) }
         ensures refused { IfErr result (IsSingleRefused
-            (map (points_of I.value) (Self.paths self.now)) (map (points_of I.value) (R.paths other.now))) };
+            (Self.paths self.now) (R.paths other.now)) };
 
     /// Whether they have no point in common.
     fn disjoint(&self, alloc: Global, other: &R) -> Result<bool, Fault>
         requires subj_ready { Self.is_ready self.now }
         requires clip_ready { R.is_ready other.now }
-        requires subj_in_range { All (All (IsWithin I.least I.greatest)) (map (points_of I.value) (Self.paths self.now)) }
-        requires clip_in_range { All (All (IsWithin I.least I.greatest)) (map (points_of I.value) (R.paths other.now)) }
-        ensures is { IfOk result (IsRelated disjoint (map (points_of I.value) (Self.paths self.now)) (map (points_of I.value) (R.paths other.now))) }
+        requires subj_in_range { All (All (IsWithin I.least I.greatest)) (Self.paths self.now) }
+        requires clip_in_range { All (All (IsWithin I.least I.greatest)) (R.paths other.now) }
+        ensures is { IfOk result (IsRelated disjoint (Self.paths self.now) (R.paths other.now)) }
         ensures refused { IfErr result (IsSingleRefused
-            (map (points_of I.value) (Self.paths self.now)) (map (points_of I.value) (R.paths other.now))) };
+            (Self.paths self.now) (R.paths other.now)) };
 
     /// Whether the other is within this one.
     fn covers(&self, alloc: Global, other: &R) -> Result<bool, Fault>
         requires subj_ready { Self.is_ready self.now }
         requires clip_ready { R.is_ready other.now }
-        requires subj_in_range { All (All (IsWithin I.least I.greatest)) (map (points_of I.value) (Self.paths self.now)) }
-        requires clip_in_range { All (All (IsWithin I.least I.greatest)) (map (points_of I.value) (R.paths other.now)) }
-        ensures is { IfOk result (IsRelated covers (map (points_of I.value) (Self.paths self.now)) (map (points_of I.value) (R.paths other.now))) }
+        requires subj_in_range { All (All (IsWithin I.least I.greatest)) (Self.paths self.now) }
+        requires clip_in_range { All (All (IsWithin I.least I.greatest)) (R.paths other.now) }
+        ensures is { IfOk result (IsRelated covers (Self.paths self.now) (R.paths other.now)) }
         ensures refused { IfErr result (IsSingleRefused
-            (map (points_of I.value) (R.paths other.now)) (map (points_of I.value) (Self.paths self.now))) };
+            (R.paths other.now) (Self.paths self.now)) };
 }
 
 impl<S: IntShapeResource<I>, R: IntShapeResource<I>, I: OverlayInt> IntRelate<R, I> for S {

@@ -17,7 +17,7 @@ use std::alloc::Global;
 
 // Whether all coordinates are in range.
 pub(super) fn are_in_range<I: OverlayInt>(shapes: &[IntShape<I>]) -> bool
-    ensures { IsTrue result → All (All (IsWithin I.least I.greatest)) (all_contours (shapes_of I.value shapes.now)) }
+    ensures { IsTrue result → All (All (IsWithin I.least I.greatest)) (all_contours (shapes_of shapes.now)) }
 {
     for shape in shapes {
         if !all_contours_in_range(&shape.contours) {

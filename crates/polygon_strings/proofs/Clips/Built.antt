@@ -106,13 +106,6 @@ module _ (all rest : List Edge) (a b : Point) (more : List Point) where
   built_whole true ended = built_forward ended
   built_whole false ended = built_backward ended
 
--- what is seen of points that are turned round
-pub seen_turned : {X Y : Type 0} (f : X → Y) (forward : Bool) (xs : List X) → map f (cond forward xs (reverse xs)) ≡ cond forward (map f xs) (reverse (map f xs))
-seen_turned f true xs = refl
-seen_turned f false [] = refl
-seen_turned f false (x ∷ xs) =
-    ap (map f) (reverse_cons x xs) ∙ map-append f (reverse xs) (x ∷ []) ∙ ap (λ l. l ++ f x ∷ []) (seen_turned f false xs) ∙ sym (reverse_cons (f x) (map f xs))
-
 -- the points so far, seen when one more is pushed
 pub begun_more : (all old new : List Point) (p : Point) → BeginsWith all old → new ≡ old ++ p ∷ [] → BeginsWith all new
 begun_more all old new p h is = (h.0 ++ p ∷ [], is ∙ ap (λ l. l ++ p ∷ []) h.1 ∙ append_assoc all h.0 (p ∷ []))

@@ -12,8 +12,8 @@ use Rattle.polygon_strings.proofs.Clips.Nodes.{places}
 
 -- the edge of the link at a place
 pub edge_at : {I D : Type 0} (value : I → ℤ) (links : List (OverlayLink I D)) (i : ℕ) (link : OverlayLink I D) (d : Edge) → i < length links
-    → link ≡ get_or links i link → get_or (link_edges value links) i d ≡ link_edge_of value link
-edge_at value links i link d inside is = get_or-map (link_edge_of value) links i link d inside ∙ ap (link_edge_of value) (sym is)
+    → link ≡ get_or links i link → get_or (link_edges links) i d ≡ link_edge_of link
+edge_at value links i link d inside is = get_or-map link_edge_of links i link d inside ∙ ap link_edge_of (sym is)
 
 -- places are places of the list
 places_within : (n : ℕ) (q : Edge → Bool) (es : List Edge) → All (λ p. p < n + length es) (places_from n q es)
@@ -67,6 +67,6 @@ module _ {N : Type 0} (items : N → List ℕ) (edges : List Edge) (nodes : List
 
 -- at first each link has the steps of its lines
 pub steps_at_first : {I D : Type 0} (value : I → ℤ) (links : List (OverlayLink I D))
-    → steps_left (link_edges value links) (map (λ l. steps_of l.fill) links) ≡ flat_map link_steps (map (overlay_link_of value) links)
+    → steps_left (link_edges links) (map (λ l. steps_of l.fill) links) ≡ flat_map link_steps (map overlay_link_of links)
 steps_at_first value [] = refl
-steps_at_first value (l ∷ ls) = ap (λ rest. link_steps (overlay_link_of value l) ++ rest) (steps_at_first value ls)
+steps_at_first value (l ∷ ls) = ap (λ rest. link_steps (overlay_link_of l) ++ rest) (steps_at_first value ls)

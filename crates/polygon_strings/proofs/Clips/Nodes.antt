@@ -6,7 +6,7 @@ use Rattle.std.proofs.lemmas.Bool.{false≢true}
 use Rattle.std.proofs.lemmas.List.{get_or_default}
 use Rattle.std.proofs.lemmas.List.Elements.{All-nil, All-cons, All-append, All-weaker, All-contains, Contains-append_left, Contains-append_right}
 use Rattle.plane_base.specs.Plane.{Point, Edge, is_before, point_order}
-use Rattle.plane_base.proofs.Facts.Points.Orders.{point_total, point_equal, point_itself, is_equal, before_is_less, less_apart}
+use Rattle.plane_base.proofs.Facts.Points.Orders.{point_total, point_itself, before_is_less, less_apart}
 use Rattle.segment_arrangement.specs.Graphs.{places_from, node_at}
 use Rattle.contour_walk.specs.Walks.{same_point, is_same}
 use Rattle.polygon_strings.specs.ClipWalks.{step_along, is_left, is_left_from, none_left, steps_left}

@@ -1,5 +1,5 @@
 -- The loops of walks along halves can be bound: two of their edges meet in common ends alone, or lie on the two sides of one edge.
-use Rattle.std.proofs.Common.{◌≡◌, ◌≢◌, ◌⊎◌, inl, inr, ℕ, zero, suc, ℤ, Bool, true, false, not, cond, List, [], ◌∷◌, ◌++◌, map, flat_map, filter, All, AllPairs, Contains, IsPermutation, refl, sym, ap, ap₂, ◌∙◌, subst, append_assoc, append-nil}
+use Rattle.std.proofs.Common.{◌≡◌, ◌⊎◌, inl, inr, ℕ, zero, suc, ℤ, Bool, true, false, not, cond, List, [], ◌∷◌, ◌++◌, map, flat_map, filter, All, IsPermutation, refl, sym, ap, ap₂, ◌∙◌, subst, append_assoc}
 use Rattle.std.proofs.lemmas.Bool.{false≢true}
 use Rattle.std.proofs.lemmas.List.Concat.{flat_map-append}
 use Rattle.std.proofs.lemmas.List.Elements.{All-append, All-map, All-filter}
@@ -12,14 +12,14 @@ use Rattle.contour_walk.specs.JoinedHoles.{as_bound, as_hole, contours_among, Me
 use Rattle.contour_walk.specs.Loops.{loops, is_long, long_loops}
 use Rattle.contour_walk.specs.LoopLaws.{LoopsKeepSteps}
 use Rattle.contour_walk.specs.ShapeViews.{ContoursAreWithin}
-use Rattle.contour_walk.specs.Walks.{Border, Contour, between, same_edge, is_same}
+use Rattle.contour_walk.specs.Walks.{Border, Contour, same_edge, is_same}
 use Rattle.contour_walk.specs.WalkLaws.{step_along, contour_steps, PassAll}
 use Rattle.contour_walk.proofs.Facts.Walks.Turns.{Has}
 use Rattle.contour_walk.proofs.Facts.Walks.Rings.{Each, Pairs, each_has, each_from_has, has_append_left, has_append_right}
 use Rattle.contour_walk.proofs.Facts.Walks.Fans.{pairs_append, pairs_map}
-use Rattle.contour_walk.proofs.Walks.Members.{each_from_all, all_from_each, all_pairs_from, contains_from_has, has_from_contains, has_permutation, has_append_cases, has_map, has_map_from}
+use Rattle.contour_walk.proofs.Walks.Members.{each_from_all, all_from_each, all_pairs_from, contains_from_has, has_permutation, has_append_cases, has_map_from}
 use Rattle.contour_walk.proofs.Walks.Links.{same_edge_itself, same_edge_back, filter_from}
-use Rattle.polygon_strings.specs.Slices.{is_outline, pieces}
+use Rattle.polygon_strings.specs.Slices.{is_outline}
 use Rattle.polygon_strings.specs.SliceWalks.{as_owned, AreApart}
 use Rattle.polygon_strings.proofs.NextHalves.{has_flat_map, has_flat_map_from}
 use Rattle.polygon_strings.proofs.Clips.Paths.{not_before, between_itself}

@@ -1,15 +1,14 @@
 -- The steps of halves by the flags of their links.
-use Rattle.std.proofs.Common.{◌≡◌, ◌≢◌, ◌⊎◌, inl, inr, ℕ, zero, suc, ◌+◌, ◌<◌, ℤ, Bool, true, false, not, cond, List, [], ◌∷◌, ◌++◌, map, flat_map, length, get_or, All, AllPairs, Contains, IsPermutation, Less, refl, sym, ap, ◌∙◌, subst, arith}
+use Rattle.std.proofs.Common.{◌≡◌, ◌≢◌, ◌⊎◌, inl, inr, ℕ, ◌<◌, ℤ, Bool, true, false, cond, List, [], ◌∷◌, ◌++◌, map, length, get_or, All, AllPairs, Contains, IsPermutation, Less, refl, sym, ap, ◌∙◌, subst, arith}
 use Rattle.std.proofs.lemmas.Bool.{false≢true, cases_order}
 use Rattle.std.proofs.lemmas.List.{map-append, get_or_default}
 use Rattle.std.proofs.lemmas.List.Elements.{All-contains}
 use Rattle.std.proofs.lemmas.List.Sorted.{IsPermutation-refl, IsPermutation-trans, IsPermutation-append_left, IsPermutation-append_right, IsPermutation-append_comm, IsPermutation-sym, Contains-permutation}
-use Rattle.plane_base.specs.Plane.{Point, Edge, is_before, edge_order}
+use Rattle.plane_base.specs.Plane.{Edge, is_before, edge_order}
 use Rattle.plane_base.proofs.Facts.Points.Orders.{edge_total, less_apart}
 use Rattle.segment_arrangement.specs.Graphs.{Link}
 use Rattle.segment_arrangement.specs.LinkViews.{overlay_link_of}
 use Rattle.segment_arrangement.specs.declared.link.OverlayLink.{OverlayLink}
-use Rattle.contour_walk.specs.Walks.{Border}
 use Rattle.contour_walk.specs.WalkLaws.{step_along}
 use Rattle.polygon_strings.specs.Clips.{turned}
 use Rattle.polygon_strings.specs.ClipWalks.{link_edges, is_left, none_left, steps_along, steps_left}
@@ -44,14 +43,14 @@ one_link true l = by (has_half true l.fill) (has_half false l.fill)
 
 -- at first each link has the steps of its halves
 pub steps_at_first : {I : Type 0} (value : I → ℤ) (output : Bool) (links : List (OverlayLink I (Unit {0})))
-    → IsPermutation (half_steps output (map (overlay_link_of value) links)) (steps_left (link_edges value links) (map (λ l. half_steps_of output l.fill) links))
+    → IsPermutation (half_steps output (map overlay_link_of links)) (steps_left (link_edges links) (map (λ l. half_steps_of output l.fill) links))
 steps_at_first value output [] = IsPermutation-refl []
 steps_at_first value output (l ∷ ls) =
-    let one = overlay_link_of value l in
-    let rest = half_steps output (map (overlay_link_of value) ls) in
-    let left = steps_left (link_edges value ls) (map (λ l. half_steps_of output l.fill) ls) in
+    let one = overlay_link_of l in
+    let rest = half_steps output (map overlay_link_of ls) in
+    let left = steps_left (link_edges ls) (map (λ l. half_steps_of output l.fill) ls) in
     subst (λ steps. IsPermutation steps (steps_along one.edge (half_steps_of output one.fill) ++ left))
-    (sym (map-append (step_along output) (halves_of_link one) (halves_along (map (overlay_link_of value) ls))))
+    (sym (map-append (step_along output) (halves_of_link one) (halves_along (map overlay_link_of ls))))
     (IsPermutation-trans (map (step_along output) (halves_of_link one) ++ rest) (steps_along one.edge (half_steps_of output one.fill) ++ rest)
     (steps_along one.edge (half_steps_of output one.fill) ++ left)
     (IsPermutation-append_left rest (map (step_along output) (halves_of_link one)) (steps_along one.edge (half_steps_of output one.fill)) (one_link output one))

@@ -1,24 +1,19 @@
 -- From each step of a half a walk goes on by one step, and from no two by the same.
-use Rattle.std.proofs.Common.{◌≡◌, ◌≢◌, ◌⊎◌, inl, inr, Bool, true, false, not, cond, List, [], ◌∷◌, ◌++◌, map, flat_map, filter, All, AllPairs, Contains, Some, refl, sym, ap, ◌∙◌, subst, Less}
-use Rattle.std.proofs.lemmas.Bool.{false≢true}
-use Rattle.std.proofs.lemmas.List.Elements.{All-nil}
-use Rattle.plane_base.specs.Plane.{Point, Edge, is_before, edge_order}
+use Rattle.std.proofs.Common.{◌≡◌, ◌⊎◌, inl, inr, Bool, true, false, not, cond, List, map, Contains, refl, sym, ap, ◌∙◌, subst}
+use Rattle.plane_base.specs.Plane.{Point, Edge}
 use Rattle.plane_base.specs.Counts.{Count, Entry}
 use Rattle.plane_base.specs.Regions.{FillRule}
-use Rattle.plane_base.specs.Segments.{parted}
-use Rattle.plane_base.proofs.Facts.Points.Orders.{edge_total, point_total, before_is_less, less_apart, greater_from_less}
 use Rattle.segment_split.specs.Strings.{StringCount}
-use Rattle.segment_arrangement.specs.FanLaws.{whole, starts_at}
 use Rattle.segment_arrangement.specs.Rings.{IsRing, PointsHaveRings, SectorsAreWhole}
 use Rattle.segment_arrangement.specs.SideLaws.{IsArrangement}
 use Rattle.segment_arrangement.specs.Strings.{subject_of}
-use Rattle.contour_walk.specs.Walks.{Border, same_edge, touches, far_end, is_same}
+use Rattle.contour_walk.specs.Walks.{Border, is_same}
 use Rattle.contour_walk.specs.WalkLaws.{step_along}
 use Rattle.contour_walk.proofs.Facts.Walks.Turns.{Has}
 use Rattle.contour_walk.proofs.Walks.Members.{contains_from_has, has_from_contains, has_map, has_map_from}
 use Rattle.polygon_strings.specs.Slices.{halves}
 use Rattle.polygon_strings.specs.SliceWalks.{points_round, IsMetFirst, GoesOnBy}
-use Rattle.polygon_strings.proofs.NextHalves.{next_half, came_once, GoesOn, Joins}
+use Rattle.polygon_strings.proofs.NextHalves.{next_half, came_once, GoesOn}
 
 -- the edge of a half whose step goes from one point to another
 pub step_joins : (output : Bool) (b : Border) (x y : Point) → step_along output b ≡ record { a = x; b = y } → ((b.edge.a ≡ y) × (b.edge.b ≡ x)) ⊎ ((b.edge.a ≡ x) × (b.edge.b ≡ y))

@@ -11,8 +11,7 @@ use Rattle.segment_arrangement.specs.Rings.{PointsHaveRings, SectorsAreWhole}
 use Rattle.segment_arrangement.specs.SideLaws.{IsArrangement}
 use Rattle.segment_arrangement.specs.Strings.{subject_alone, subject_of, string_link_of, all_string_links}
 use Rattle.segment_arrangement.specs.declared.link.OverlayLink.{OverlayLink}
-use Rattle.polygon_strings.specs.ClipWalks.{link_edges, IsWalkable}
-use Rattle.polygon_strings.specs.Slices.{halves}
+use Rattle.polygon_strings.specs.ClipWalks.{link_edges}
 use Rattle.polygon_strings.specs.SliceWalks.{halves_along, half_steps, GoesOnBy, IsSliceable, AreApart}
 use Rattle.std.proofs.lemmas.List.Elements.{All-map}
 use Rattle.polygon_strings.proofs.ArrangementLaws.{pairs_map}
@@ -21,29 +20,29 @@ use Rattle.polygon_strings.proofs.Slicing.Apart.{halves_apart}
 use Rattle.polygon_strings.proofs.Slicing.Following.{goes_on, goes_on_once}
 
 module _ {I : Type 0} (value : I → ℤ) (least greatest : ℤ) (output : Bool) (fill : FillRule) (es : List (Entry StringCount)) (links : List (OverlayLink I (Unit {0})))
-    (arranged : IsArrangement (subject_of es)) (is : map (overlay_link_of value) links ≡ all_string_links fill es) where
+    (arranged : IsArrangement (subject_of es)) (is : map overlay_link_of links ≡ all_string_links fill es) where
   abbrev alone : Entry StringCount → Entry Count
   alone e = record { edge = e.edge; count = subject_alone e.count }
 
-  same_edges : map (λ (l : Link). l.edge) (map (string_link_of fill es) es) ≡ link_edges value links
+  same_edges : map (λ (l : Link). l.edge) (map (string_link_of fill es) es) ≡ link_edges links
   same_edges = sym (ap (map (λ (l : Link). l.edge)) is) ∙ edges_seen value links
 
-  directed : All (λ s. is_before s.a s.b ≡ true) (link_edges value links)
+  directed : All (λ s. is_before s.a s.b ≡ true) (link_edges links)
   directed =
       subst (All (λ s. is_before s.a s.b ≡ true)) same_edges
       (All-map (λ s. is_before s.a s.b ≡ true) (λ (l : Link). l.edge) (map (string_link_of fill es) es)
       (All-map (λ (l : Link). is_before l.edge.a l.edge.b ≡ true) (string_link_of fill es) es
       (all_unmap (λ (e : Entry Count). is_before e.edge.a e.edge.b ≡ true) alone es arranged.directed)))
 
-  rising : AllPairs (λ s t. edge_order s t ≡ Less) (link_edges value links)
+  rising : AllPairs (λ s t. edge_order s t ≡ Less) (link_edges links)
   rising =
       subst (AllPairs (λ s t. edge_order s t ≡ Less)) same_edges
       (pairs_map (λ s t. edge_order s t ≡ Less) (λ (l : Link). l.edge) (map (string_link_of fill es) es)
       (pairs_map (λ (l m : Link). edge_order l.edge m.edge ≡ Less) (string_link_of fill es) es
       (pairs_unmap (λ (e f : Entry Count). edge_order e.edge f.edge ≡ Less) alone es arranged.rising)))
 
-  pub sliceable : (lists : List (List ℕ)) → PointsHaveRings → SectorsAreWhole → AreLists (map (link_edge_of value) links) lists → AreNumbered value links
-      → All (λ l. IsEdgeWithin least greatest (link_edge_of value l)) links → IsSliceable value least greatest output links lists
+  pub sliceable : (lists : List (List ℕ)) → PointsHaveRings → SectorsAreWhole → AreLists (map link_edge_of links) lists → AreNumbered links
+      → All (λ l. IsEdgeWithin least greatest (link_edge_of l)) links → IsSliceable least greatest output links lists
   sliceable lists rings sectors joined numbers within = record {
     in_range = within;
     walkable = record { directed = directed; rising = rising; joined = joined; numbers = numbers };

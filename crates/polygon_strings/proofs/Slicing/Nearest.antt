@@ -1,7 +1,7 @@
 -- Of links at a node that have halves, that which is met first.
-use Rattle.std.proofs.Common.{◌≡◌, ℕ, zero, suc, ◌<◌, ℤ, Bool, true, false, cond, List, [], ◌∷◌, map, length, get_or, Contains, Option, Some, None, refl, sym, ap, ◌∙◌, arith}
+use Rattle.std.proofs.Common.{◌≡◌, ℕ, ◌<◌, ℤ, Bool, true, false, cond, List, ◌∷◌, map, length, get_or, Option, Some, None, refl, sym, ap, ◌∙◌, arith}
 use Rattle.std.proofs.lemmas.List.{get_or-map}
-use Rattle.plane_base.specs.Plane.{Point, Edge}
+use Rattle.plane_base.specs.Plane.{Point}
 use Rattle.segment_arrangement.specs.Graphs.{Link}
 use Rattle.segment_arrangement.specs.LinkViews.{overlay_link_of}
 use Rattle.segment_arrangement.specs.declared.link.OverlayLink.{OverlayLink}
@@ -12,9 +12,9 @@ use Rattle.segment_arrangement.proofs.Facts.GreatestEntry.{Contains-later}
 
 -- the link at a place, as the code reads it
 pub link_here : {I : Type 0} (value : I → ℤ) (links : List (OverlayLink I (Unit {0}))) (v : Point) (i : ℕ) (link : OverlayLink I (Unit {0})) → i < length links → link ≡ get_or links i link
-    → link_at v (map (overlay_link_of value) links) i ≡ overlay_link_of value link
+    → link_at v (map overlay_link_of links) i ≡ overlay_link_of link
 link_here value links v i link inside is =
-    get_or-map (overlay_link_of value) links i link (record { edge = record { a = v; b = v }; fill = 0 }) inside ∙ ap (overlay_link_of value) (sym is)
+    get_or-map overlay_link_of links i link (record { edge = record { a = v; b = v }; fill = 0 }) inside ∙ ap overlay_link_of (sym is)
 
 module _ (clockwise : Bool) (v from : Point) (links : List Link) (place : ℕ) (places : List ℕ) where
   abbrev pub far : ℕ → Point

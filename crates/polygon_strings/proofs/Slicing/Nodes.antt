@@ -1,6 +1,5 @@
 -- The link at a node by which a walk goes on.
-use Rattle.std.proofs.Common.{◌≡◌, ◌⊎◌, inl, inr, ℕ, zero, suc, ◌+◌, ◌<◌, ℤ, Bool, true, false, not, cond, ◌||◌, List, [], ◌∷◌, ◌++◌, map, flat_map, filter, length, get_or, All, Contains, Option, Some, None, refl, sym, ap, ◌∙◌, subst, arith}
-use Rattle.std.proofs.lemmas.Bool.{false≢true}
+use Rattle.std.proofs.Common.{◌≡◌, ◌⊎◌, inl, inr, ℕ, zero, suc, ◌<◌, ℤ, Bool, true, false, not, cond, ◌||◌, List, [], ◌∷◌, map, filter, length, get_or, All, Contains, Some, None, refl, sym, ap, ◌∙◌, subst, arith}
 use Rattle.std.proofs.lemmas.List.{get_or-map, get_or_default, length-map}
 use Rattle.std.proofs.lemmas.List.Elements.{All-contains}
 use Rattle.plane_base.specs.Plane.{Point, Edge, IsWithin, is_before}
@@ -14,13 +13,12 @@ use Rattle.contour_walk.specs.WalkLaws.{step_along}
 use Rattle.contour_walk.proofs.Facts.Walks.Turns.{Has}
 use Rattle.contour_walk.proofs.Facts.Walks.Rings.{each_has}
 use Rattle.contour_walk.proofs.Walks.Members.{each_from_all, contains_from_has, has_from_contains, has_map, has_map_from}
-use Rattle.contour_walk.proofs.Walks.Links.{same_point_is, same_point_itself, filter_has, joins_far}
-use Rattle.plane_base.specs.Views.{point_of}
+use Rattle.contour_walk.proofs.Walks.Links.{same_point_itself, filter_has, joins_far}
 use Rattle.plane_base.specs.declared.segment.IdPoint.{IdPoint}
 use Rattle.polygon_strings.specs.ClipWalks.{link_edges}
 use Rattle.polygon_strings.specs.ClipWalks as Clip
 use Rattle.polygon_strings.specs.Slices.{has_half, halves_of_link}
-use Rattle.polygon_strings.specs.SliceWalks.{halves_along, half_steps, points_round, IsMetFirst, GoesOnBy, link_at, has_halves, points_ahead, IsNextPlace}
+use Rattle.polygon_strings.specs.SliceWalks.{halves_along, half_steps, points_round, GoesOnBy, link_at, has_halves, points_ahead, IsNextPlace}
 use Rattle.polygon_strings.proofs.NextHalves.{has_flat_map, has_flat_map_from, half_of_link, half_from_link, met_first_is}
 use Rattle.polygon_strings.proofs.Clips.Nodes.{places, ends_at, stands_at, step_from}
 use Rattle.polygon_strings.proofs.Clips.Links.{places_inside}
@@ -67,22 +65,22 @@ some_half false fill h = or_second (has_half true fill) (has_half false fill) h
     or_second false y e = e
 
 module _ {I : Type 0} (value : I → ℤ) (links : List (OverlayLink I (Unit {0}))) (output : Bool) (v : Point)
-    (directed : All (λ s. is_before s.a s.b ≡ true) (link_edges value links)) where
+    (directed : All (λ s. is_before s.a s.b ≡ true) (link_edges links)) where
   abbrev pub seen : List Link
-  seen = map (overlay_link_of value) links
+  seen = map overlay_link_of links
 
   abbrev edges : List Edge
-  edges = link_edges value links
+  edges = link_edges links
 
   abbrev at_v : Edge
   at_v = record { a = v; b = v }
 
-  same_edges : {J : Type 0} (value : J → ℤ) (ls : List (OverlayLink J (Unit {0}))) → map (λ (l : Link). l.edge) (map (overlay_link_of value) ls) ≡ map (link_edge_of value) ls
+  same_edges : {J : Type 0} (value : J → ℤ) (ls : List (OverlayLink J (Unit {0}))) → map (λ (l : Link). l.edge) (map overlay_link_of ls) ≡ map link_edge_of ls
   same_edges value [] = refl
-  same_edges value (l ∷ ls) = ap (λ rest. link_edge_of value l ∷ rest) (same_edges value ls)
+  same_edges value (l ∷ ls) = ap (λ rest. link_edge_of l ∷ rest) (same_edges value ls)
 
   as_long : length seen ≡ length edges
-  as_long = sym (length-map (map (overlay_link_of value) links) (λ (l : Link). l.edge)) ∙ ap length (same_edges value links)
+  as_long = sym (length-map (map overlay_link_of links) (λ (l : Link). l.edge)) ∙ ap length (same_edges value links)
 
   pub edge_here : (i : ℕ) → i < length edges → (link_at v seen i).edge ≡ get_or edges i at_v
   edge_here i inside =
@@ -223,13 +221,13 @@ module _ {I : Type 0} (value : I → ℤ) (links : List (OverlayLink I (Unit {0}
 -- ---- ranges
 
 pub step_within : {I : Type 0} (value : I → ℤ) (least greatest : ℤ) (output : Bool) (links : List (OverlayLink I (Unit {0}))) (s : Edge)
-    → All (λ l. IsEdgeWithin least greatest (link_edge_of value l)) links → Contains (half_steps output (map (overlay_link_of value) links)) s
+    → All (λ l. IsEdgeWithin least greatest (link_edge_of l)) links → Contains (half_steps output (map overlay_link_of links)) s
     → IsWithin least greatest s.a × IsWithin least greatest s.b
 step_within value least greatest output links s within h =
-    by (has_map_from (step_along output) (halves_along (map (overlay_link_of value) links)) s (has_from_contains (half_steps output (map (overlay_link_of value) links)) s h))
+    by (has_map_from (step_along output) (halves_along (map overlay_link_of links)) s (has_from_contains (half_steps output (map overlay_link_of links)) s h))
   where
-    by : (k : Border) × Has (halves_along (map (overlay_link_of value) links)) k × (step_along output k ≡ s) → IsWithin least greatest s.a × IsWithin least greatest s.b
-    by (k, k_in, k_is) = of_link (has_flat_map_from halves_of_link (map (overlay_link_of value) links) k k_in)
+    by : (k : Border) × Has (halves_along (map overlay_link_of links)) k × (step_along output k ≡ s) → IsWithin least greatest s.a × IsWithin least greatest s.b
+    by (k, k_in, k_is) = of_link (has_flat_map_from halves_of_link (map overlay_link_of links) k k_in)
       where
         both : (l : Link) → k.edge ≡ l.edge → IsEdgeWithin least greatest l.edge → IsWithin least greatest s.a × IsWithin least greatest s.b
         both l same inside = subst (λ (t : Edge). IsWithin least greatest t.a × IsWithin least greatest t.b) k_is (either (is_same k.above output) (subst (IsEdgeWithin least greatest) (sym same) inside))
@@ -239,30 +237,30 @@ step_within value least greatest output links s within h =
             either true w = (w.1, w.0)
             either false w = w
 
-        of_link : (l : Link) × Has (map (overlay_link_of value) links) l × Has (halves_of_link l) k → IsWithin least greatest s.a × IsWithin least greatest s.b
-        of_link (l, l_in, half) = seen_as (has_map_from (overlay_link_of value) links l l_in)
+        of_link : (l : Link) × Has (map overlay_link_of links) l × Has (halves_of_link l) k → IsWithin least greatest s.a × IsWithin least greatest s.b
+        of_link (l, l_in, half) = seen_as (has_map_from overlay_link_of links l l_in)
           where
-            seen_as : (m : _) × Has links m × (overlay_link_of value m ≡ l) → IsWithin least greatest s.a × IsWithin least greatest s.b
+            seen_as : (m : _) × Has links m × (overlay_link_of m ≡ l) → IsWithin least greatest s.a × IsWithin least greatest s.b
             seen_as (m, m_in, m_is) =
                 both l (half_from_link l k half).0
                 (subst (λ (z : Link). IsEdgeWithin least greatest z.edge) m_is
-                (each_has (λ l. IsEdgeWithin least greatest (link_edge_of value l)) links m (each_from_all (λ l. IsEdgeWithin least greatest (link_edge_of value l)) links within) m_in))
+                (each_has (λ l. IsEdgeWithin least greatest (link_edge_of l)) links m (each_from_all (λ l. IsEdgeWithin least greatest (link_edge_of l)) links within) m_in))
 
 -- ---- a link's step
 
 pub link_step : {I : Type 0} (value : I → ℤ) (from_a : Bool) (link : OverlayLink I (Unit {0})) (start node : IdPoint I) → start ≡ cond from_a link.a link.b → node ≡ cond (not from_a) link.a link.b
-    → Clip.step_along from_a (link_edge_of value link) ≡ record { a = point_of value start.point; b = point_of value node.point }
-link_step value true link start node e f = λ i. record { a = point_of value (sym e i).point; b = point_of value (sym f i).point }
-link_step value false link start node e f = λ i. record { a = point_of value (sym e i).point; b = point_of value (sym f i).point }
+    → Clip.step_along from_a (link_edge_of link) ≡ record { a = start.point; b = node.point }
+link_step value true link start node e f = λ i. record { a = (sym e i).point; b = (sym f i).point }
+link_step value false link start node e f = λ i. record { a = (sym e i).point; b = (sym f i).point }
 
 -- the step of a link that leaves a point, by the end to which it leads
-pub step_to : {I : Type 0} (value : I → ℤ) (from_a : Bool) (link : OverlayLink I (Unit {0})) (node : IdPoint I) (v : Point) (s : Edge) (way : Bool) → s ≡ link_edge_of value link → from_a ≡ way
-    → node ≡ cond (not from_a) link.a link.b → (Clip.step_along way s).a ≡ v → Clip.step_along way s ≡ record { a = v; b = point_of value node.point }
+pub step_to : {I : Type 0} (value : I → ℤ) (from_a : Bool) (link : OverlayLink I (Unit {0})) (node : IdPoint I) (v : Point) (s : Edge) (way : Bool) → s ≡ link_edge_of link → from_a ≡ way
+    → node ≡ cond (not from_a) link.a link.b → (Clip.step_along way s).a ≡ v → Clip.step_along way s ≡ record { a = v; b = node.point }
 step_to value from_a link node v s way edge same is leaves =
-    let step = ap (Clip.step_along way) edge ∙ (ap (λ b. Clip.step_along b (link_edge_of value link)) (sym same) ∙ link_step value from_a link (cond from_a link.a link.b) node refl is) in
+    let step = ap (Clip.step_along way) edge ∙ (ap (λ b. Clip.step_along b (link_edge_of link)) (sym same) ∙ link_step value from_a link (cond from_a link.a link.b) node refl is) in
     λ i. record { a = leaves i; b = (step i).b }
 
 pub link_ends : {I : Type 0} (value : I → ℤ) (points : List Point) (link : OverlayLink I (Unit {0})) (is_a : Bool) (node : IdPoint I) → node ≡ cond is_a link.a link.b
-    → IsNumbered value points link.a × IsNumbered value points link.b → IsNumbered value points node
-link_ends value points link true node is h = subst (IsNumbered value points) (sym is) h.0
-link_ends value points link false node is h = subst (IsNumbered value points) (sym is) h.1
+    → IsNumbered points link.a × IsNumbered points link.b → IsNumbered points node
+link_ends value points link true node is h = subst (IsNumbered points) (sym is) h.0
+link_ends value points link false node is h = subst (IsNumbered points) (sym is) h.1

@@ -1,5 +1,5 @@
 -- Where a loop is left that is long, some loop runs as outlines do: one at the least point of them all, since below its lowest edge nothing is filled.
-use Rattle.std.proofs.Common.{◌≡◌, ◌≢◌, ◌⊎◌, inl, inr, ◌<◌, ◌≤◌, ◌/◌, nat_le, unsigned_abs, Bool, true, false, not, cond, List, [], ◌∷◌, map, flat_map, length, Option, Some, None, All, AllPairs, Contains, ℤ, pos, negsuc, zero, suc, neg_ℤ, ◌≤ℤ◌, ◌<ℤ◌, int_lt, Less, refl, sym, ap, ap₂, ◌∙◌, subst, arith}
+use Rattle.std.proofs.Common.{◌≡◌, ◌≢◌, ◌⊎◌, inl, inr, ◌≤◌, ◌/◌, nat_le, unsigned_abs, Bool, true, false, not, cond, List, [], ◌∷◌, map, flat_map, length, Option, Some, None, All, AllPairs, Contains, ℤ, pos, negsuc, zero, suc, neg_ℤ, ◌≤ℤ◌, ◌<ℤ◌, int_lt, Less, refl, sym, ap, ap₂, ◌∙◌, subst, arith}
 use Rattle.std.specs.List.{find}
 use Rattle.std.specs.Ordering.{is_lt, int_cmp}
 use Rattle.std.proofs.lemmas.Bool.{false≢true, and_parts, and_from}
@@ -28,7 +28,7 @@ use Rattle.contour_walk.specs.BindingLaws.{anchor_order}
 use Rattle.contour_walk.specs.JoinedHoles.{MeetOrOppose}
 use Rattle.contour_walk.specs.Loops.{loops, is_long, long_loops}
 use Rattle.contour_walk.specs.LoopLaws.{LoopsKeepSteps, LoopsRepeatNoPoint}
-use Rattle.contour_walk.specs.Walks.{Border, between, contour_edges, same_point, is_same}
+use Rattle.contour_walk.specs.Walks.{Border, contour_edges, same_point, is_same}
 use Rattle.contour_walk.specs.WalkLaws.{step_along, contour_steps, PassAll}
 use Rattle.contour_walk.proofs.Binding.Walks.{edge_of, edges_by_steps, edge_of_step}
 use Rattle.contour_walk.proofs.Facts.Binding.Anchors.{anchor_is}

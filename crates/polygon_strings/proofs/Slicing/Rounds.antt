@@ -1,5 +1,5 @@
 -- Walks that go on from step to step come round to their first, where no two steps go on by one.
-use Rattle.std.proofs.Common.{◌≡◌, ◌≢◌, ◌⊎◌, inl, inr, Bool, true, false, List, [], ◌∷◌, ◌++◌, map, flat_map, take, Option, Some, None, All, Contains, IsPermutation, refl, sym, ap, ◌∙◌, subst, append_assoc, append-nil}
+use Rattle.std.proofs.Common.{◌≡◌, ◌≢◌, ◌⊎◌, inl, inr, false, List, [], ◌∷◌, ◌++◌, flat_map, Some, All, Contains, IsPermutation, refl, sym, ap, ◌∙◌, subst, append_assoc, append-nil}
 use Rattle.std.specs.List.{IsDistinct}
 use Rattle.std.proofs.lemmas.Bool.{false≢true}
 use Rattle.std.proofs.lemmas.List.Concat.{flat_map-append}
@@ -7,11 +7,11 @@ use Rattle.std.proofs.lemmas.List.Elements.{All-from_recursion, recursion_from_A
 use Rattle.std.proofs.lemmas.List.Sorted.{IsPermutation-trans, IsPermutation-append_right, IsPermutation-sym}
 use Rattle.std.proofs.lemmas.Map.Keys.{IsDistinct-IsPermutation}
 use Rattle.plane_base.specs.Plane.{Point, Edge}
-use Rattle.contour_walk.specs.Walks.{same_point, same_edge}
+use Rattle.contour_walk.specs.Walks.{same_edge}
 use Rattle.contour_walk.specs.WalkLaws.{steps_to, contour_steps}
 use Rattle.contour_walk.proofs.Facts.Walks.Turns.{Has}
-use Rattle.contour_walk.proofs.Facts.Walks.Rings.{Each, Pairs, each_has, each_from_has, each_append, has_append_left, has_append_right}
-use Rattle.contour_walk.proofs.Walks.Members.{each_from_all, all_from_each, has_append_cases, has_permutation, has_from_contains, contains_from_has}
+use Rattle.contour_walk.proofs.Facts.Walks.Rings.{Each, Pairs, each_has, each_from_has, has_append_left, has_append_right}
+use Rattle.contour_walk.proofs.Walks.Members.{each_from_all, all_from_each, has_append_cases, has_permutation, contains_from_has}
 use Rattle.contour_walk.proofs.Walks.Links.{same_edge_itself}
 use Rattle.polygon_strings.specs.Clips.{path_steps, last_of}
 use Rattle.polygon_strings.specs.SliceWalks.{Chain, IsRound, IsUnderWay, HasCome, HasWalked, HavePassed}

@@ -4,7 +4,6 @@ use Rattle.std.proofs.lemmas.Bool.{false≢true, cases_eq}
 use Rattle.std.proofs.lemmas.List.{length-map, get_or_default}
 use Rattle.std.proofs.lemmas.List.Elements.{All-contains}
 use Rattle.plane_base.specs.Plane.{Point, Edge, is_before}
-use Rattle.plane_base.specs.Views.{point_of}
 use Rattle.segment_arrangement.specs.Graphs.{Link}
 use Rattle.segment_arrangement.specs.LinkViews.{link_edge_of, overlay_link_of}
 use Rattle.segment_arrangement.specs.declared.graph.VisitState.{VisitState}
@@ -39,9 +38,9 @@ let_in fill = by (has_halves fill)
     by true = refl
     by false = refl
 
-module _ {I : Type 0} (value : I → ℤ) (links : List (OverlayLink I (Unit {0}))) (output : Bool) (v : Point) (directed : All (λ s. is_before s.a s.b ≡ true) (link_edges value links)) where
+module _ {I : Type 0} (value : I → ℤ) (links : List (OverlayLink I (Unit {0}))) (output : Bool) (v : Point) (directed : All (λ s. is_before s.a s.b ≡ true) (link_edges links)) where
   abbrev edges : List Edge
-  edges = link_edges value links
+  edges = link_edges links
 
   abbrev all : List Link
   all = seen value links output v directed
@@ -53,13 +52,13 @@ module _ {I : Type 0} (value : I → ℤ) (links : List (OverlayLink I (Unit {0}
   at_v = record { a = v; b = v }
 
   as_many : length states ≡ length edges
-  as_many = length-map links (λ (l : OverlayLink I (Unit {0})). half_state l.fill) ∙ sym (length-map links (link_edge_of value))
+  as_many = length-map links (λ (l : OverlayLink I (Unit {0})). half_state l.fill) ∙ sym (length-map links link_edge_of)
 
   state_at : (i : ℕ) → i < length edges → is_left (get_or states i Skipped) ≡ has_halves (link_at v all i).fill
   state_at i within =
-      let same = length-map links (link_edge_of value) in
+      let same = length-map links link_edge_of in
       let inside : i < length links = omega (arith, within, same) in
-      ap is_left (at_both (overlay_link_of value) (λ (l : OverlayLink I (Unit {0})). half_state l.fill) (λ (l : Link). half_state l.fill) (λ l. refl) links i (record { edge = at_v; fill = 0 }) Skipped inside)
+      ap is_left (at_both overlay_link_of (λ (l : OverlayLink I (Unit {0})). half_state l.fill) (λ (l : Link). half_state l.fill) (λ l. refl) links i (record { edge = at_v; fill = 0 }) Skipped inside)
       ∙ let_in (link_at v all i).fill
 
   edge_at : (i : ℕ) (d : Edge) → i < length edges → (link_at v all i).edge ≡ get_or edges i d
@@ -74,9 +73,9 @@ module _ {I : Type 0} (value : I → ℤ) (links : List (OverlayLink I (Unit {0}
   either_end true s near = inl near
   either_end false s near = inr near
 
-  module _ (spokes : List (Spoke I)) (count : ℕ) (round : AreRound value edges states v spokes count) where
+  module _ (spokes : List (Spoke I)) (count : ℕ) (round : AreRound edges states v spokes count) where
     abbrev far : ℕ → Spoke I → Point
-    far k d = point_of value (get_or spokes k d).far
+    far k d = (get_or spokes k d).far
 
     -- each link of the ring is one of the node's, and has halves
     of_node : (k : ℕ) (d : Spoke I) → k < length spokes → Contains (places edges v) (get_or spokes k d).place × (has_halves (link_at v all (get_or spokes k d).place).fill ≡ true)
@@ -165,20 +164,20 @@ module _ {I : Type 0} (value : I → ℤ) (links : List (OverlayLink I (Unit {0}
           (a.0, a.1, met value links output v directed from s goes ∙ ap Some (sym (a.2 ∙ leads d)))
 
   -- what a ring tells is the next place
-  pub told_is_next : (from : Point) (s : Edge) → GoesOnBy output (halves_along all) (record { a = from; b = v }) s → (rings : List (Spokes I)) → AreTurns value links rings → (link : ℕ)
-      → IsTold value rings (not output) v from link → IsNextPlace (not output) v from all (places edges v) (Some link)
+  pub told_is_next : (from : Point) (s : Edge) → GoesOnBy output (halves_along all) (record { a = from; b = v }) s → (rings : List (Spokes I)) → AreTurns links rings → (link : ℕ)
+      → IsTold rings (not output) v from link → IsNextPlace (not output) v from all (places edges v) (Some link)
   told_is_next from s goes rings turns link told =
       let r = told.ring in
-      let round : AreRound value edges states v r.spokes.items r.starts =
-      subst (λ p. AreRound value edges states p r.spokes.items r.starts) told.here
-      (All-contains (λ (r : Spokes I). AreRound value edges states (point_of value r.center) r.spokes.items r.starts) rings r turns told.among) in
+      let round : AreRound edges states v r.spokes.items r.starts =
+      subst (λ p. AreRound edges states p r.spokes.items r.starts) told.here
+      (All-contains (λ (r : Spokes I). AreRound edges states r.center r.spokes.items r.starts) rings r turns told.among) in
       by r.spokes.items r.starts round (some r.spokes.items told.place told.inside) told.place told.inside told.came told.is
     where
       some : (ss : List (Spoke I)) (i : ℕ) → i < length ss → Spoke I
       some [] i l = absurd (omega (arith, l))
       some (k ∷ ss) i l = k
 
-      by : (ss : List (Spoke I)) (n : ℕ) → AreRound value edges states v ss n → Spoke I → (place : ℕ) → place < length ss → ((d : Spoke I) → point_of value (get_or ss place d).far ≡ from)
+      by : (ss : List (Spoke I)) (n : ℕ) → AreRound edges states v ss n → Spoke I → (place : ℕ) → place < length ss → ((d : Spoke I) → (get_or ss place d).far ≡ from)
           → ((d : Spoke I) → link ≡ (get_or ss (place_after (not output) (length ss) place) d).place) → IsNextPlace (not output) v from all (places edges v) (Some link)
       by ss n round d place inside came is =
           subst (λ i. IsNextPlace (not output) v from all (places edges v) (Some i)) (sym (is d)) (follows_next ss n round from s goes place inside came d)

@@ -1,7 +1,6 @@
 -- The steps of a loop to its least point and from it.
-use Rattle.std.proofs.Common.{◌≡◌, ℕ, zero, suc, ◌+◌, ◌<◌, Bool, true, false, cond, List, [], ◌∷◌, length, get_or, take, Option, Some, None, pos, int_lt, refl, sym, ap, ◌∙◌, subst, arith}
+use Rattle.std.proofs.Common.{◌≡◌, ℕ, zero, suc, ◌<◌, Bool, true, false, cond, List, [], ◌∷◌, length, get_or, take, Option, Some, None, pos, int_lt, refl, ap, ◌∙◌, arith}
 use Rattle.std.specs.List.{find}
-use Rattle.std.proofs.lemmas.Bool.{false≢true}
 use Rattle.plane_base.specs.Plane.{Point, Edge, turn}
 use Rattle.contour_walk.specs.Binding.{least_point}
 use Rattle.contour_walk.specs.Walks.{same_point}

@@ -1,9 +1,9 @@
 -- Walks that have passed all steps of halves are slice walks.
-use Rattle.std.proofs.Common.{◌≡◌, Bool, not, List, [], ◌∷◌, ◌++◌, map, flat_map, take, Some, All, IsPermutation, refl, sym, ap, ◌∙◌, subst, append_assoc, append-nil}
+use Rattle.std.proofs.Common.{◌≡◌, Bool, not, List, [], ◌∷◌, ◌++◌, map, flat_map, take, Some, IsPermutation, sym, ap, ◌∙◌, subst, append_assoc, append-nil}
 use Rattle.std.proofs.lemmas.List.Elements.{All-weaker}
 use Rattle.plane_base.specs.Plane.{Point, Edge}
 use Rattle.contour_walk.specs.Walks.{Border, next_point}
-use Rattle.contour_walk.specs.WalkLaws.{step_along, steps_to, contour_steps}
+use Rattle.contour_walk.specs.WalkLaws.{step_along, contour_steps}
 use Rattle.polygon_strings.specs.Clips.{path_steps}
 use Rattle.polygon_strings.specs.Slices.{InARow, AreSliceWalks}
 use Rattle.polygon_strings.specs.SliceWalks.{GoesOnBy, Chain, IsRound, HavePassed}

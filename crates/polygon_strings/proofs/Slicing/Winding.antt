@@ -1,13 +1,13 @@
 -- The pieces of a slice wind together as the loops of its walks do.
-use Rattle.std.proofs.Common.{◌≡◌, ◌≢◌, ℕ, zero, suc, ◌+◌, ◌<◌, ◌≤◌, ◌==◌, ◌⊎◌, inl, inr, ℤ, pos, ◌+ℤ◌, Bool, true, false, not, cond, List, [], ◌∷◌, ◌++◌, map, flat_map, filter, length, get_or, Option, Some, None, refl, sym, ap, ap₂, ◌∙◌, subst, arith}
+use Rattle.std.proofs.Common.{◌≡◌, ℕ, zero, suc, ◌+◌, ◌<◌, ◌≤◌, ◌==◌, ◌⊎◌, inl, inr, ℤ, pos, ◌+ℤ◌, Bool, true, false, not, cond, List, [], ◌∷◌, ◌++◌, map, flat_map, filter, length, get_or, Option, Some, None, refl, sym, ap, ap₂, ◌∙◌, subst, arith}
 use Rattle.std.proofs.lemmas.Bool.{false≢true, eqb-true, eq-eqb, cases_order}
 use Rattle.std.proofs.lemmas.Int.{ints}
 use Rattle.std.proofs.lemmas.List.{length-map}
-use Rattle.plane_base.specs.Plane.{Point, RationalPoint, IsRational}
+use Rattle.plane_base.specs.Plane.{Point}
 use Rattle.plane_base.specs.Counts.{Entry}
 use Rattle.plane_base.specs.Totals.{total}
-use Rattle.plane_base.specs.Windings.{winding, contour_winding, cycle_winding}
-use Rattle.plane_base.specs.Regions.{FillRule, Subject, region}
+use Rattle.plane_base.specs.Windings.{cycle_winding}
+use Rattle.plane_base.specs.Regions.{FillRule}
 use Rattle.plane_base.proofs.Facts.Lists.Totals.{total_append}
 use Rattle.plane_base.proofs.Facts.Windings.Sums.{contour_winding_is}
 use Rattle.segment_split.specs.Strings.{StringCount}
@@ -17,10 +17,10 @@ use Rattle.contour_walk.specs.BindingLaws.{all_contours}
 use Rattle.contour_walk.specs.JoinedHoles.{shape_numbers, shape_met, shape_of_hole, holes_of, joined_by, joined}
 use Rattle.contour_walk.specs.Loops.{long_loops}
 use Rattle.contour_walk.specs.LoopLaws.{LoopsKeepSteps, LoopsRepeatNoPoint}
-use Rattle.contour_walk.specs.WalkLaws.{PassAll, turns_of}
+use Rattle.contour_walk.specs.WalkLaws.{PassAll}
 use Rattle.contour_walk.proofs.Facts.Walks.Turns.{Has}
 use Rattle.contour_walk.proofs.Walks.Links.{filter_has}
-use Rattle.polygon_strings.specs.Slices.{halves, is_outline, pieces, IsSlice}
+use Rattle.polygon_strings.specs.Slices.{halves, is_outline, pieces}
 use Rattle.polygon_strings.specs.SliceLaws.{SliceWalksWind, PiecesWind}
 use Rattle.polygon_strings.proofs.Slicing.Binding.{outlines_of}
 use Rattle.polygon_strings.proofs.Slicing.Binding as Found

@@ -1,9 +1,8 @@
 //! Clips of lines and paths by one call: a builder is made, filled and asked. It takes the time of these.
 
-ghost use Rattle.std.specs.Prelude.{◌∷◌, [], All, IfOk, IfErr, map};
+ghost use Rattle.std.specs.Prelude.{◌∷◌, [], All, IfOk, IfErr};
 ghost use Rattle.plane_base.specs.GivenViews.{contours_of};
 ghost use Rattle.plane_base.specs.Plane.{IsWithin};
-ghost use Rattle.plane_base.specs.Views.{points_of};
 ghost use Rattle.segment_arrangement.specs.RuleViews.{fill_rule_of};
 ghost use Rattle.polygon_strings.specs.ClipCalls.{IsClipOf, IsClipRefused};
 
@@ -30,11 +29,11 @@ pub trait IntClip<I: OverlayInt>: IntShapeResource<I> {
         clip_rule: ClipRule,
     ) -> Result<Vec<IntPath<I>>, Fault>
         requires ready { Self.is_ready self.now }
-        requires in_range { All (All (IsWithin I.least I.greatest)) (map (points_of I.value) (Self.paths self.now)) }
-        requires line_in_range { All (IsWithin I.least I.greatest) (points_of I.value line) }
+        requires in_range { All (All (IsWithin I.least I.greatest)) (Self.paths self.now) }
+        requires line_in_range { All (IsWithin I.least I.greatest) line }
         ensures clip { IfOk result (λ paths. IsClipOf I.least I.greatest (fill_rule_of fill_rule) clip_rule
-            (map (points_of I.value) (Self.paths self.now)) (points_of I.value line ∷ []) (contours_of I.value paths.items)) }
-        ensures refused { IfErr result (IsClipRefused (map (points_of I.value) (Self.paths self.now)) (points_of I.value line ∷ [])) };
+            (Self.paths self.now) (line ∷ []) (contours_of paths.items)) }
+        ensures refused { IfErr result (IsClipRefused (Self.paths self.now) (line ∷ [])) };
 
     /// Clips lines.
     fn clip_lines(
@@ -45,11 +44,11 @@ pub trait IntClip<I: OverlayInt>: IntShapeResource<I> {
         clip_rule: ClipRule,
     ) -> Result<Vec<IntPath<I>>, Fault>
         requires ready { Self.is_ready self.now }
-        requires in_range { All (All (IsWithin I.least I.greatest)) (map (points_of I.value) (Self.paths self.now)) }
-        requires lines_in_range { All (All (IsWithin I.least I.greatest)) (map (points_of I.value) lines.now) }
+        requires in_range { All (All (IsWithin I.least I.greatest)) (Self.paths self.now) }
+        requires lines_in_range { All (All (IsWithin I.least I.greatest)) lines.now }
         ensures clip { IfOk result (λ paths. IsClipOf I.least I.greatest (fill_rule_of fill_rule) clip_rule
-            (map (points_of I.value) (Self.paths self.now)) (map (points_of I.value) lines.now) (contours_of I.value paths.items)) }
-        ensures refused { IfErr result (IsClipRefused (map (points_of I.value) (Self.paths self.now)) (map (points_of I.value) lines.now)) };
+            (Self.paths self.now) lines.now (contours_of paths.items)) }
+        ensures refused { IfErr result (IsClipRefused (Self.paths self.now) lines.now) };
 
     /// Clips an open path.
     fn clip_path(
@@ -60,12 +59,12 @@ pub trait IntClip<I: OverlayInt>: IntShapeResource<I> {
         clip_rule: ClipRule,
     ) -> Result<Vec<IntPath<I>>, Fault>
         requires ready { Self.is_ready self.now }
-        requires in_range { All (All (IsWithin I.least I.greatest)) (map (points_of I.value) (Self.paths self.now)) }
-        requires path_in_range { All (IsWithin I.least I.greatest) (points_of I.value path.now.points.items) }
+        requires in_range { All (All (IsWithin I.least I.greatest)) (Self.paths self.now) }
+        requires path_in_range { All (IsWithin I.least I.greatest) path.now.points.items }
         ensures clip { IfOk result (λ paths. IsClipOf I.least I.greatest (fill_rule_of fill_rule) clip_rule
-            (map (points_of I.value) (Self.paths self.now)) (points_of I.value path.now.points.items ∷ []) (contours_of I.value paths.items)) }
+            (Self.paths self.now) (path.now.points.items ∷ []) (contours_of paths.items)) }
         ensures refused { IfErr result (IsClipRefused
-            (map (points_of I.value) (Self.paths self.now)) (points_of I.value path.now.points.items ∷ [])) };
+            (Self.paths self.now) (path.now.points.items ∷ [])) };
 
     /// Clips open paths.
     fn clip_paths(
@@ -76,11 +75,11 @@ pub trait IntClip<I: OverlayInt>: IntShapeResource<I> {
         clip_rule: ClipRule,
     ) -> Result<Vec<IntPath<I>>, Fault>
         requires ready { Self.is_ready self.now }
-        requires in_range { All (All (IsWithin I.least I.greatest)) (map (points_of I.value) (Self.paths self.now)) }
-        requires paths_in_range { All (All (IsWithin I.least I.greatest)) (contours_of I.value paths.now) }
+        requires in_range { All (All (IsWithin I.least I.greatest)) (Self.paths self.now) }
+        requires paths_in_range { All (All (IsWithin I.least I.greatest)) (contours_of paths.now) }
         ensures clip { IfOk result (λ found. IsClipOf I.least I.greatest (fill_rule_of fill_rule) clip_rule
-            (map (points_of I.value) (Self.paths self.now)) (contours_of I.value paths.now) (contours_of I.value found.items)) }
-        ensures refused { IfErr result (IsClipRefused (map (points_of I.value) (Self.paths self.now)) (contours_of I.value paths.now)) };
+            (Self.paths self.now) (contours_of paths.now) (contours_of found.items)) }
+        ensures refused { IfErr result (IsClipRefused (Self.paths self.now) (contours_of paths.now)) };
 
     /// Clips the paths of a source, each as an open path: of a contour, too, the last point is not joined to the first.
     fn clip_source<R: IntShapeResource<I>>(
@@ -92,12 +91,12 @@ pub trait IntClip<I: OverlayInt>: IntShapeResource<I> {
     ) -> Result<Vec<IntPath<I>>, Fault>
         requires ready { Self.is_ready self.now }
         requires source_ready { R.is_ready source.now }
-        requires in_range { All (All (IsWithin I.least I.greatest)) (map (points_of I.value) (Self.paths self.now)) }
-        requires source_in_range { All (All (IsWithin I.least I.greatest)) (map (points_of I.value) (R.paths source.now)) }
+        requires in_range { All (All (IsWithin I.least I.greatest)) (Self.paths self.now) }
+        requires source_in_range { All (All (IsWithin I.least I.greatest)) (R.paths source.now) }
         ensures clip { IfOk result (λ paths. IsClipOf I.least I.greatest (fill_rule_of fill_rule) clip_rule
-            (map (points_of I.value) (Self.paths self.now)) (map (points_of I.value) (R.paths source.now)) (contours_of I.value paths.items)) }
+            (Self.paths self.now) (R.paths source.now) (contours_of paths.items)) }
         ensures refused { IfErr result (IsClipRefused
-            (map (points_of I.value) (Self.paths self.now)) (map (points_of I.value) (R.paths source.now))) };
+            (Self.paths self.now) (R.paths source.now)) };
 }
 
 impl<I: OverlayInt, S: IntShapeResource<I>> IntClip<I> for S {
@@ -109,11 +108,11 @@ impl<I: OverlayInt, S: IntShapeResource<I>> IntClip<I> for S {
         clip_rule: ClipRule,
     ) -> Result<Vec<IntPath<I>>, Fault>
         requires ready { S.is_ready self.now }
-        requires in_range { All (All (IsWithin I.least I.greatest)) (map (points_of I.value) (S.paths self.now)) }
-        requires line_in_range { All (IsWithin I.least I.greatest) (points_of I.value line) }
+        requires in_range { All (All (IsWithin I.least I.greatest)) (S.paths self.now) }
+        requires line_in_range { All (IsWithin I.least I.greatest) line }
         ensures clip { IfOk result (λ paths. IsClipOf I.least I.greatest (fill_rule_of fill_rule) clip_rule
-            (map (points_of I.value) (S.paths self.now)) (points_of I.value line ∷ []) (contours_of I.value paths.items)) }
-        ensures refused { IfErr result (IsClipRefused (map (points_of I.value) (S.paths self.now)) (points_of I.value line ∷ [])) }
+            (S.paths self.now) (line ∷ []) (contours_of paths.items)) }
+        ensures refused { IfErr result (IsClipRefused (S.paths self.now) (line ∷ [])) }
     {
         let mut overlay = StringOverlay::from_shape(alloc, self)?;
         overlay.add_string_path(&line)?;
@@ -126,7 +125,14 @@ impl<I: OverlayInt, S: IntShapeResource<I>> IntClip<I> for S {
         lines: &[IntLine<I>],
         fill_rule: FillRule,
         clip_rule: ClipRule,
-    ) -> Result<Vec<IntPath<I>>, Fault> {
+    ) -> Result<Vec<IntPath<I>>, Fault>
+        requires ready { S.is_ready self.now }
+        requires in_range { All (All (IsWithin I.least I.greatest)) (S.paths self.now) }
+        requires lines_in_range { All (All (IsWithin I.least I.greatest)) lines.now }
+        ensures clip { IfOk result (λ paths. IsClipOf I.least I.greatest (fill_rule_of fill_rule) clip_rule
+            (S.paths self.now) lines.now (contours_of paths.items)) }
+        ensures refused { IfErr result (IsClipRefused (S.paths self.now) lines.now) }
+    {
         let mut overlay = StringOverlay::from_shape(alloc, self)?;
         overlay.add_string_lines(lines)?;
         overlay.clip_string_lines(fill_rule, clip_rule)

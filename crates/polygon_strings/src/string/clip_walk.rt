@@ -8,7 +8,6 @@
 ghost use Rattle.std.specs.Prelude.{◌≡◌, ◌≢◌, ◌<◌, ℕ, true, false, Some, cond, List, [], ◌∷◌, ◌++◌, map, flat_map, reverse, take, length};
 ghost use Rattle.std.specs.Prelude.{slice_index_or, slice_set, All, Contains, IsPermutation, IfOk, OnOk, IfSome, IfNone, IsOkUnless};
 ghost use Rattle.plane_base.specs.Plane.{Edge, point_order};
-ghost use Rattle.plane_base.specs.Views.{point_of, points_of};
 ghost use Rattle.plane_base.specs.GivenViews.{contours_of};
 ghost use Rattle.segment_arrangement.specs.Graphs.{ends_of};
 ghost use Rattle.segment_arrangement.specs.LinkViews.{overlay_link_of, IsNumbered};
@@ -19,7 +18,7 @@ ghost use Rattle.polygon_strings.specs.ClipWalks.{steps_left, StayPassed, ArePas
 ghost use Rattle.polygon_strings.specs.ClipWalks.{begin_of, begun, ArePassedAlong, AreRemaining};
 
 use plane_base::fault::Fault;
-use plane_base::int::OverlayInt;
+use plane_base::int::{IntNumber, OverlayInt};
 use plane_base::path::IntPath;
 use plane_base::point::IntPoint;
 use plane_base::segment::IdPoint;
@@ -63,8 +62,8 @@ pub(crate) fn find_paths<I: OverlayInt>(
     links: &[OverlayLink<I, ()>],
     nodes: &[Vec<usize>],
 ) -> Result<Vec<IntPath<I>>, Fault>
-    requires walkable { IsWalkable I.value links.now (map (λ n. n.items) nodes.now) }
-    ensures clip { IfOk result (λ paths. IsClip (flat_map link_steps (map (overlay_link_of I.value) links.now)) (contours_of I.value paths.items)) }
+    requires walkable { IsWalkable links.now (map (λ n. n.items) nodes.now) }
+    ensures clip { IfOk result (λ paths. IsClip (flat_map link_steps (map overlay_link_of links.now)) (contours_of paths.items)) }
     ensures memory { IsOkUnless result Fault.Memory }
 {
     let steps = steps_of_links(alloc, links)?;
@@ -80,9 +79,9 @@ fn paths_of_steps<I: OverlayInt>(
     nodes: &[Vec<usize>],
     left: &mut Remaining,
 ) -> Result<Vec<IntPath<I>>, Fault>
-    requires walkable { IsWalkable I.value links.now (map (λ n. n.items) nodes.now) }
-    requires remaining { AreRemaining (link_edges I.value links.now) (map (λ n. n.items) nodes.now) left.old.steps.items left.old.begins.items }
-    ensures clip { IfOk result (λ paths. IsClip (steps_left (link_edges I.value links.now) left.old.steps.items) (contours_of I.value paths.items)) }
+    requires walkable { IsWalkable links.now (map (λ n. n.items) nodes.now) }
+    requires remaining { AreRemaining (link_edges links.now) (map (λ n. n.items) nodes.now) left.old.steps.items left.old.begins.items }
+    ensures clip { IfOk result (λ paths. IsClip (steps_left (link_edges links.now) left.old.steps.items) (contours_of paths.items)) }
     ensures memory { IsOkUnless result Fault.Memory }
 {
     let mut paths = Vec::new(alloc);
@@ -94,7 +93,10 @@ fn paths_of_steps<I: OverlayInt>(
 }
 
 // The steps of lines along the links: none is passed yet.
-fn steps_of_links<I>(alloc: Global, links: &[OverlayLink<I, ()>]) -> Result<Vec<StepsLeft>, Fault>
+fn steps_of_links<I: IntNumber>(
+    alloc: Global,
+    links: &[OverlayLink<I, ()>],
+) -> Result<Vec<StepsLeft>, Fault>
     ensures beside { IfOk result (λ left. length left.items ≡ length links.now) }
     ensures is { IfOk result (λ left. left.items ≡ map (λ l. steps_of l.fill) links.now) }
     ensures memory { IsOkUnless result Fault.Memory }
@@ -127,16 +129,16 @@ fn begin_path<I: OverlayInt>(
     forward: bool,
     paths: &mut Vec<IntPath<I>>,
 ) -> Result<(), Fault>
-    requires walkable { IsWalkable I.value links.now (map (λ n. n.items) nodes.now) }
+    requires walkable { IsWalkable links.now (map (λ n. n.items) nodes.now) }
     requires inside { first < length links.now }
-    requires remaining { AreRemaining (link_edges I.value links.now) (map (λ n. n.items) nodes.now) left.old.steps.items left.old.begins.items }
+    requires remaining { AreRemaining (link_edges links.now) (map (λ n. n.items) nodes.now) left.old.steps.items left.old.begins.items }
     requires passed { ArePassedBefore first left.old.steps.items }
     requires forward_first { forward ≡ false → is_left true (slice_index_or left.old.steps.items first none_left) ≡ false }
-    ensures remaining { AreRemaining (link_edges I.value links.now) (map (λ n. n.items) nodes.now) left.new.steps.items left.new.begins.items }
+    ensures remaining { AreRemaining (link_edges links.now) (map (λ n. n.items) nodes.now) left.new.steps.items left.new.begins.items }
     ensures stay { StayPassed left.old.steps.items left.new.steps.items }
     ensures used { is_left forward (slice_index_or left.new.steps.items first none_left) ≡ false }
-    ensures added { OnOk result (AddsClipPaths (steps_left (link_edges I.value links.now) left.old.steps.items) (contours_of I.value paths.old.items)
-        (steps_left (link_edges I.value links.now) left.new.steps.items) (contours_of I.value paths.new.items)) }
+    ensures added { OnOk result (AddsClipPaths (steps_left (link_edges links.now) left.old.steps.items) (contours_of paths.old.items)
+        (steps_left (link_edges links.now) left.new.steps.items) (contours_of paths.new.items)) }
     ensures memory { IsOkUnless result Fault.Memory }
 {
     if !left.steps[first].is_left(forward) {
@@ -156,17 +158,17 @@ fn build_path<I: OverlayInt>(
     first: usize,
     forward: bool,
 ) -> Result<Vec<IntPoint<I>>, Fault>
-    requires walkable { IsWalkable I.value links.now (map (λ n. n.items) nodes.now) }
+    requires walkable { IsWalkable links.now (map (λ n. n.items) nodes.now) }
     requires inside { first < length links.now }
-    requires remaining { AreRemaining (link_edges I.value links.now) (map (λ n. n.items) nodes.now) left.old.steps.items left.old.begins.items }
+    requires remaining { AreRemaining (link_edges links.now) (map (λ n. n.items) nodes.now) left.old.steps.items left.old.begins.items }
     requires left { is_left forward (slice_index_or left.old.steps.items first none_left) ≡ true }
-    ensures remaining { AreRemaining (link_edges I.value links.now) (map (λ n. n.items) nodes.now) left.new.steps.items left.new.begins.items }
+    ensures remaining { AreRemaining (link_edges links.now) (map (λ n. n.items) nodes.now) left.new.steps.items left.new.begins.items }
     ensures stay { StayPassed left.old.steps.items left.new.steps.items }
     ensures used { is_left forward (slice_index_or left.new.steps.items first none_left) ≡ false }
-    ensures passes { IfOk result (λ points. IsPermutation (steps_left (link_edges I.value links.now) left.old.steps.items)
-        (path_steps (points_of I.value points.items) ++ steps_left (link_edges I.value links.now) left.new.steps.items)) }
-    ensures built { IfOk result (λ points. (d : Edge) → IsBuilt forward (slice_index_or (link_edges I.value links.now) first d)
-        (points_of I.value points.items) (steps_left (link_edges I.value links.now) left.new.steps.items)) }
+    ensures passes { IfOk result (λ points. IsPermutation (steps_left (link_edges links.now) left.old.steps.items)
+        (path_steps points.items ++ steps_left (link_edges links.now) left.new.steps.items)) }
+    ensures built { IfOk result (λ points. (d : Edge) → IsBuilt forward (slice_index_or (link_edges links.now) first d)
+        points.items (steps_left (link_edges links.now) left.new.steps.items)) }
     ensures memory { IsOkUnless result Fault.Memory }
 {
     let link = &links[first];
@@ -180,7 +182,7 @@ fn build_path<I: OverlayInt>(
 }
 
 // The points in order from the path's beginning on: turned round where they were found on the way backward.
-fn turn_unless<I>(forward: bool, points: &mut Vec<IntPoint<I>>)
+fn turn_unless<I: IntNumber>(forward: bool, points: &mut Vec<IntPoint<I>>)
     ensures { points.new.items ≡ cond forward points.old.items (reverse points.old.items) }
 {
     if !forward {
@@ -197,17 +199,17 @@ fn go_on<I: OverlayInt>(
     forward: bool,
     points: &mut Vec<IntPoint<I>>,
 ) -> Result<(), Fault>
-    requires walkable { IsWalkable I.value links.now (map (λ n. n.items) nodes.now) }
-    requires numbered { IsNumbered I.value (ends_of (link_edges I.value links.now)) from }
-    requires remaining { AreRemaining (link_edges I.value links.now) (map (λ n. n.items) nodes.now) left.old.steps.items left.old.begins.items }
-    requires last { last_of (points_of I.value points.old.items) ≡ Some (point_of I.value from.point) }
-    ensures remaining { AreRemaining (link_edges I.value links.now) (map (λ n. n.items) nodes.now) left.new.steps.items left.new.begins.items }
+    requires walkable { IsWalkable links.now (map (λ n. n.items) nodes.now) }
+    requires numbered { IsNumbered (ends_of (link_edges links.now)) from }
+    requires remaining { AreRemaining (link_edges links.now) (map (λ n. n.items) nodes.now) left.old.steps.items left.old.begins.items }
+    requires last { last_of points.old.items ≡ Some from.point }
+    ensures remaining { AreRemaining (link_edges links.now) (map (λ n. n.items) nodes.now) left.new.steps.items left.new.begins.items }
     ensures stay { StayPassed left.old.steps.items left.new.steps.items }
-    ensures begins { OnOk result (BeginsWith (points_of I.value points.old.items) (points_of I.value points.new.items)) }
+    ensures begins { OnOk result (BeginsWith points.old.items points.new.items) }
     ensures passes { OnOk result (IsPermutation
-        (walk_steps forward (points_of I.value points.old.items) ++ steps_left (link_edges I.value links.now) left.old.steps.items)
-        (walk_steps forward (points_of I.value points.new.items) ++ steps_left (link_edges I.value links.now) left.new.steps.items)) }
-    ensures ended { OnOk result (HasEnded forward (points_of I.value points.new.items) (steps_left (link_edges I.value links.now) left.new.steps.items)) }
+        (walk_steps forward points.old.items ++ steps_left (link_edges links.now) left.old.steps.items)
+        (walk_steps forward points.new.items ++ steps_left (link_edges links.now) left.new.steps.items)) }
+    ensures ended { OnOk result (HasEnded forward points.new.items (steps_left (link_edges links.now) left.new.steps.items)) }
     ensures memory { IsOkUnless result Fault.Memory }
 {
     let mut at = from;
@@ -226,18 +228,18 @@ fn take_step<I: OverlayInt>(
     at: IdPoint<I>,
     forward: bool,
 ) -> Option<IdPoint<I>>
-    requires walkable { IsWalkable I.value links.now (map (λ n. n.items) nodes.now) }
-    requires numbered { IsNumbered I.value (ends_of (link_edges I.value links.now)) at }
-    requires remaining { AreRemaining (link_edges I.value links.now) (map (λ n. n.items) nodes.now) left.old.steps.items left.old.begins.items }
-    ensures remaining { AreRemaining (link_edges I.value links.now) (map (λ n. n.items) nodes.now) left.new.steps.items left.new.begins.items }
+    requires walkable { IsWalkable links.now (map (λ n. n.items) nodes.now) }
+    requires numbered { IsNumbered (ends_of (link_edges links.now)) at }
+    requires remaining { AreRemaining (link_edges links.now) (map (λ n. n.items) nodes.now) left.old.steps.items left.old.begins.items }
+    ensures remaining { AreRemaining (link_edges links.now) (map (λ n. n.items) nodes.now) left.new.steps.items left.new.begins.items }
     ensures stay { StayPassed left.old.steps.items left.new.steps.items }
-    ensures numbered { IfSome result (IsNumbered I.value (ends_of (link_edges I.value links.now))) }
-    ensures passes { IfSome result (λ next. IsPermutation (steps_left (link_edges I.value links.now) left.old.steps.items)
-        (step_along forward (record { a = point_of I.value at.point; b = point_of I.value next.point })
-        ∷ steps_left (link_edges I.value links.now) left.new.steps.items)) }
+    ensures numbered { IfSome result (IsNumbered (ends_of (link_edges links.now))) }
+    ensures passes { IfSome result (λ next. IsPermutation (steps_left (link_edges links.now) left.old.steps.items)
+        (step_along forward (record { a = at.point; b = next.point })
+        ∷ steps_left (link_edges links.now) left.new.steps.items)) }
     ensures unchanged { IfNone result (left.new.steps.items ≡ left.old.steps.items) }
-    ensures none { IfNone result (All (λ s. point_of I.value at.point ≢ (step_along forward s).a)
-        (steps_left (link_edges I.value links.now) left.new.steps.items)) }
+    ensures none { IfNone result (All (λ s. at.point ≢ (step_along forward s).a)
+        (steps_left (link_edges links.now) left.new.steps.items)) }
 {
     let place = find_place(links, nodes, left, at, forward)?;
     let link = &links[place];
@@ -255,15 +257,15 @@ fn find_place<I: OverlayInt>(
     at: IdPoint<I>,
     forward: bool,
 ) -> Option<usize>
-    requires walkable { IsWalkable I.value links.now (map (λ n. n.items) nodes.now) }
-    requires numbered { IsNumbered I.value (ends_of (link_edges I.value links.now)) at }
-    requires remaining { AreRemaining (link_edges I.value links.now) (map (λ n. n.items) nodes.now) left.old.steps.items left.old.begins.items }
-    ensures remaining { AreRemaining (link_edges I.value links.now) (map (λ n. n.items) nodes.now) left.new.steps.items left.new.begins.items }
+    requires walkable { IsWalkable links.now (map (λ n. n.items) nodes.now) }
+    requires numbered { IsNumbered (ends_of (link_edges links.now)) at }
+    requires remaining { AreRemaining (link_edges links.now) (map (λ n. n.items) nodes.now) left.old.steps.items left.old.begins.items }
+    ensures remaining { AreRemaining (link_edges links.now) (map (λ n. n.items) nodes.now) left.new.steps.items left.new.begins.items }
     ensures unchanged { left.new.steps.items ≡ left.old.steps.items }
     ensures inside { IfSome result (λ place. place < length links.now) }
     ensures some { IfSome result (λ place. Contains (slice_index_or (map (λ n. n.items) nodes.now) at.id []) place ×
-        (is_left_from forward (point_of I.value at.point) (link_edges I.value links.now) left.old.steps.items place ≡ true)) }
-    ensures none { IfNone result (ArePassedAlong forward (point_of I.value at.point) (link_edges I.value links.now) left.old.steps.items
+        (is_left_from forward at.point (link_edges links.now) left.old.steps.items place ≡ true)) }
+    ensures none { IfNone result (ArePassedAlong forward at.point (link_edges links.now) left.old.steps.items
         (slice_index_or (map (λ n. n.items) nodes.now) at.id [])) }
 {
     let places = &nodes[at.id];
@@ -289,10 +291,10 @@ fn find_step<I: OverlayInt>(
 ) -> usize
     requires inside { All (λ place. place < length links.now) places.now }
     requires beside { length left.now ≡ length links.now }
-    requires passed { ArePassedAlong forward (point_of I.value v) (link_edges I.value links.now) left.now (take begin places.now) }
-    ensures passed { ArePassedAlong forward (point_of I.value v) (link_edges I.value links.now) left.now (take result places.now) }
+    requires passed { ArePassedAlong forward v (link_edges links.now) left.now (take begin places.now) }
+    ensures passed { ArePassedAlong forward v (link_edges links.now) left.now (take result places.now) }
     ensures some { result < length places.now →
-        is_left_from forward (point_of I.value v) (link_edges I.value links.now) left.now (slice_index_or places.now result 0) ≡ true }
+        is_left_from forward v (link_edges links.now) left.now (slice_index_or places.now result 0) ≡ true }
 {
     for i in begin..places.len() {
         let place = places[i];
@@ -306,14 +308,14 @@ fn find_step<I: OverlayInt>(
 
 // Whether the point is this one.
 fn is_at<I: OverlayInt>(a: IntPoint<I>, v: IntPoint<I>) -> bool
-    ensures { result ≡ same_point (point_of I.value a) (point_of I.value v) }
+    ensures { result ≡ same_point a v }
 {
     order_of(a, v).is_eq()
 }
 
 // The order of points, by x and then by y.
 fn order_of<I: OverlayInt>(a: IntPoint<I>, b: IntPoint<I>) -> Ordering
-    ensures { result ≡ point_order (point_of I.value a) (point_of I.value b) }
+    ensures { result ≡ point_order a b }
 {
     a.cmp(&b)
 }

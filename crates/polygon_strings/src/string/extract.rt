@@ -31,12 +31,12 @@ pub fn extract_shapes<I: OverlayInt>(
     graph: &StringGraph<'_, I>,
     rule: StringRule,
 ) -> Result<IntShapes<I>, Fault>
-    requires graph { (fill : FillRule) × (es : List (Entry StringCount)) × IsGraphOf I.value graph.now fill es }
-    ensures slice { IfOk result (λ shapes. (fill : FillRule) (es : List (Entry StringCount)) → IsGraphOf I.value graph.now fill es →
-        IsSlice false 0 fill es (shapes_of I.value shapes.shapes.items)) }
-    ensures winds { IfOk result (λ shapes. (fill : FillRule) (es : List (Entry StringCount)) → IsGraphOf I.value graph.now fill es →
-        WindRoundSubject false fill es (all_contours (shapes_of I.value shapes.shapes.items))) }
-    ensures in_range { IfOk result (λ shapes. All (All (IsWithin I.least I.greatest)) (all_contours (shapes_of I.value shapes.shapes.items))) }
+    requires graph { (fill : FillRule) × (es : List (Entry StringCount)) × IsGraphOf graph.now fill es }
+    ensures slice { IfOk result (λ shapes. (fill : FillRule) (es : List (Entry StringCount)) → IsGraphOf graph.now fill es →
+        IsSlice false 0 fill es (shapes_of shapes.shapes.items)) }
+    ensures winds { IfOk result (λ shapes. (fill : FillRule) (es : List (Entry StringCount)) → IsGraphOf graph.now fill es →
+        WindRoundSubject false fill es (all_contours (shapes_of shapes.shapes.items))) }
+    ensures in_range { IfOk result (λ shapes. All (All (IsWithin I.least I.greatest)) (all_contours (shapes_of shapes.shapes.items))) }
     ensures memory { IsOkUnless result Fault.Memory }
 {
     extract_shapes_custom(alloc, graph, rule, IntOverlayOptions::default())
@@ -54,13 +54,13 @@ pub fn extract_shapes_custom<I: OverlayInt>(
     rule: StringRule,
     options: IntOverlayOptions,
 ) -> Result<IntShapes<I>, Fault>
-    requires graph { (fill : FillRule) × (es : List (Entry StringCount)) × IsGraphOf I.value graph.now fill es }
-    ensures slice { IfOk result (λ shapes. (fill : FillRule) (es : List (Entry StringCount)) → IsGraphOf I.value graph.now fill es →
-        IsSlice (is_clockwise options.output_direction) options.min_output_area fill es (shapes_of I.value shapes.shapes.items)) }
+    requires graph { (fill : FillRule) × (es : List (Entry StringCount)) × IsGraphOf graph.now fill es }
+    ensures slice { IfOk result (λ shapes. (fill : FillRule) (es : List (Entry StringCount)) → IsGraphOf graph.now fill es →
+        IsSlice (is_clockwise options.output_direction) options.min_output_area fill es (shapes_of shapes.shapes.items)) }
     ensures winds { options.min_output_area ≡ 0 → IfOk result (λ shapes. (fill : FillRule) (es : List (Entry StringCount)) →
-        IsGraphOf I.value graph.now fill es →
-        WindRoundSubject (is_clockwise options.output_direction) fill es (all_contours (shapes_of I.value shapes.shapes.items))) }
-    ensures in_range { IfOk result (λ shapes. All (All (IsWithin I.least I.greatest)) (all_contours (shapes_of I.value shapes.shapes.items))) }
+        IsGraphOf graph.now fill es →
+        WindRoundSubject (is_clockwise options.output_direction) fill es (all_contours (shapes_of shapes.shapes.items))) }
+    ensures in_range { IfOk result (λ shapes. All (All (IsWithin I.least I.greatest)) (all_contours (shapes_of shapes.shapes.items))) }
     ensures memory { IsOkUnless result Fault.Memory }
 {
     match rule {
@@ -82,12 +82,12 @@ fn slice<I: OverlayInt>(
     clockwise: bool,
     min_area: u64,
 ) -> Result<IntShapes<I>, Fault>
-    requires graph { (fill : FillRule) × (es : List (Entry StringCount)) × IsGraphOf I.value graph.now fill es }
-    ensures slice { IfOk result (λ shapes. (fill : FillRule) (es : List (Entry StringCount)) → IsGraphOf I.value graph.now fill es →
-        IsSlice clockwise min_area fill es (shapes_of I.value shapes.shapes.items)) }
+    requires graph { (fill : FillRule) × (es : List (Entry StringCount)) × IsGraphOf graph.now fill es }
+    ensures slice { IfOk result (λ shapes. (fill : FillRule) (es : List (Entry StringCount)) → IsGraphOf graph.now fill es →
+        IsSlice clockwise min_area fill es (shapes_of shapes.shapes.items)) }
     ensures winds { min_area ≡ 0 → IfOk result (λ shapes. (fill : FillRule) (es : List (Entry StringCount)) →
-        IsGraphOf I.value graph.now fill es → WindRoundSubject clockwise fill es (all_contours (shapes_of I.value shapes.shapes.items))) }
-    ensures in_range { IfOk result (λ shapes. All (All (IsWithin I.least I.greatest)) (all_contours (shapes_of I.value shapes.shapes.items))) }
+        IsGraphOf graph.now fill es → WindRoundSubject clockwise fill es (all_contours (shapes_of shapes.shapes.items))) }
+    ensures in_range { IfOk result (λ shapes. All (All (IsWithin I.least I.greatest)) (all_contours (shapes_of shapes.shapes.items))) }
     ensures memory { IsOkUnless result Fault.Memory }
 {
     points_have_rings();

@@ -5,7 +5,6 @@
 ghost use Rattle.std.specs.Prelude.{◌≡◌, ◌++◌, ◌∷◌, [], List, map, filter, flat_map, not, pos, int_lt, All, IfOk, OnOk, IsOkUnless};
 ghost use Rattle.std.specs.Prelude.{◌<◌, find, length, slice_index_or, IfSome};
 ghost use Rattle.plane_base.specs.Plane.{Edge, IsWithin, point_order, turn};
-ghost use Rattle.plane_base.specs.Views.{point_of, points_of};
 ghost use Rattle.plane_base.specs.GivenViews.{contours_of};
 ghost use Rattle.contour_walk.specs.Binding.{lesser_point, least_point};
 ghost use Rattle.contour_walk.specs.BindingLaws.{all_contours};
@@ -35,10 +34,10 @@ pub(crate) fn pieces_of<I: OverlayInt>(
     clockwise: bool,
     min_area: u64,
 ) -> Result<IntShapes<I>, Fault>
-    requires in_range { All (All (IsWithin I.least I.greatest)) (contours_of I.value walks.now) }
-    requires pass { (halves : List Border) × AreApart halves × PassAll clockwise halves (contours_of I.value walks.now) }
-    ensures is { IfOk result (λ found. shapes_of I.value found.shapes.items ≡ pieces clockwise min_area (contours_of I.value walks.now)) }
-    ensures in_range { IfOk result (λ found. All (All (IsWithin I.least I.greatest)) (all_contours (shapes_of I.value found.shapes.items))) }
+    requires in_range { All (All (IsWithin I.least I.greatest)) (contours_of walks.now) }
+    requires pass { (halves : List Border) × AreApart halves × PassAll clockwise halves (contours_of walks.now) }
+    ensures is { IfOk result (λ found. shapes_of found.shapes.items ≡ pieces clockwise min_area (contours_of walks.now)) }
+    ensures in_range { IfOk result (λ found. All (All (IsWithin I.least I.greatest)) (all_contours (shapes_of found.shapes.items))) }
     ensures memory { IsOkUnless result Fault.Memory }
 {
     loops_keep_steps();
@@ -57,8 +56,8 @@ fn loops_of<I: OverlayInt>(
     walks: &[IntPath<I>],
     min_area: u64,
 ) -> Result<Vec<IntPath<I>>, Fault>
-    requires { All (All (IsWithin I.least I.greatest)) (contours_of I.value walks.now) }
-    ensures is { IfOk result (λ loops. contours_of I.value loops.items ≡ flat_map (long_loops min_area) (contours_of I.value walks.now)) }
+    requires { All (All (IsWithin I.least I.greatest)) (contours_of walks.now) }
+    ensures is { IfOk result (λ loops. contours_of loops.items ≡ flat_map (long_loops min_area) (contours_of walks.now)) }
     ensures memory { IsOkUnless result Fault.Memory }
 {
     let mut loops = Vec::new(alloc);
@@ -77,11 +76,11 @@ fn add_loops<I: OverlayInt>(
     shapes: &mut Vec<IntShape<I>>,
     holes: &mut Vec<IntPath<I>>,
 ) -> Result<(), Fault>
-    requires { All (All (IsWithin I.least I.greatest)) (contours_of I.value loops.now) }
-    ensures shapes { OnOk result (shapes_of I.value shapes.new.items ≡ shapes_of I.value shapes.old.items ++
-        map (λ l. l ∷ []) (filter (is_outline clockwise) (contours_of I.value loops.now))) }
-    ensures holes { OnOk result (contours_of I.value holes.new.items ≡ contours_of I.value holes.old.items ++
-        filter (λ l. not (is_outline clockwise l)) (contours_of I.value loops.now)) }
+    requires { All (All (IsWithin I.least I.greatest)) (contours_of loops.now) }
+    ensures shapes { OnOk result (shapes_of shapes.new.items ≡ shapes_of shapes.old.items ++
+        map (λ l. l ∷ []) (filter (is_outline clockwise) (contours_of loops.now))) }
+    ensures holes { OnOk result (contours_of holes.new.items ≡ contours_of holes.old.items ++
+        filter (λ l. not (is_outline clockwise l)) (contours_of loops.now)) }
     ensures memory { IsOkUnless result Fault.Memory }
 {
     for place in 0..loops.len() {
@@ -98,11 +97,11 @@ fn add_loop<I: OverlayInt>(
     shapes: &mut Vec<IntShape<I>>,
     holes: &mut Vec<IntPath<I>>,
 ) -> Result<(), Fault>
-    requires { All (IsWithin I.least I.greatest) (points_of I.value points.now) }
-    ensures shapes { OnOk result (shapes_of I.value shapes.new.items ≡ shapes_of I.value shapes.old.items ++
-        map (λ l. l ∷ []) (filter (is_outline clockwise) (points_of I.value points.now ∷ []))) }
-    ensures holes { OnOk result (contours_of I.value holes.new.items ≡ contours_of I.value holes.old.items ++
-        filter (λ l. not (is_outline clockwise l)) (points_of I.value points.now ∷ [])) }
+    requires { All (IsWithin I.least I.greatest) points.now }
+    ensures shapes { OnOk result (shapes_of shapes.new.items ≡ shapes_of shapes.old.items ++
+        map (λ l. l ∷ []) (filter (is_outline clockwise) (points.now ∷ []))) }
+    ensures holes { OnOk result (contours_of holes.new.items ≡ contours_of holes.old.items ++
+        filter (λ l. not (is_outline clockwise l)) (points.now ∷ [])) }
     ensures memory { IsOkUnless result Fault.Memory }
 {
     let path = IntPath {
@@ -120,8 +119,8 @@ fn add_loop<I: OverlayInt>(
 
 // Whether a loop runs as outlines do.
 fn is_outline<I: OverlayInt>(points: &[IntPoint<I>], clockwise: bool) -> bool
-    requires { All (IsWithin I.least I.greatest) (points_of I.value points.now) }
-    ensures { result ≡ is_outline clockwise (points_of I.value points.now) }
+    requires { All (IsWithin I.least I.greatest) points.now }
+    ensures { result ≡ is_outline clockwise points.now }
 {
     let runs_left = runs_left(points);
     if clockwise { !runs_left } else { runs_left }
@@ -129,8 +128,8 @@ fn is_outline<I: OverlayInt>(points: &[IntPoint<I>], clockwise: bool) -> bool
 
 // Whether a loop turns left at its least point.
 fn runs_left<I: OverlayInt>(points: &[IntPoint<I>]) -> bool
-    requires { All (IsWithin I.least I.greatest) (points_of I.value points.now) }
-    ensures { result ≡ runs_left (points_of I.value points.now) }
+    requires { All (IsWithin I.least I.greatest) points.now }
+    ensures { result ≡ runs_left points.now }
 {
     let Some(v) = least_point(points) else {
         return false;
@@ -146,19 +145,19 @@ fn runs_left<I: OverlayInt>(points: &[IntPoint<I>]) -> bool
 
 // Whether `c` lies left of the way from `a` to `b`.
 fn is_left<I: OverlayInt>(a: IntPoint<I>, b: IntPoint<I>, c: IntPoint<I>) -> bool
-    requires a_in_range { IsWithin I.least I.greatest (point_of I.value a) }
-    requires b_in_range { IsWithin I.least I.greatest (point_of I.value b) }
-    requires c_in_range { IsWithin I.least I.greatest (point_of I.value c) }
-    ensures { result ≡ int_lt (pos 0) (turn (point_of I.value a) (point_of I.value b) (point_of I.value c)) }
+    requires a_in_range { IsWithin I.least I.greatest a }
+    requires b_in_range { IsWithin I.least I.greatest b }
+    requires c_in_range { IsWithin I.least I.greatest c }
+    ensures { result ≡ int_lt (pos 0) (turn a b c) }
 {
     orientation(a, b, c) == Ordering::Greater
 }
 
 // The least of the points, if there is one.
 fn least_point<I: OverlayInt>(points: &[IntPoint<I>]) -> Option<IntPoint<I>>
-    requires { All (IsWithin I.least I.greatest) (points_of I.value points.now) }
-    ensures is { point_if_any I.value result ≡ least_point (points_of I.value points.now) }
-    ensures in_range { IfSome result (λ p. IsWithin I.least I.greatest (point_of I.value p)) }
+    requires { All (IsWithin I.least I.greatest) points.now }
+    ensures is { point_if_any result ≡ least_point points.now }
+    ensures in_range { IfSome result (λ p. IsWithin I.least I.greatest p) }
 {
     let n = points.len();
     let mut least = None;
@@ -169,10 +168,10 @@ fn least_point<I: OverlayInt>(points: &[IntPoint<I>]) -> Option<IntPoint<I>>
 }
 
 fn lesser_point<I: OverlayInt>(point: IntPoint<I>, other: Option<IntPoint<I>>) -> IntPoint<I>
-    requires point_in_range { IsWithin I.least I.greatest (point_of I.value point) }
-    requires other_in_range { IfSome other (λ p. IsWithin I.least I.greatest (point_of I.value p)) }
-    ensures is { point_of I.value result ≡ lesser_point (point_of I.value point) (point_if_any I.value other) }
-    ensures in_range { IsWithin I.least I.greatest (point_of I.value result) }
+    requires point_in_range { IsWithin I.least I.greatest point }
+    requires other_in_range { IfSome other (λ p. IsWithin I.least I.greatest p) }
+    ensures is { result ≡ lesser_point point (point_if_any other) }
+    ensures in_range { IsWithin I.least I.greatest result }
 {
     match other {
         None => point,
@@ -182,9 +181,9 @@ fn lesser_point<I: OverlayInt>(point: IntPoint<I>, other: Option<IntPoint<I>>) -
 
 // The point from which a contour first comes to a point.
 fn point_before<I: OverlayInt>(points: &[IntPoint<I>], v: IntPoint<I>) -> Option<IntPoint<I>>
-    requires { All (IsWithin I.least I.greatest) (points_of I.value points.now) }
-    ensures is { point_if_any I.value result ≡ start_of (find (λ s. same_point s.b (point_of I.value v)) (contour_steps (points_of I.value points.now))) }
-    ensures in_range { IfSome result (λ p. IsWithin I.least I.greatest (point_of I.value p)) }
+    requires { All (IsWithin I.least I.greatest) points.now }
+    ensures is { point_if_any result ≡ start_of (find (λ s. same_point s.b v) (contour_steps points.now)) }
+    ensures in_range { IfSome result (λ p. IsWithin I.least I.greatest p) }
 {
     for place in 0..points.len() {
         if is_at(point_after(points, place), v) {
@@ -196,9 +195,9 @@ fn point_before<I: OverlayInt>(points: &[IntPoint<I>], v: IntPoint<I>) -> Option
 
 // The point to which a contour first goes from a point.
 fn point_behind<I: OverlayInt>(points: &[IntPoint<I>], v: IntPoint<I>) -> Option<IntPoint<I>>
-    requires { All (IsWithin I.least I.greatest) (points_of I.value points.now) }
-    ensures is { point_if_any I.value result ≡ end_of (find (λ s. same_point s.a (point_of I.value v)) (contour_steps (points_of I.value points.now))) }
-    ensures in_range { IfSome result (λ p. IsWithin I.least I.greatest (point_of I.value p)) }
+    requires { All (IsWithin I.least I.greatest) points.now }
+    ensures is { point_if_any result ≡ end_of (find (λ s. same_point s.a v) (contour_steps points.now)) }
+    ensures in_range { IfSome result (λ p. IsWithin I.least I.greatest p) }
 {
     for place in 0..points.len() {
         if is_at(points[place], v) {
@@ -211,8 +210,8 @@ fn point_behind<I: OverlayInt>(points: &[IntPoint<I>], v: IntPoint<I>) -> Option
 // The point behind a place, and the first behind the last.
 fn point_after<I: OverlayInt>(points: &[IntPoint<I>], place: usize) -> IntPoint<I>
     requires { place < length points.now }
-    ensures is { (d : Edge) → point_of I.value result ≡ (slice_index_or (contour_steps (points_of I.value points.now)) place d).b }
-    ensures in_range { All (IsWithin I.least I.greatest) (points_of I.value points.now) → IsWithin I.least I.greatest (point_of I.value result) }
+    ensures is { (d : Edge) → result ≡ (slice_index_or (contour_steps points.now) place d).b }
+    ensures in_range { All (IsWithin I.least I.greatest) points.now → IsWithin I.least I.greatest result }
 {
     if place + 1 < points.len() {
         points[place + 1]
@@ -223,14 +222,14 @@ fn point_after<I: OverlayInt>(points: &[IntPoint<I>], place: usize) -> IntPoint<
 
 // Whether the point is this one.
 fn is_at<I: OverlayInt>(a: IntPoint<I>, v: IntPoint<I>) -> bool
-    ensures { result ≡ same_point (point_of I.value a) (point_of I.value v) }
+    ensures { result ≡ same_point a v }
 {
     order_of(a, v).is_eq()
 }
 
 // The order of points, by x and then by y.
 fn order_of<I: OverlayInt>(a: IntPoint<I>, b: IntPoint<I>) -> Ordering
-    ensures { result ≡ point_order (point_of I.value a) (point_of I.value b) }
+    ensures { result ≡ point_order a b }
 {
     a.cmp(&b)
 }

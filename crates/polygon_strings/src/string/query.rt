@@ -65,7 +65,7 @@ pub(crate) fn make_graph<I: OverlayInt, L: Ledger>(
     requires name { blank.name ≡ L.name }
     requires parts { blank.parts ≡ L.parts }
     requires two { blank.parts ≡ 2 }
-    ensures links { OnOk result (map (overlay_link_of I.value) (string_links_kept_by graph_builder.new)
+    ensures links { OnOk result (map overlay_link_of (string_links_kept_by graph_builder.new)
         ≡ all_string_links (fill_rule_of fill_rule) (string_map solver.now.precision held.old.edges)) }
     ensures arrangement { OnOk result (IsArrangement (subject_of (string_map solver.now.precision held.old.edges))) }
     ensures empty { IfOk result (λ is_empty. IsTrue is_empty ↔ (string_map solver.now.precision held.old.edges ≡ [])) }
@@ -99,8 +99,8 @@ pub(crate) fn find_clip<I: OverlayInt, L: Ledger>(
     requires parts { blank.parts ≡ L.parts }
     requires two { blank.parts ≡ 2 }
     ensures clip { IfOk result (λ paths. IsClip (kept_steps (fill_rule_of fill_rule) clip_rule (string_map solver.now.precision held.old.edges))
-        (contours_of I.value paths.items)) }
-    ensures in_range { IfOk result (λ paths. All (All (IsWithin I.least I.greatest)) (contours_of I.value paths.items)) }
+        (contours_of paths.items)) }
+    ensures in_range { IfOk result (λ paths. All (All (IsWithin I.least I.greatest)) (contours_of paths.items)) }
     ensures held { IsStringHeld I.least I.greatest held.new.edges }
     ensures refused { IfErr result (IsQueryRefused solver.now.precision held.old.edges) }
 {

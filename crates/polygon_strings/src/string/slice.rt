@@ -1,10 +1,9 @@
 //! Slices of polygons by one call: a builder is made of shape and strings, asked for the graph, and its pieces are extracted. It
 //! takes the time of these.
 
-ghost use Rattle.std.specs.Prelude.{◌∷◌, [], false, All, IfOk, IfErr, map};
+ghost use Rattle.std.specs.Prelude.{◌∷◌, [], false, All, IfOk, IfErr};
 ghost use Rattle.plane_base.specs.GivenViews.{contours_of};
 ghost use Rattle.plane_base.specs.Plane.{IsWithin};
-ghost use Rattle.plane_base.specs.Views.{points_of};
 ghost use Rattle.segment_arrangement.specs.RuleViews.{fill_rule_of};
 ghost use Rattle.contour_walk.specs.BindingLaws.{all_contours};
 ghost use Rattle.contour_walk.specs.ShapeViews.{shapes_of};
@@ -37,11 +36,11 @@ pub trait IntSlice<I: OverlayInt>: IntShapeResource<I> {
         fill_rule: FillRule,
     ) -> Result<IntShapes<I>, Fault>
         requires ready { Self.is_ready self.now }
-        requires in_range { All (All (IsWithin I.least I.greatest)) (map (points_of I.value) (Self.paths self.now)) }
-        requires line_in_range { All (IsWithin I.least I.greatest) (points_of I.value line) }
+        requires in_range { All (All (IsWithin I.least I.greatest)) (Self.paths self.now) }
+        requires line_in_range { All (IsWithin I.least I.greatest) line }
         ensures slice { IfOk result (λ shapes. IsSliceOf I.least I.greatest (fill_rule_of fill_rule)
-            (map (points_of I.value) (Self.paths self.now)) (points_of I.value line ∷ []) (shapes_of I.value shapes.shapes.items)) }
-        ensures refused { IfErr result (IsSliceRefused (map (points_of I.value) (Self.paths self.now)) (points_of I.value line ∷ [])) };
+            (Self.paths self.now) (line ∷ []) (shapes_of shapes.shapes.items)) }
+        ensures refused { IfErr result (IsSliceRefused (Self.paths self.now) (line ∷ [])) };
 
     /// Slices by lines.
     fn slice_by_lines(
@@ -51,11 +50,11 @@ pub trait IntSlice<I: OverlayInt>: IntShapeResource<I> {
         fill_rule: FillRule,
     ) -> Result<IntShapes<I>, Fault>
         requires ready { Self.is_ready self.now }
-        requires in_range { All (All (IsWithin I.least I.greatest)) (map (points_of I.value) (Self.paths self.now)) }
-        requires lines_in_range { All (All (IsWithin I.least I.greatest)) (map (points_of I.value) lines.now) }
+        requires in_range { All (All (IsWithin I.least I.greatest)) (Self.paths self.now) }
+        requires lines_in_range { All (All (IsWithin I.least I.greatest)) lines.now }
         ensures slice { IfOk result (λ shapes. IsSliceOf I.least I.greatest (fill_rule_of fill_rule)
-            (map (points_of I.value) (Self.paths self.now)) (map (points_of I.value) lines.now) (shapes_of I.value shapes.shapes.items)) }
-        ensures refused { IfErr result (IsSliceRefused (map (points_of I.value) (Self.paths self.now)) (map (points_of I.value) lines.now)) };
+            (Self.paths self.now) lines.now (shapes_of shapes.shapes.items)) }
+        ensures refused { IfErr result (IsSliceRefused (Self.paths self.now) lines.now) };
 
     /// Slices by an open path.
     fn slice_by_path(
@@ -65,11 +64,11 @@ pub trait IntSlice<I: OverlayInt>: IntShapeResource<I> {
         fill_rule: FillRule,
     ) -> Result<IntShapes<I>, Fault>
         requires ready { Self.is_ready self.now }
-        requires in_range { All (All (IsWithin I.least I.greatest)) (map (points_of I.value) (Self.paths self.now)) }
-        requires path_in_range { All (IsWithin I.least I.greatest) (points_of I.value path.now.points.items) }
+        requires in_range { All (All (IsWithin I.least I.greatest)) (Self.paths self.now) }
+        requires path_in_range { All (IsWithin I.least I.greatest) path.now.points.items }
         ensures slice { IfOk result (λ shapes. IsSliceOf I.least I.greatest (fill_rule_of fill_rule)
-            (map (points_of I.value) (Self.paths self.now)) (points_of I.value path.now.points.items ∷ []) (shapes_of I.value shapes.shapes.items)) }
-        ensures refused { IfErr result (IsSliceRefused (map (points_of I.value) (Self.paths self.now)) (points_of I.value path.now.points.items ∷ [])) };
+            (Self.paths self.now) (path.now.points.items ∷ []) (shapes_of shapes.shapes.items)) }
+        ensures refused { IfErr result (IsSliceRefused (Self.paths self.now) (path.now.points.items ∷ [])) };
 
     /// Slices by open paths.
     fn slice_by_paths(
@@ -79,11 +78,11 @@ pub trait IntSlice<I: OverlayInt>: IntShapeResource<I> {
         fill_rule: FillRule,
     ) -> Result<IntShapes<I>, Fault>
         requires ready { Self.is_ready self.now }
-        requires in_range { All (All (IsWithin I.least I.greatest)) (map (points_of I.value) (Self.paths self.now)) }
-        requires paths_in_range { All (All (IsWithin I.least I.greatest)) (contours_of I.value paths.now) }
+        requires in_range { All (All (IsWithin I.least I.greatest)) (Self.paths self.now) }
+        requires paths_in_range { All (All (IsWithin I.least I.greatest)) (contours_of paths.now) }
         ensures slice { IfOk result (λ shapes. IsSliceOf I.least I.greatest (fill_rule_of fill_rule)
-            (map (points_of I.value) (Self.paths self.now)) (contours_of I.value paths.now) (shapes_of I.value shapes.shapes.items)) }
-        ensures refused { IfErr result (IsSliceRefused (map (points_of I.value) (Self.paths self.now)) (contours_of I.value paths.now)) };
+            (Self.paths self.now) (contours_of paths.now) (shapes_of shapes.shapes.items)) }
+        ensures refused { IfErr result (IsSliceRefused (Self.paths self.now) (contours_of paths.now)) };
 
     /// Slices by the paths of a source, each as an open path: of a contour, too, the last point is not joined to the first.
     fn slice_by_source<R: IntShapeResource<I>>(
@@ -94,11 +93,11 @@ pub trait IntSlice<I: OverlayInt>: IntShapeResource<I> {
     ) -> Result<IntShapes<I>, Fault>
         requires ready { Self.is_ready self.now }
         requires source_ready { R.is_ready source.now }
-        requires in_range { All (All (IsWithin I.least I.greatest)) (map (points_of I.value) (Self.paths self.now)) }
-        requires source_in_range { All (All (IsWithin I.least I.greatest)) (map (points_of I.value) (R.paths source.now)) }
+        requires in_range { All (All (IsWithin I.least I.greatest)) (Self.paths self.now) }
+        requires source_in_range { All (All (IsWithin I.least I.greatest)) (R.paths source.now) }
         ensures slice { IfOk result (λ shapes. IsSliceOf I.least I.greatest (fill_rule_of fill_rule)
-            (map (points_of I.value) (Self.paths self.now)) (map (points_of I.value) (R.paths source.now)) (shapes_of I.value shapes.shapes.items)) }
-        ensures refused { IfErr result (IsSliceRefused (map (points_of I.value) (Self.paths self.now)) (map (points_of I.value) (R.paths source.now))) };
+            (Self.paths self.now) (R.paths source.now) (shapes_of shapes.shapes.items)) }
+        ensures refused { IfErr result (IsSliceRefused (Self.paths self.now) (R.paths source.now)) };
 }
 
 impl<I: OverlayInt, S: IntShapeResource<I>> IntSlice<I> for S {
@@ -109,11 +108,11 @@ impl<I: OverlayInt, S: IntShapeResource<I>> IntSlice<I> for S {
         fill_rule: FillRule,
     ) -> Result<IntShapes<I>, Fault>
         requires ready { S.is_ready self.now }
-        requires in_range { All (All (IsWithin I.least I.greatest)) (map (points_of I.value) (S.paths self.now)) }
-        requires line_in_range { All (IsWithin I.least I.greatest) (points_of I.value line) }
+        requires in_range { All (All (IsWithin I.least I.greatest)) (S.paths self.now) }
+        requires line_in_range { All (IsWithin I.least I.greatest) line }
         ensures slice { IfOk result (λ shapes. IsSliceOf I.least I.greatest (fill_rule_of fill_rule)
-            (map (points_of I.value) (S.paths self.now)) (points_of I.value line ∷ []) (shapes_of I.value shapes.shapes.items)) }
-        ensures refused { IfErr result (IsSliceRefused (map (points_of I.value) (S.paths self.now)) (points_of I.value line ∷ [])) }
+            (S.paths self.now) (line ∷ []) (shapes_of shapes.shapes.items)) }
+        ensures refused { IfErr result (IsSliceRefused (S.paths self.now) (line ∷ [])) }
     {
         let mut overlay = StringOverlay::from_shape(alloc, self)?;
         overlay.add_string_path(&line)?;
@@ -125,7 +124,14 @@ impl<I: OverlayInt, S: IntShapeResource<I>> IntSlice<I> for S {
         alloc: Global,
         lines: &[IntLine<I>],
         fill_rule: FillRule,
-    ) -> Result<IntShapes<I>, Fault> {
+    ) -> Result<IntShapes<I>, Fault>
+        requires ready { S.is_ready self.now }
+        requires in_range { All (All (IsWithin I.least I.greatest)) (S.paths self.now) }
+        requires lines_in_range { All (All (IsWithin I.least I.greatest)) lines.now }
+        ensures slice { IfOk result (λ shapes. IsSliceOf I.least I.greatest (fill_rule_of fill_rule)
+            (S.paths self.now) lines.now (shapes_of shapes.shapes.items)) }
+        ensures refused { IfErr result (IsSliceRefused (S.paths self.now) lines.now) }
+    {
         let mut overlay = StringOverlay::from_shape(alloc, self)?;
         overlay.add_string_lines(lines)?;
         slice_of(alloc, &mut overlay, fill_rule)
@@ -171,10 +177,10 @@ fn slice_of<I: OverlayInt>(
     fill_rule: FillRule,
 ) -> Result<IntShapes<I>, Fault>
     ensures slice { IfOk result (λ shapes. IsSlice false 0 (fill_rule_of fill_rule) (string_map default_precision (held_by overlay.old))
-        (shapes_of I.value shapes.shapes.items)) }
+        (shapes_of shapes.shapes.items)) }
     ensures winds { IfOk result (λ shapes. WindRoundSubject false (fill_rule_of fill_rule) (string_map default_precision (held_by overlay.old))
-        (all_contours (shapes_of I.value shapes.shapes.items))) }
-    ensures in_range { IfOk result (λ shapes. All (All (IsWithin I.least I.greatest)) (all_contours (shapes_of I.value shapes.shapes.items))) }
+        (all_contours (shapes_of shapes.shapes.items))) }
+    ensures in_range { IfOk result (λ shapes. All (All (IsWithin I.least I.greatest)) (all_contours (shapes_of shapes.shapes.items))) }
     ensures asked { IsAsked default_precision (holding_of overlay.old) result }
 {
     pieces_wind();

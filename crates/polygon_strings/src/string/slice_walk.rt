@@ -6,11 +6,10 @@
 //! step: it is its first. It takes time in the steps, and at each node that a walk comes to in the links that meet there; but which link
 //! follows at a node of many links is told once (`turns`), so that all walks through a node of n links take time n log n there together.
 
-ghost use Rattle.std.specs.Prelude.{◌≡◌, ◌≢◌, ◌<◌, None, true, false, cond, not, ◌∷◌, ◌++◌, map, flat_map, length, slice_index_or, List, ℕ};
+ghost use Rattle.std.specs.Prelude.{◌≡◌, ◌≢◌, ◌<◌, None, true, false, cond, not, ◌∷◌, map, length, slice_index_or, List, ℕ};
 ghost use Rattle.std.specs.Prelude.{All, Contains, IsPermutation, IfOk, OnOk, IfSome, IfNone, IsOkUnless};
-ghost use Rattle.plane_base.specs.Plane.{Point, Edge, IsWithin, point_order};
+ghost use Rattle.plane_base.specs.Plane.{Edge, IsWithin, point_order};
 ghost use Rattle.plane_base.specs.Segments.{IsEdgeWithin};
-ghost use Rattle.plane_base.specs.Views.{point_of, points_of};
 ghost use Rattle.plane_base.specs.GivenViews.{contours_of};
 ghost use Rattle.segment_arrangement.specs.Graphs.{ends_of};
 ghost use Rattle.segment_arrangement.specs.LentGraphs.{string_links_of, lists_lent_by};
@@ -28,7 +27,7 @@ use crate::string::clip_walk::StepsLeft;
 use crate::string::turns::{Turns, turn_at, turns_of};
 use contour_walk::turning::is_met_before;
 use plane_base::fault::Fault;
-use plane_base::int::OverlayInt;
+use plane_base::int::{IntNumber, OverlayInt};
 use plane_base::path::IntPath;
 use plane_base::point::IntPoint;
 use plane_base::segment::IdPoint;
@@ -44,10 +43,10 @@ pub(crate) fn find_walks<I: OverlayInt>(
     graph: &StringGraph<'_, I>,
     clockwise: bool,
 ) -> Result<Vec<IntPath<I>>, Fault>
-    requires { IsSliceable I.value I.least I.greatest clockwise (string_links_of graph.now) (lists_lent_by graph.now) }
+    requires { IsSliceable I.least I.greatest clockwise (string_links_of graph.now) (lists_lent_by graph.now) }
     ensures walks { IfOk result (λ walks. AreSliceWalks clockwise
-        (halves_along (map (overlay_link_of I.value) (string_links_of graph.now))) (contours_of I.value walks.items)) }
-    ensures in_range { IfOk result (λ walks. All (All (IsWithin I.least I.greatest)) (contours_of I.value walks.items)) }
+        (halves_along (map overlay_link_of (string_links_of graph.now))) (contours_of walks.items)) }
+    ensures in_range { IfOk result (λ walks. All (All (IsWithin I.least I.greatest)) (contours_of walks.items)) }
     ensures memory { IsOkUnless result Fault.Memory }
 {
     let mut left = steps_of_halves(alloc, graph.links(), clockwise)?;
@@ -56,7 +55,7 @@ pub(crate) fn find_walks<I: OverlayInt>(
 }
 
 // The steps of the halves along the links: none is passed yet.
-fn steps_of_halves<I>(
+fn steps_of_halves<I: IntNumber>(
     alloc: Global,
     links: &[OverlayLink<I, ()>],
     clockwise: bool,
@@ -107,13 +106,13 @@ fn walks_of_steps<I: OverlayInt>(
     turns: &Turns<I>,
     left: &mut [StepsLeft],
 ) -> Result<Vec<IntPath<I>>, Fault>
-    requires sliceable { IsSliceable I.value I.least I.greatest turns.now.clockwise (string_links_of graph.now) (lists_lent_by graph.now) }
-    requires turns { AreTurns I.value (string_links_of graph.now) turns.now.rings.items }
+    requires sliceable { IsSliceable I.least I.greatest turns.now.clockwise (string_links_of graph.now) (lists_lent_by graph.now) }
+    requires turns { AreTurns (string_links_of graph.now) turns.now.rings.items }
     requires beside { length left.old ≡ length (string_links_of graph.now) }
     requires all { left.old ≡ map (λ l. half_steps_of turns.now.clockwise l.fill) (string_links_of graph.now) }
     ensures walks { IfOk result (λ walks. AreSliceWalks turns.now.clockwise
-        (halves_along (map (overlay_link_of I.value) (string_links_of graph.now))) (contours_of I.value walks.items)) }
-    ensures in_range { IfOk result (λ walks. All (All (IsWithin I.least I.greatest)) (contours_of I.value walks.items)) }
+        (halves_along (map overlay_link_of (string_links_of graph.now))) (contours_of walks.items)) }
+    ensures in_range { IfOk result (λ walks. All (All (IsWithin I.least I.greatest)) (contours_of walks.items)) }
     ensures memory { IsOkUnless result Fault.Memory }
 {
     let mut walks = Vec::new(alloc);
@@ -134,21 +133,21 @@ fn begin_walk<I: OverlayInt>(
     from_a: bool,
     walks: &mut Vec<IntPath<I>>,
 ) -> Result<(), Fault>
-    requires sliceable { IsSliceable I.value I.least I.greatest turns.now.clockwise (string_links_of graph.now) (lists_lent_by graph.now) }
-    requires turns { AreTurns I.value (string_links_of graph.now) turns.now.rings.items }
+    requires sliceable { IsSliceable I.least I.greatest turns.now.clockwise (string_links_of graph.now) (lists_lent_by graph.now) }
+    requires turns { AreTurns (string_links_of graph.now) turns.now.rings.items }
     requires inside { first < length (string_links_of graph.now) }
     requires beside { length left.old ≡ length (string_links_of graph.now) }
-    requires passed { HavePassed (GoesOnBy turns.now.clockwise (halves_along (map (overlay_link_of I.value) (string_links_of graph.now))))
-        (half_steps turns.now.clockwise (map (overlay_link_of I.value) (string_links_of graph.now)))
-        (contours_of I.value walks.old.items) (steps_left (link_edges I.value (string_links_of graph.now)) left.old) }
-    requires in_range { All (All (IsWithin I.least I.greatest)) (contours_of I.value walks.old.items) }
+    requires passed { HavePassed (GoesOnBy turns.now.clockwise (halves_along (map overlay_link_of (string_links_of graph.now))))
+        (half_steps turns.now.clockwise (map overlay_link_of (string_links_of graph.now)))
+        (contours_of walks.old.items) (steps_left (link_edges (string_links_of graph.now)) left.old) }
+    requires in_range { All (All (IsWithin I.least I.greatest)) (contours_of walks.old.items) }
     ensures beside { length left.new ≡ length (string_links_of graph.now) }
     ensures stay { StayPassed left.old left.new }
     ensures used { OnOk result (is_left from_a (slice_index_or left.new first none_left) ≡ false) }
-    ensures passed { OnOk result (HavePassed (GoesOnBy turns.now.clockwise (halves_along (map (overlay_link_of I.value) (string_links_of graph.now))))
-        (half_steps turns.now.clockwise (map (overlay_link_of I.value) (string_links_of graph.now)))
-        (contours_of I.value walks.new.items) (steps_left (link_edges I.value (string_links_of graph.now)) left.new)) }
-    ensures in_range { OnOk result (All (All (IsWithin I.least I.greatest)) (contours_of I.value walks.new.items)) }
+    ensures passed { OnOk result (HavePassed (GoesOnBy turns.now.clockwise (halves_along (map overlay_link_of (string_links_of graph.now))))
+        (half_steps turns.now.clockwise (map overlay_link_of (string_links_of graph.now)))
+        (contours_of walks.new.items) (steps_left (link_edges (string_links_of graph.now)) left.new)) }
+    ensures in_range { OnOk result (All (All (IsWithin I.least I.greatest)) (contours_of walks.new.items)) }
     ensures memory { IsOkUnless result Fault.Memory }
 {
     if !left[first].is_left(from_a) {
@@ -168,20 +167,20 @@ fn walk_from<I: OverlayInt>(
     first: usize,
     from_a: bool,
 ) -> Result<Vec<IntPoint<I>>, Fault>
-    requires sliceable { IsSliceable I.value I.least I.greatest turns.now.clockwise (string_links_of graph.now) (lists_lent_by graph.now) }
-    requires turns { AreTurns I.value (string_links_of graph.now) turns.now.rings.items }
+    requires sliceable { IsSliceable I.least I.greatest turns.now.clockwise (string_links_of graph.now) (lists_lent_by graph.now) }
+    requires turns { AreTurns (string_links_of graph.now) turns.now.rings.items }
     requires inside { first < length (string_links_of graph.now) }
     requires beside { length left.old ≡ length (string_links_of graph.now) }
     requires left { is_left from_a (slice_index_or left.old first none_left) ≡ true }
-    requires among { All (Contains (half_steps turns.now.clockwise (map (overlay_link_of I.value) (string_links_of graph.now))))
-        (steps_left (link_edges I.value (string_links_of graph.now)) left.old) }
+    requires among { All (Contains (half_steps turns.now.clockwise (map overlay_link_of (string_links_of graph.now))))
+        (steps_left (link_edges (string_links_of graph.now)) left.old) }
     ensures beside { length left.new ≡ length (string_links_of graph.now) }
     ensures stay { StayPassed left.old left.new }
     ensures used { is_left from_a (slice_index_or left.new first none_left) ≡ false }
-    ensures come { IfOk result (λ points. HasWalked (GoesOnBy turns.now.clockwise (halves_along (map (overlay_link_of I.value) (string_links_of graph.now))))
-        (steps_left (link_edges I.value (string_links_of graph.now)) left.old)
-        (points_of I.value points.items) (steps_left (link_edges I.value (string_links_of graph.now)) left.new)) }
-    ensures in_range { IfOk result (λ points. All (IsWithin I.least I.greatest) (points_of I.value points.items)) }
+    ensures come { IfOk result (λ points. HasWalked (GoesOnBy turns.now.clockwise (halves_along (map overlay_link_of (string_links_of graph.now))))
+        (steps_left (link_edges (string_links_of graph.now)) left.old)
+        points.items (steps_left (link_edges (string_links_of graph.now)) left.new)) }
+    ensures in_range { IfOk result (λ points. All (IsWithin I.least I.greatest) points.items) }
     ensures memory { IsOkUnless result Fault.Memory }
 {
     let link = &graph.links()[first];
@@ -212,22 +211,22 @@ fn go_on<I: OverlayInt>(
     link: usize,
     points: &mut Vec<IntPoint<I>>,
 ) -> Result<(), Fault>
-    requires sliceable { IsSliceable I.value I.least I.greatest turns.now.clockwise (string_links_of graph.now) (lists_lent_by graph.now) }
-    requires turns { AreTurns I.value (string_links_of graph.now) turns.now.rings.items }
+    requires sliceable { IsSliceable I.least I.greatest turns.now.clockwise (string_links_of graph.now) (lists_lent_by graph.now) }
+    requires turns { AreTurns (string_links_of graph.now) turns.now.rings.items }
     requires beside { length left.old ≡ length (string_links_of graph.now) }
-    requires numbered { IsNumbered I.value (ends_of (link_edges I.value (string_links_of graph.now))) node }
-    requires came { last_of (points_of I.value points.old.items) ≡ Some (point_of I.value start) }
-    requires along { Contains (half_steps turns.now.clockwise (map (overlay_link_of I.value) (string_links_of graph.now)))
-        (record { a = point_of I.value start; b = point_of I.value node.point }) }
-    requires in_range { All (IsWithin I.least I.greatest) (points_of I.value points.old.items) }
+    requires numbered { IsNumbered (ends_of (link_edges (string_links_of graph.now))) node }
+    requires came { last_of points.old.items ≡ Some start }
+    requires along { Contains (half_steps turns.now.clockwise (map overlay_link_of (string_links_of graph.now)))
+        (record { a = start; b = node.point }) }
+    requires in_range { All (IsWithin I.least I.greatest) points.old.items }
     ensures beside { length left.new ≡ length (string_links_of graph.now) }
     ensures stay { StayPassed left.old left.new }
     ensures come { (before : List Edge) →
-        IsUnderWay (GoesOnBy turns.now.clockwise (halves_along (map (overlay_link_of I.value) (string_links_of graph.now)))) before
-        (points_of I.value points.old.items) (point_of I.value node.point) (steps_left (link_edges I.value (string_links_of graph.now)) left.old) →
-        OnOk result (HasWalked (GoesOnBy turns.now.clockwise (halves_along (map (overlay_link_of I.value) (string_links_of graph.now)))) before
-        (points_of I.value points.new.items) (steps_left (link_edges I.value (string_links_of graph.now)) left.new)) }
-    ensures in_range { OnOk result (All (IsWithin I.least I.greatest) (points_of I.value points.new.items)) }
+        IsUnderWay (GoesOnBy turns.now.clockwise (halves_along (map overlay_link_of (string_links_of graph.now)))) before
+        points.old.items node.point (steps_left (link_edges (string_links_of graph.now)) left.old) →
+        OnOk result (HasWalked (GoesOnBy turns.now.clockwise (halves_along (map overlay_link_of (string_links_of graph.now)))) before
+        points.new.items (steps_left (link_edges (string_links_of graph.now)) left.new)) }
+    ensures in_range { OnOk result (All (IsWithin I.least I.greatest) points.new.items) }
     ensures memory { IsOkUnless result Fault.Memory }
 {
     let mut from = start;
@@ -251,23 +250,23 @@ fn take_next<I: OverlayInt>(
     at: IdPoint<I>,
     by: &mut usize,
 ) -> Option<IdPoint<I>>
-    requires sliceable { IsSliceable I.value I.least I.greatest turns.now.clockwise (string_links_of graph.now) (lists_lent_by graph.now) }
-    requires turns { AreTurns I.value (string_links_of graph.now) turns.now.rings.items }
+    requires sliceable { IsSliceable I.least I.greatest turns.now.clockwise (string_links_of graph.now) (lists_lent_by graph.now) }
+    requires turns { AreTurns (string_links_of graph.now) turns.now.rings.items }
     requires beside { length left.old ≡ length (string_links_of graph.now) }
-    requires numbered { IsNumbered I.value (ends_of (link_edges I.value (string_links_of graph.now))) at }
-    requires along { Contains (half_steps turns.now.clockwise (map (overlay_link_of I.value) (string_links_of graph.now)))
-        (record { a = point_of I.value from; b = point_of I.value at.point }) }
+    requires numbered { IsNumbered (ends_of (link_edges (string_links_of graph.now))) at }
+    requires along { Contains (half_steps turns.now.clockwise (map overlay_link_of (string_links_of graph.now)))
+        (record { a = from; b = at.point }) }
     ensures beside { length left.new ≡ length (string_links_of graph.now) }
     ensures stay { StayPassed left.old left.new }
-    ensures numbered { IfSome result (IsNumbered I.value (ends_of (link_edges I.value (string_links_of graph.now)))) }
-    ensures goes_on { IfSome result (λ next. GoesOnBy turns.now.clockwise (halves_along (map (overlay_link_of I.value) (string_links_of graph.now)))
-        (record { a = point_of I.value from; b = point_of I.value at.point }) (record { a = point_of I.value at.point; b = point_of I.value next.point })) }
-    ensures passes { IfSome result (λ next. IsPermutation (steps_left (link_edges I.value (string_links_of graph.now)) left.old)
-        (record { a = point_of I.value at.point; b = point_of I.value next.point } ∷ steps_left (link_edges I.value (string_links_of graph.now)) left.new)) }
+    ensures numbered { IfSome result (IsNumbered (ends_of (link_edges (string_links_of graph.now)))) }
+    ensures goes_on { IfSome result (λ next. GoesOnBy turns.now.clockwise (halves_along (map overlay_link_of (string_links_of graph.now)))
+        (record { a = from; b = at.point }) (record { a = at.point; b = next.point })) }
+    ensures passes { IfSome result (λ next. IsPermutation (steps_left (link_edges (string_links_of graph.now)) left.old)
+        (record { a = at.point; b = next.point } ∷ steps_left (link_edges (string_links_of graph.now)) left.new)) }
     ensures unchanged { IfNone result (left.new ≡ left.old) }
-    ensures none { IfNone result ((s : Edge) → GoesOnBy turns.now.clockwise (halves_along (map (overlay_link_of I.value) (string_links_of graph.now)))
-        (record { a = point_of I.value from; b = point_of I.value at.point }) s →
-        Contains (steps_left (link_edges I.value (string_links_of graph.now)) left.new) s → ⊥) }
+    ensures none { IfNone result ((s : Edge) → GoesOnBy turns.now.clockwise (halves_along (map overlay_link_of (string_links_of graph.now)))
+        (record { a = from; b = at.point }) s →
+        Contains (steps_left (link_edges (string_links_of graph.now)) left.new) s → ⊥) }
 {
     let place = next_link(graph, turns, from, at, *by)?;
     *by = place;
@@ -288,16 +287,16 @@ fn next_link<I: OverlayInt>(
     at: IdPoint<I>,
     by: usize,
 ) -> Option<usize>
-    requires sliceable { IsSliceable I.value I.least I.greatest turns.now.clockwise (string_links_of graph.now) (lists_lent_by graph.now) }
-    requires turns { AreTurns I.value (string_links_of graph.now) turns.now.rings.items }
-    requires numbered { IsNumbered I.value (ends_of (link_edges I.value (string_links_of graph.now))) at }
-    requires along { Contains (half_steps turns.now.clockwise (map (overlay_link_of I.value) (string_links_of graph.now)))
-        (record { a = point_of I.value from; b = point_of I.value at.point }) }
+    requires sliceable { IsSliceable I.least I.greatest turns.now.clockwise (string_links_of graph.now) (lists_lent_by graph.now) }
+    requires turns { AreTurns (string_links_of graph.now) turns.now.rings.items }
+    requires numbered { IsNumbered (ends_of (link_edges (string_links_of graph.now))) at }
+    requires along { Contains (half_steps turns.now.clockwise (map overlay_link_of (string_links_of graph.now)))
+        (record { a = from; b = at.point }) }
     ensures inside { IfSome result (λ place. place < length (string_links_of graph.now)) }
-    ensures goes_on { IfSome result (λ place. (d : Edge) → GoesOnBy turns.now.clockwise (halves_along (map (overlay_link_of I.value) (string_links_of graph.now)))
-        (record { a = point_of I.value from; b = point_of I.value at.point })
-        (step_along (same_point (slice_index_or (link_edges I.value (string_links_of graph.now)) place d).a (point_of I.value at.point))
-        (slice_index_or (link_edges I.value (string_links_of graph.now)) place d))) }
+    ensures goes_on { IfSome result (λ place. (d : Edge) → GoesOnBy turns.now.clockwise (halves_along (map overlay_link_of (string_links_of graph.now)))
+        (record { a = from; b = at.point })
+        (step_along (same_point (slice_index_or (link_edges (string_links_of graph.now)) place d).a at.point)
+        (slice_index_or (link_edges (string_links_of graph.now)) place d))) }
     ensures some { result ≢ None }
 {
     match turn_at(turns, from, at, by) {
@@ -313,15 +312,15 @@ fn next_by_search<I: OverlayInt>(
     from: IntPoint<I>,
     at: IdPoint<I>,
 ) -> Option<usize>
-    requires sliceable { IsSliceable I.value I.least I.greatest clockwise (string_links_of graph.now) (lists_lent_by graph.now) }
-    requires numbered { IsNumbered I.value (ends_of (link_edges I.value (string_links_of graph.now))) at }
-    requires along { Contains (half_steps clockwise (map (overlay_link_of I.value) (string_links_of graph.now)))
-        (record { a = point_of I.value from; b = point_of I.value at.point }) }
+    requires sliceable { IsSliceable I.least I.greatest clockwise (string_links_of graph.now) (lists_lent_by graph.now) }
+    requires numbered { IsNumbered (ends_of (link_edges (string_links_of graph.now))) at }
+    requires along { Contains (half_steps clockwise (map overlay_link_of (string_links_of graph.now)))
+        (record { a = from; b = at.point }) }
     ensures inside { IfSome result (λ place. place < length (string_links_of graph.now)) }
-    ensures goes_on { IfSome result (λ place. (d : Edge) → GoesOnBy clockwise (halves_along (map (overlay_link_of I.value) (string_links_of graph.now)))
-        (record { a = point_of I.value from; b = point_of I.value at.point })
-        (step_along (same_point (slice_index_or (link_edges I.value (string_links_of graph.now)) place d).a (point_of I.value at.point))
-        (slice_index_or (link_edges I.value (string_links_of graph.now)) place d))) }
+    ensures goes_on { IfSome result (λ place. (d : Edge) → GoesOnBy clockwise (halves_along (map overlay_link_of (string_links_of graph.now)))
+        (record { a = from; b = at.point })
+        (step_along (same_point (slice_index_or (link_edges (string_links_of graph.now)) place d).a at.point)
+        (slice_index_or (link_edges (string_links_of graph.now)) place d))) }
     ensures some { result ≢ None }
 {
     let places = &graph.nodes()[at.id];
@@ -336,12 +335,12 @@ fn next_place<I: OverlayInt>(
     from: IntPoint<I>,
     v: IntPoint<I>,
 ) -> Option<usize>
-    requires links_in_range { All (λ l. IsEdgeWithin I.least I.greatest (link_edge_of I.value l)) links.now }
+    requires links_in_range { All (λ l. IsEdgeWithin I.least I.greatest (link_edge_of l)) links.now }
     requires inside { All (λ place. place < length links.now) places.now }
-    requires from_in_range { IsWithin I.least I.greatest (point_of I.value from) }
-    requires v_in_range { IsWithin I.least I.greatest (point_of I.value v) }
+    requires from_in_range { IsWithin I.least I.greatest from }
+    requires v_in_range { IsWithin I.least I.greatest v }
     ensures inside { IfSome result (λ place. place < length links.now) }
-    ensures is { IsNextPlace clockwise (point_of I.value v) (point_of I.value from) (map (overlay_link_of I.value) links.now) places.now result }
+    ensures is { IsNextPlace clockwise v from (map overlay_link_of links.now) places.now result }
 {
     let n = places.len();
     let mut found = None;
@@ -360,15 +359,15 @@ fn nearer_place<I: OverlayInt>(
     v: IntPoint<I>,
     found: Option<usize>,
 ) -> Option<usize>
-    requires links_in_range { All (λ l. IsEdgeWithin I.least I.greatest (link_edge_of I.value l)) links.now }
+    requires links_in_range { All (λ l. IsEdgeWithin I.least I.greatest (link_edge_of l)) links.now }
     requires inside { place < length links.now }
-    requires from_in_range { IsWithin I.least I.greatest (point_of I.value from) }
-    requires v_in_range { IsWithin I.least I.greatest (point_of I.value v) }
+    requires from_in_range { IsWithin I.least I.greatest from }
+    requires v_in_range { IsWithin I.least I.greatest v }
     requires found_inside { IfSome found (λ other. other < length links.now) }
     ensures inside { IfSome result (λ nearer. nearer < length links.now) }
     ensures is { (places : List ℕ) →
-        IsNextPlace clockwise (point_of I.value v) (point_of I.value from) (map (overlay_link_of I.value) links.now) places found →
-        IsNextPlace clockwise (point_of I.value v) (point_of I.value from) (map (overlay_link_of I.value) links.now) (place ∷ places) result }
+        IsNextPlace clockwise v from (map overlay_link_of links.now) places found →
+        IsNextPlace clockwise v from (map overlay_link_of links.now) (place ∷ places) result }
 {
     let link = &links[place];
     if !has_halves(link.fill) {
@@ -395,14 +394,14 @@ fn is_nearer<I: OverlayInt>(
     from: IntPoint<I>,
     v: IntPoint<I>,
 ) -> bool
-    requires links_in_range { All (λ l. IsEdgeWithin I.least I.greatest (link_edge_of I.value l)) links.now }
+    requires links_in_range { All (λ l. IsEdgeWithin I.least I.greatest (link_edge_of l)) links.now }
     requires one_inside { one < length links.now }
     requires other_inside { other < length links.now }
-    requires from_in_range { IsWithin I.least I.greatest (point_of I.value from) }
-    requires v_in_range { IsWithin I.least I.greatest (point_of I.value v) }
-    ensures { result ≡ is_met_before clockwise (point_of I.value v) (point_of I.value from)
-        (far_end (point_of I.value v) (link_at (point_of I.value v) (map (overlay_link_of I.value) links.now) one).edge)
-        (far_end (point_of I.value v) (link_at (point_of I.value v) (map (overlay_link_of I.value) links.now) other).edge) }
+    requires from_in_range { IsWithin I.least I.greatest from }
+    requires v_in_range { IsWithin I.least I.greatest v }
+    ensures { result ≡ is_met_before clockwise v from
+        (far_end v (link_at v (map overlay_link_of links.now) one).edge)
+        (far_end v (link_at v (map overlay_link_of links.now) other).edge) }
 {
     let near = far_end(&links[one], v);
     let far = far_end(&links[other], v);
@@ -411,9 +410,9 @@ fn is_nearer<I: OverlayInt>(
 
 // The other end of a link at a point.
 fn far_end<I: OverlayInt>(link: &OverlayLink<I, ()>, v: IntPoint<I>) -> IntPoint<I>
-    requires { IsEdgeWithin I.least I.greatest (link_edge_of I.value link.now) }
-    ensures is { point_of I.value result ≡ far_end (point_of I.value v) (link_edge_of I.value link.now) }
-    ensures in_range { IsWithin I.least I.greatest (point_of I.value result) }
+    requires { IsEdgeWithin I.least I.greatest (link_edge_of link.now) }
+    ensures is { result ≡ far_end v (link_edge_of link.now) }
+    ensures in_range { IsWithin I.least I.greatest result }
 {
     if is_at(link.a.point, v) {
         link.b.point
@@ -424,14 +423,14 @@ fn far_end<I: OverlayInt>(link: &OverlayLink<I, ()>, v: IntPoint<I>) -> IntPoint
 
 // Whether the point is this one.
 fn is_at<I: OverlayInt>(a: IntPoint<I>, v: IntPoint<I>) -> bool
-    ensures { result ≡ same_point (point_of I.value a) (point_of I.value v) }
+    ensures { result ≡ same_point a v }
 {
     order_of(a, v).is_eq()
 }
 
 // The order of points, by x and then by y.
 fn order_of<I: OverlayInt>(a: IntPoint<I>, b: IntPoint<I>) -> Ordering
-    ensures { result ≡ point_order (point_of I.value a) (point_of I.value b) }
+    ensures { result ≡ point_order a b }
 {
     a.cmp(&b)
 }

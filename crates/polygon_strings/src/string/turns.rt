@@ -5,10 +5,9 @@
 //! together, and not the square of n. Where a ring and a link in it stand is only noted: who goes by a note sees whether it is right, and else
 //! looks at all links of the node, as at nodes of few links.
 
-ghost use Rattle.std.specs.Prelude.{◌≡◌, ◌<◌, ◌≤◌, true, not, length, map, slice_index_or, All, IfOk, IfSome, OnOk, IsOkUnless};
+ghost use Rattle.std.specs.Prelude.{◌≡◌, ◌<◌, true, not, length, slice_index_or, All, IfOk, IfSome, OnOk, IsOkUnless};
 ghost use Rattle.plane_base.specs.Plane.{IsWithin};
 ghost use Rattle.plane_base.specs.Segments.{IsEdgeWithin};
-ghost use Rattle.plane_base.specs.Views.{point_of};
 ghost use Rattle.segment_arrangement.specs.Graphs.{ends_of};
 ghost use Rattle.segment_arrangement.specs.LentGraphs.{string_links_of, lists_lent_by};
 ghost use Rattle.segment_arrangement.specs.LinkViews.{link_edge_of, IsNumbered};
@@ -18,7 +17,7 @@ ghost use Rattle.polygon_strings.specs.NodeTurns.{half_state, half_states, AreTu
 use crate::string::slice_walk::{end_of, has_halves};
 use contour_walk::walk::spokes::Spokes;
 use plane_base::fault::Fault;
-use plane_base::int::OverlayInt;
+use plane_base::int::{IntNumber, OverlayInt};
 use plane_base::point::IntPoint;
 use plane_base::segment::{IdPoint, is_same_point};
 use segment_arrangement::fill::SegmentFill;
@@ -33,7 +32,7 @@ const FEW: usize = 16;
 // Whether outlines run clockwise, the rings of nodes of many links, and notes where they stand: for each node the number of its ring, and for
 // each link its places in the rings of its ends.
 #[derive(Debug, Drop)]
-pub(crate) struct Turns<I> {
+pub(crate) struct Turns<I: IntNumber> {
     pub(crate) clockwise: bool,
     pub(crate) rings: Vec<Spokes<I>>,
     pub(crate) of_nodes: Vec<usize>,
@@ -47,10 +46,10 @@ pub(crate) fn turns_of<I: OverlayInt>(
     graph: &StringGraph<'_, I>,
     clockwise: bool,
 ) -> Result<Turns<I>, Fault>
-    requires in_range { All (λ l. IsEdgeWithin I.least I.greatest (link_edge_of I.value l)) (string_links_of graph.now) }
-    requires walkable { IsWalkable I.value (string_links_of graph.now) (lists_lent_by graph.now) }
+    requires in_range { All (λ l. IsEdgeWithin I.least I.greatest (link_edge_of l)) (string_links_of graph.now) }
+    requires walkable { IsWalkable (string_links_of graph.now) (lists_lent_by graph.now) }
     ensures clockwise { IfOk result (λ turns. turns.clockwise ≡ clockwise) }
-    ensures rings { IfOk result (λ turns. AreTurns I.value (string_links_of graph.now) turns.rings.items) }
+    ensures rings { IfOk result (λ turns. AreTurns (string_links_of graph.now) turns.rings.items) }
     ensures memory { IsOkUnless result Fault.Memory }
 {
     let mut turns = Turns {
@@ -66,7 +65,10 @@ pub(crate) fn turns_of<I: OverlayInt>(
 }
 
 // For each link whether it has a half.
-fn states_of<I>(alloc: Global, links: &[OverlayLink<I, ()>]) -> Result<Vec<VisitState>, Fault>
+fn states_of<I: IntNumber>(
+    alloc: Global,
+    links: &[OverlayLink<I, ()>],
+) -> Result<Vec<VisitState>, Fault>
     ensures is { IfOk result (λ states. states.items ≡ half_states links.now) }
     ensures memory { IsOkUnless result Fault.Memory }
 {
@@ -95,12 +97,12 @@ fn add_rings<I: OverlayInt>(
     states: &[VisitState],
     turns: &mut Turns<I>,
 ) -> Result<(), Fault>
-    requires in_range { All (λ l. IsEdgeWithin I.least I.greatest (link_edge_of I.value l)) (string_links_of graph.now) }
-    requires walkable { IsWalkable I.value (string_links_of graph.now) (lists_lent_by graph.now) }
+    requires in_range { All (λ l. IsEdgeWithin I.least I.greatest (link_edge_of l)) (string_links_of graph.now) }
+    requires walkable { IsWalkable (string_links_of graph.now) (lists_lent_by graph.now) }
     requires states { states.now ≡ half_states (string_links_of graph.now) }
-    requires rings { AreTurns I.value (string_links_of graph.now) turns.old.rings.items }
+    requires rings { AreTurns (string_links_of graph.now) turns.old.rings.items }
     ensures clockwise { turns.new.clockwise ≡ turns.old.clockwise }
-    ensures rings { OnOk result (AreTurns I.value (string_links_of graph.now) turns.new.rings.items) }
+    ensures rings { OnOk result (AreTurns (string_links_of graph.now) turns.new.rings.items) }
     ensures memory { IsOkUnless result Fault.Memory }
 {
     for number in 0..graph.nodes().len() {
@@ -118,12 +120,12 @@ fn add_if_many<I: OverlayInt>(
     places: &[usize],
     turns: &mut Turns<I>,
 ) -> Result<(), Fault>
-    requires in_range { All (λ l. IsEdgeWithin I.least I.greatest (link_edge_of I.value l)) (string_links_of graph.now) }
-    requires walkable { IsWalkable I.value (string_links_of graph.now) (lists_lent_by graph.now) }
+    requires in_range { All (λ l. IsEdgeWithin I.least I.greatest (link_edge_of l)) (string_links_of graph.now) }
+    requires walkable { IsWalkable (string_links_of graph.now) (lists_lent_by graph.now) }
     requires states { states.now ≡ half_states (string_links_of graph.now) }
-    requires rings { AreTurns I.value (string_links_of graph.now) turns.old.rings.items }
+    requires rings { AreTurns (string_links_of graph.now) turns.old.rings.items }
     ensures clockwise { turns.new.clockwise ≡ turns.old.clockwise }
-    ensures rings { OnOk result (AreTurns I.value (string_links_of graph.now) turns.new.rings.items) }
+    ensures rings { OnOk result (AreTurns (string_links_of graph.now) turns.new.rings.items) }
     ensures memory { IsOkUnless result Fault.Memory }
 {
     if places.len() <= FEW || places[0] >= graph.links().len() {
@@ -135,11 +137,11 @@ fn add_if_many<I: OverlayInt>(
 
 // The end of a link that has this number, or else its greater end.
 fn end_at<I: OverlayInt>(graph: &StringGraph<'_, I>, place: usize, number: usize) -> IdPoint<I>
-    requires in_range { All (λ l. IsEdgeWithin I.least I.greatest (link_edge_of I.value l)) (string_links_of graph.now) }
-    requires walkable { IsWalkable I.value (string_links_of graph.now) (lists_lent_by graph.now) }
+    requires in_range { All (λ l. IsEdgeWithin I.least I.greatest (link_edge_of l)) (string_links_of graph.now) }
+    requires walkable { IsWalkable (string_links_of graph.now) (lists_lent_by graph.now) }
     requires inside { place < length (string_links_of graph.now) }
-    ensures numbered { IsNumbered I.value (ends_of (link_edges I.value (string_links_of graph.now))) result }
-    ensures in_range { IsWithin I.least I.greatest (point_of I.value result.point) }
+    ensures numbered { IsNumbered (ends_of (link_edges (string_links_of graph.now))) result }
+    ensures in_range { IsWithin I.least I.greatest result.point }
 {
     let link = &graph.links()[place];
     end_of(link, link.a.id == number)
@@ -153,14 +155,14 @@ fn add_ring<I: OverlayInt>(
     at: IdPoint<I>,
     turns: &mut Turns<I>,
 ) -> Result<(), Fault>
-    requires in_range { All (λ l. IsEdgeWithin I.least I.greatest (link_edge_of I.value l)) (string_links_of graph.now) }
-    requires walkable { IsWalkable I.value (string_links_of graph.now) (lists_lent_by graph.now) }
+    requires in_range { All (λ l. IsEdgeWithin I.least I.greatest (link_edge_of l)) (string_links_of graph.now) }
+    requires walkable { IsWalkable (string_links_of graph.now) (lists_lent_by graph.now) }
     requires states { states.now ≡ half_states (string_links_of graph.now) }
-    requires numbered { IsNumbered I.value (ends_of (link_edges I.value (string_links_of graph.now))) at }
-    requires at_in_range { IsWithin I.least I.greatest (point_of I.value at.point) }
-    requires rings { AreTurns I.value (string_links_of graph.now) turns.old.rings.items }
+    requires numbered { IsNumbered (ends_of (link_edges (string_links_of graph.now))) at }
+    requires at_in_range { IsWithin I.least I.greatest at.point }
+    requires rings { AreTurns (string_links_of graph.now) turns.old.rings.items }
     ensures clockwise { turns.new.clockwise ≡ turns.old.clockwise }
-    ensures rings { OnOk result (AreTurns I.value (string_links_of graph.now) turns.new.rings.items) }
+    ensures rings { OnOk result (AreTurns (string_links_of graph.now) turns.new.rings.items) }
     ensures memory { IsOkUnless result Fault.Memory }
 {
     let places = &graph.nodes()[at.id];
@@ -177,7 +179,7 @@ fn add_ring<I: OverlayInt>(
 }
 
 // Writes down the places of a ring's links.
-fn note_places<I>(ring: &Spokes<I>, of_starts: &mut [usize], of_ends: &mut [usize]) {
+fn note_places<I: IntNumber>(ring: &Spokes<I>, of_starts: &mut [usize], of_ends: &mut [usize]) {
     for i in 0..ring.spokes.len() {
         if i < ring.starts {
             note(of_starts, ring.spokes[i].place, i);
@@ -201,7 +203,7 @@ pub(crate) fn turn_at<I: OverlayInt>(
     at: IdPoint<I>,
     by: usize,
 ) -> Option<usize>
-    ensures { IfSome result (IsTold I.value turns.now.rings.items (not turns.now.clockwise) (point_of I.value at.point) (point_of I.value from)) }
+    ensures { IfSome result (IsTold turns.now.rings.items (not turns.now.clockwise) at.point from) }
 {
     let number = ring_at(turns, at)?;
     let place = place_in(turns, &turns.rings[number], by, from)?;
@@ -212,7 +214,7 @@ pub(crate) fn turn_at<I: OverlayInt>(
 // The number of the ring at a node, if it has one.
 fn ring_at<I: OverlayInt>(turns: &Turns<I>, at: IdPoint<I>) -> Option<usize>
     ensures inside { IfSome result (λ number. number < length turns.now.rings.items) }
-    ensures here { IfSome result (λ number. (d : _) → point_of I.value (slice_index_or turns.now.rings.items number d).center ≡ point_of I.value at.point) }
+    ensures here { IfSome result (λ number. (d : _) → (slice_index_or turns.now.rings.items number d).center ≡ at.point) }
 {
     if at.id >= turns.of_nodes.len() {
         return None;
@@ -232,7 +234,7 @@ fn place_in<I: OverlayInt>(
     from: IntPoint<I>,
 ) -> Option<usize>
     ensures inside { IfSome result (λ place. place < length ring.now.spokes.items) }
-    ensures came { IfSome result (λ place. (d : _) → point_of I.value (slice_index_or ring.now.spokes.items place d).far ≡ point_of I.value from) }
+    ensures came { IfSome result (λ place. (d : _) → (slice_index_or ring.now.spokes.items place d).far ≡ from) }
 {
     if by >= turns.of_starts.len() || by >= turns.of_ends.len() {
         return None;
@@ -251,7 +253,7 @@ fn place_in<I: OverlayInt>(
 // Whether the link at a place of a ring comes from a point.
 fn comes_from<I: OverlayInt>(ring: &Spokes<I>, place: usize, from: IntPoint<I>) -> bool
     ensures inside { result ≡ true → place < length ring.now.spokes.items }
-    ensures came { result ≡ true → (d : _) → point_of I.value (slice_index_or ring.now.spokes.items place d).far ≡ point_of I.value from }
+    ensures came { result ≡ true → (d : _) → (slice_index_or ring.now.spokes.items place d).far ≡ from }
 {
     place < ring.spokes.len() && is_same_point(ring.spokes[place].far, from)
 }

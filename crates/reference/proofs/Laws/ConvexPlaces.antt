@@ -1,10 +1,8 @@
 -- Convexity by places: what a loop over the edges, and over the points for each, can find out of one list.
-use Rattle.std.proofs.Common.{◌≡◌, ◌≢◌, ℕ, suc, ◌+◌, ◌-◌, ◌<◌, ◌≤◌, List, [], ◌∷◌, ◌++◌, length, get_or, take, drop, All, pos, ◌<ℤ◌, refl, sym, ap, ◌∙◌, subst, ◌⊎◌, inl, inr, arith, map, length-append, length-take, length-drop}
+use Rattle.std.proofs.Common.{◌≡◌, ◌≢◌, ℕ, suc, ◌+◌, ◌-◌, ◌<◌, ◌≤◌, List, [], ◌∷◌, ◌++◌, length, get_or, take, drop, All, refl, sym, ap, ◌∙◌, subst, ◌⊎◌, inl, inr, arith, length-append, length-take, length-drop}
 use Rattle.std.proofs.lemmas.Bool.{cases_lt}
-use Rattle.std.proofs.lemmas.List.{length-map, take-append-drop, get_or_append_left, get_or-append-add, get_or_default, get_or_read, get_or-map}
-use Rattle.plane_base.specs.Plane.{Point, turn}
+use Rattle.std.proofs.lemmas.List.{take-append-drop, get_or_append_left, get_or-append-add, get_or_default, get_or_read}
 use Rattle.plane_base.specs.Cycles.{SameCycle}
-use Rattle.plane_base.specs.Convexity.{IsLeftConvex, IsRightConvex, IsConvex}
 
 -- of n places in a cycle, k is the one after i
 abbrev pub Follows : ℕ → ℕ → ℕ → Type 0
@@ -154,32 +152,6 @@ module _ {A : Type 0} (P : A → A → A → Type 0) (c : List A) where
       by (inr l) =
           let here : n ≡ j = omega arith in
           replaced P (get_or_read c i x inside at_i d) (get_or_read c k y (follows_inside (length c) i k inside follows) at_k d ∙ ap (λ u. get_or c u d) same) (get_or_read c n z other_inside at_n d ∙ ap (λ u. get_or c u d) here) holds
-
--- ---- of a list's elements, seen as points by f
-
-module _ {X A : Type 0} (P : A → A → A → Type 0) (f : X → A) where
-  -- what P says of the points of three elements
-  abbrev pub Seen : X → X → X → Type 0
-  Seen x y z = P (f x) (f y) (f z)
-
-  places_seen : (xs : List X) (d : X) → AtPlaces Seen xs d → AtPlaces P (map f xs) (f d)
-  places_seen xs d holds i inside k j follows other_inside j_i j_k =
-      let same : length (map f xs) ≡ length xs = length-map xs f in
-      let next : Follows (length xs) i k = rw same at follows in
-      replaced P (sym (get_or-map f xs i d (f d) (omega arith))) (sym (get_or-map f xs k d (f d) (omega arith))) (sym (get_or-map f xs j d (f d) (omega arith)))
-      (holds i (omega arith) k j next (omega arith) j_i j_k)
-
-  pub edges_from_places_seen : (xs : List X) → ((d : X) → AtPlaces Seen xs d) → AtEdges P (map f xs)
-  edges_from_places_seen [] holds a b others same = edges_from_places P [] a (λ i inside. absurd (omega arith)) a b others same
-  edges_from_places_seen (x ∷ xs) holds a b others same =
-      edges_from_places P (map f (x ∷ xs)) (f x) (places_seen (x ∷ xs) x (holds x)) a b others same
-
-  pub places_seen_from_edges : (xs : List X) → AtEdges P (map f xs) → (d : X) → AtPlaces Seen xs d
-  places_seen_from_edges xs holds d i inside k j follows other_inside j_i j_k =
-      let same : length (map f xs) ≡ length xs = length-map xs f in
-      let next : Follows (length (map f xs)) i k = rw same follows in
-      replaced P (get_or-map f xs i d (f d) (omega arith)) (get_or-map f xs k d (f d) (omega arith)) (get_or-map f xs j d (f d) (omega arith))
-      (places_from_edges P (map f xs) (f d) holds i (omega arith) k j next (omega arith) j_i j_k)
 
 -- what holds at each place holds of the elements that are read at one
 pub read_at : {X : Type 0} (P : X → X → X → Type 0) (xs : List X) (x y z : X) (i k j : ℕ) → i < length xs → Follows (length xs) i k → j < length xs → j ≢ i → j ≢ k → x ≡ get_or xs i x → y ≡ get_or xs k y → z ≡ get_or xs j z → AtPlaces P xs x → P x y z

@@ -1,10 +1,10 @@
 -- A mark put in its place, and the marks of a pair as they are found.
-use Rattle.std.specs.Prelude.{◌≡◌, ℕ, ◌+◌, ◌<◌, ◌≤◌, List, [], ◌∷◌, ◌++◌, map, take, drop, length, ◌≢◌, Bool, true, false, cond, filter}
+use Rattle.std.specs.Prelude.{◌≡◌, ℕ, ◌+◌, ◌<◌, ◌≤◌, List, [], ◌∷◌, ◌++◌, take, drop, length, ◌≢◌, Bool, true, false, cond, filter}
 use Rattle.std.specs.List.{insert}
 use Rattle.std.specs.declared.cmp.Ordering.{Ordering}
 use Rattle.std.specs.declared.cmp.Ordering.TheVariants.{Less, Equal, Greater}
 use Rattle.std.proofs.Common.{refl, sym, ◌∙◌, ap, get_or, append_assoc, arith}
-use Rattle.std.proofs.lemmas.List.{map-append, take-append-drop, take_all, drop_all}
+use Rattle.std.proofs.lemmas.List.{take-append-drop, take_all, drop_all}
 use Rattle.plane_base.specs.Plane.{Point, Edge, edge_order}
 use Rattle.plane_base.proofs.Facts.Thinning.Indexes.{taken_to, dropped_from}
 use Rattle.segment_split.specs.Paths.{mark_order, with_mark}
@@ -24,48 +24,45 @@ by_order o s p r rest =
       | Greater ↦ r ∷ with_mark s p rest
     ]
 
-module _ {X : Type 0} (f : X → Point) (s : Edge) (p : Point) (xs : List X) (i : ℕ) (x : X) (within : i < length xs) (there : x ≡ get_or xs i x) where
-  rest_at : map f (drop i xs) ≡ f x ∷ map f (drop (i + 1) xs)
-  rest_at = ap (map f) (dropped_from xs i (i + 1) x refl (omega arith) there)
+module _ (s : Edge) (p : Point) (xs : List Point) (i : ℕ) (x : Point) (within : i < length xs) (there : x ≡ get_or xs i x) where
+  rest_at : drop i xs ≡ x ∷ drop (i + 1) xs
+  rest_at = dropped_from xs i (i + 1) x refl (omega arith) there
 
-  with_mark_at : (o : Ordering) → mark_order s p (f x) ≡ o → with_mark s p (map f (drop i xs)) ≡ by_order o s p (f x) (map f (drop (i + 1) xs))
-  with_mark_at o h = ap (with_mark s p) rest_at ∙ ap (λ o. by_order o s p (f x) (map f (drop (i + 1) xs))) h
+  with_mark_at : (o : Ordering) → mark_order s p x ≡ o → with_mark s p (drop i xs) ≡ by_order o s p x (drop (i + 1) xs)
+  with_mark_at o h = ap (with_mark s p) rest_at ∙ ap (λ o. by_order o s p x (drop (i + 1) xs)) h
 
-  pub mark_past : mark_order s p (f x) ≡ Greater
-      → with_mark s p (map f xs) ≡ map f (take i xs) ++ with_mark s p (map f (drop i xs))
-      → with_mark s p (map f xs) ≡ map f (take (i + 1) xs) ++ with_mark s p (map f (drop (i + 1) xs))
+  pub mark_past : mark_order s p x ≡ Greater
+      → with_mark s p xs ≡ take i xs ++ with_mark s p (drop i xs)
+      → with_mark s p xs ≡ take (i + 1) xs ++ with_mark s p (drop (i + 1) xs)
   mark_past greater before =
       before
-      ∙ (ap (λ l. map f (take i xs) ++ l) (with_mark_at Greater greater)
-      ∙ (sym (append_assoc (map f (take i xs)) (f x ∷ []) (with_mark s p (map f (drop (i + 1) xs))))
-      ∙ ap (λ l. l ++ with_mark s p (map f (drop (i + 1) xs))) (sym (map-append f (take i xs) (x ∷ [])) ∙ ap (map f) (sym (taken_to xs i (i + 1) x refl (omega arith) there)))))
+      ∙ (ap (λ l. take i xs ++ l) (with_mark_at Greater greater)
+      ∙ (sym (append_assoc (take i xs) (x ∷ []) (with_mark s p (drop (i + 1) xs)))
+      ∙ ap (λ l. l ++ with_mark s p (drop (i + 1) xs)) (sym (taken_to xs i (i + 1) x refl (omega arith) there))))
 
-  pub mark_there : mark_order s p (f x) ≡ Equal
-      → with_mark s p (map f xs) ≡ map f (take i xs) ++ with_mark s p (map f (drop i xs))
-      → map f xs ≡ with_mark s p (map f xs)
+  pub mark_there : mark_order s p x ≡ Equal
+      → with_mark s p xs ≡ take i xs ++ with_mark s p (drop i xs)
+      → xs ≡ with_mark s p xs
   mark_there equal before =
       sym (before
-      ∙ (ap (λ l. map f (take i xs) ++ l) (with_mark_at Equal equal ∙ sym rest_at)
-      ∙ (sym (map-append f (take i xs) (drop i xs)) ∙ ap (map f) (take-append-drop i xs))))
+      ∙ (ap (λ l. take i xs ++ l) (with_mark_at Equal equal ∙ sym rest_at)
+      ∙ take-append-drop i xs))
 
-  pub mark_before : (y : X) → mark_order s (f y) (f x) ≡ Less
-      → f y ≡ p
-      → with_mark s p (map f xs) ≡ map f (take i xs) ++ with_mark s p (map f (drop i xs))
-      → map f (insert xs i y) ≡ with_mark s p (map f xs)
-  mark_before y less is before =
-      map-append f (take i xs) (y ∷ drop i xs)
-      ∙ (ap (λ l. map f (take i xs) ++ l) (ap (λ q. q ∷ map f (drop i xs)) is ∙ (ap (λ l. p ∷ l) rest_at ∙ sym (with_mark_at Less (ap (λ q. mark_order s q (f x)) (sym is) ∙ less))))
-      ∙ sym before)
+  pub mark_before : mark_order s p x ≡ Less
+      → with_mark s p xs ≡ take i xs ++ with_mark s p (drop i xs)
+      → insert xs i p ≡ with_mark s p xs
+  mark_before less before =
+      ap (λ l. take i xs ++ l) (ap (λ l. p ∷ l) rest_at ∙ sym (with_mark_at Less less))
+      ∙ sym before
 
 -- a mark that comes after all goes to the end
-pub mark_last : {X : Type 0} (f : X → Point) (s : Edge) (xs : List X) (y : X) (i : ℕ) → length xs ≤ i
-    → with_mark s (f y) (map f xs) ≡ map f (take i xs) ++ with_mark s (f y) (map f (drop i xs))
-    → map f (xs ++ y ∷ []) ≡ with_mark s (f y) (map f xs)
-mark_last f s xs y i end before =
-    map-append f xs (y ∷ [])
-    ∙ sym (before
-    ∙ (ap (λ l. map f l ++ with_mark s (f y) (map f (drop i xs))) (take_all i xs end)
-    ∙ ap (λ l. map f xs ++ with_mark s (f y) (map f l)) (drop_all i xs end)))
+pub mark_last : (s : Edge) (xs : List Point) (y : Point) (i : ℕ) → length xs ≤ i
+    → with_mark s y xs ≡ take i xs ++ with_mark s y (drop i xs)
+    → xs ++ y ∷ [] ≡ with_mark s y xs
+mark_last s xs y i end before =
+    sym (before
+    ∙ (ap (λ l. l ++ with_mark s y (drop i xs)) (take_all i xs end)
+    ∙ ap (λ l. xs ++ with_mark s y l) (drop_all i xs end)))
 
 -- ---- the marks of a pair
 

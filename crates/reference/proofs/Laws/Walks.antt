@@ -2,13 +2,12 @@
 use Rattle.std.proofs.Common.{◌≡◌, refl, ap, ◌∙◌, ℕ, suc, ◌+◌, ◌<◌, ◌≤◌, Bool, true, false, ◌||◌, List, [], ◌∷◌, map, drop, length, get_or, Some, None, arith, cond, ◌++◌, filter, take}
 use Rattle.std.proofs.Math.ListN.{drop_of_length-le}
 use Rattle.std.specs.Prelude.{Option}
-use Rattle.std.proofs.lemmas.List.{length-map, map-append}
+use Rattle.std.proofs.lemmas.List.{map-append}
 use Rattle.plane_base.specs.Plane.{Point, Edge}
-use Rattle.plane_base.proofs.Facts.Lists.Views.{drop-mapped}
 use Rattle.contour_walk.specs.Walks.{Border, Contour, same_edge, is_one_of, left_by, top_link, contour_from, walks_within, next_point, touches, far_end}
 use Rattle.contour_walk.specs.ShapeViews.{first_walk}
 use Rattle.std.proofs.lemmas.List.Elements.{filter-append}
-use Rattle.plane_base.proofs.Facts.Thinning.Indexes.{taken_to}
+use Rattle.plane_base.proofs.Facts.Thinning.Indexes.{taken_to, dropped_from}
 use Rattle.contour_walk.specs.Turning.{first_by_turn, met_first}
 use Rattle.contour_walk.specs.WalkViews.{next_with}
 
@@ -28,17 +27,18 @@ filter_next f p xs i x inside here =
 
 -- ---- whether an edge is one of several
 
-module _ {X : Type 0} (f : X → Edge) (xs : List X) (i : ℕ) (x : X) (s : Edge) (inside : i < length xs) (at : x ≡ get_or xs i x) where
-  pub one_is_found : same_edge (f x) s ≡ true → is_one_of (drop i (map f xs)) s ≡ true
-  one_is_found same = ap (λ ts. is_one_of ts s) (drop-mapped f xs i x inside at) ∙ ap (λ b. b || is_one_of (drop (i + 1) (map f xs)) s) same
+module _ (xs : List Edge) (i : ℕ) (x s : Edge) (inside : i < length xs) (at : x ≡ get_or xs i x) where
+  from_here : drop i xs ≡ x ∷ drop (i + 1) xs
+  from_here = dropped_from xs i (i + 1) x refl (omega arith) at
 
-  pub one_is_passed : same_edge (f x) s ≡ false → is_one_of (drop i (map f xs)) s ≡ is_one_of (drop (i + 1) (map f xs)) s
-  one_is_passed other = ap (λ ts. is_one_of ts s) (drop-mapped f xs i x inside at) ∙ ap (λ b. b || is_one_of (drop (i + 1) (map f xs)) s) other
+  pub one_is_found : same_edge x s ≡ true → is_one_of (drop i xs) s ≡ true
+  one_is_found same = ap (λ ts. is_one_of ts s) from_here ∙ ap (λ b. b || is_one_of (drop (i + 1) xs) s) same
 
-pub none_is_found : {X : Type 0} (f : X → Edge) (xs : List X) (i : ℕ) (s : Edge) → length xs ≤ i → is_one_of (drop i (map f xs)) s ≡ false
-none_is_found f xs i s h =
-    let long : length (map f xs) ≤ i = omega (arith, length-map xs f) in
-    ap (λ ts. is_one_of ts s) (drop_of_length-le (map f xs) long)
+  pub one_is_passed : same_edge x s ≡ false → is_one_of (drop i xs) s ≡ is_one_of (drop (i + 1) xs) s
+  one_is_passed other = ap (λ ts. is_one_of ts s) from_here ∙ ap (λ b. b || is_one_of (drop (i + 1) xs) s) other
+
+pub none_is_found : (xs : List Edge) (i : ℕ) (s : Edge) → length xs ≤ i → is_one_of (drop i xs) s ≡ false
+none_is_found xs i s long = ap (λ ts. is_one_of ts s) (drop_of_length-le xs long)
 
 -- ---- walks one after another
 

@@ -1,11 +1,6 @@
 -- The segments of a list that start at one point.
-use Rattle.std.proofs.Common.{◌≡◌, ℤ, ℕ, zero, suc, ◌+◌, ◌<◌, ◌≤◌, ◌⊎◌, inl, inr, List, [], ◌∷◌, ◌++◌, length, take, get_or, Bool, true, false, not, refl, sym, ap, ap₂, ◌∙◌, arith}
+use Rattle.std.proofs.Common.{◌≡◌, ℕ, zero, suc, ◌+◌, ◌<◌, ◌≤◌, ◌⊎◌, inl, inr, List, [], ◌∷◌, ◌++◌, length, take, get_or, Bool, true, false, not, refl, sym, ap, ◌∙◌, arith}
 use Rattle.std.proofs.lemmas.List.{append-nil, get_or_append_left, get_or_default}
-use Rattle.std.specs.Ordering.{int_cmp, is_lt, ordering_then}
-use Rattle.std.specs.declared.cmp.Ordering.{Ordering}
-use Rattle.plane_base.specs.Plane.{is_before}
-use Rattle.plane_base.specs.Views.{point_of}
-use Rattle.plane_base.specs.declared.segment.XSegment.{XSegment}
 use Rattle.std.proofs.Math.Seq.{get_or-append_seam, take-length}
 use Rattle.std.proofs.Math.ListN.{drop, drop_of_length-le}
 
@@ -41,12 +36,6 @@ one_together f xs from n y x within here before i d l m = by (earlier_or_last i 
     by : (i < n) ⊎ (i ≡ n) → f (get_or xs i d) ≡ y
     by (inl k) = before i d l k
     by (inr e) = rw e (ap f (get_or_default xs n d x within) ∙ here)
-
--- a segment's first end is before its second
-pub ends_in_order :
-    {I : Type 0} (value : I → ℤ) (cmp : I → I → Ordering) → ((a b : I) → cmp a b ≡ int_cmp (value a) (value b)) → (s : XSegment I)
-    → is_lt (ordering_then (cmp s.a.x s.b.x) (cmp s.a.y s.b.y)) ≡ true → is_before (point_of value s.a) (point_of value s.b) ≡ true
-ends_in_order value cmp ordered s h = ap₂ (λ o p. is_lt (ordering_then o p)) (sym (ordered s.a.x s.b.x)) (sym (ordered s.a.y s.b.y)) ∙ h
 
 -- what a slice of a whole list was put back as
 pub put_whole : {X : Type 0} (n : ℕ) (xs ys : List X) → length xs ≡ length ys → n ≡ length ys → take n (xs ++ drop (length xs) ys) ≡ xs

@@ -1,7 +1,7 @@
 -- In the graph of a boundary each node has an even number of links.
 use Rattle.std.proofs.Common.{◌≡◌, ℕ, ℤ, ◌+◌, ◌%◌, List, [], ◌∷◌, ◌++◌, length, map, All, refl, subst, sym, ap, ◌∙◌}
 use Rattle.std.proofs.lemmas.List.{length-append}
-use Rattle.std.proofs.lemmas.List.Elements.{All-nil, All-cons, All-head, All-tail}
+use Rattle.std.proofs.lemmas.List.Elements.{All-nil, All-cons}
 use Rattle.plane_base.specs.Plane.{Point, Edge}
 use Rattle.plane_base.specs.Counts.{Count, Entry}
 use Rattle.plane_base.specs.Regions.{FillRule, OverlayRule}
@@ -29,8 +29,8 @@ even_places edges nodes are even =
 
 pub boundary_graph_is_even :
     {I D : Type 0} (value : I → ℤ) (fill : FillRule) (rule : OverlayRule) (es : List (Entry Count)) (links : List (OverlayLink I D)) (nodes : List OverlayNode) → IsArrangement es
-    → map (overlay_link_of value) links ≡ boundary_links fill rule es → AreNodes (map (link_edge_of value) links) nodes → All (λ n. length (places_of n) % 2 ≡ 0) nodes
+    → map overlay_link_of links ≡ boundary_links fill rule es → AreNodes (map link_edge_of links) nodes → All (λ n. length (places_of n) % 2 ≡ 0) nodes
 boundary_graph_is_even value fill rule es links nodes arranged made are =
     even_places (map (λ l. l.edge) (boundary_links fill rule es)) nodes
-    (subst (λ edges. AreNodes edges nodes) (sym (map_map (overlay_link_of value) (λ l. l.edge) (link_edge_of value) (λ l. refl) links) ∙ ap (map (λ l. l.edge)) made) are)
+    (subst (λ edges. AreNodes edges nodes) (sym (map_map overlay_link_of (λ l. l.edge) link_edge_of (λ l. refl) links) ∙ ap (map (λ l. l.edge)) made) are)
     (λ v. boundary_is_even fill rule es v arranged)

@@ -64,64 +64,64 @@ module _ {S I D : Type 0} (value : I → ℤ) (entry : S → Entry Count) (datum
 
   -- the links and data of segments that pass
   link_lists :
-      (passing : List S) → map (link_parts value) links ≡ map (λ s. (link_of fill es (entry s), datum s)) passing
-      → (map (overlay_link_of value) links ≡ map (link_of fill es) (map entry passing)) × (map (λ l. l.datum) links ≡ map datum passing)
+      (passing : List S) → map link_parts links ≡ map (λ s. (link_of fill es (entry s), datum s)) passing
+      → (map overlay_link_of links ≡ map (link_of fill es) (map entry passing)) × (map (λ l. l.datum) links ≡ map datum passing)
   link_lists passing parts = (
-    sym (map_map (link_parts value) (λ p. p.0) (overlay_link_of value) (λ l. refl) links)
+    sym (map_map link_parts (λ p. p.0) overlay_link_of (λ l. refl) links)
         ∙ (ap (map (λ p. p.0)) parts
         ∙ (map_map (λ s. (link_of fill es (entry s), datum s)) (λ p. p.0) (λ s. link_of fill es (entry s)) (λ s. refl) passing
         ∙ sym (map_map entry (link_of fill es) (λ s. link_of fill es (entry s)) (λ s. refl) passing))),
-    sym (map_map (link_parts value) (λ p. p.1) (λ l. l.datum) (λ l. refl) links)
+    sym (map_map link_parts (λ p. p.1) (λ l. l.datum) (λ l. refl) links)
         ∙ (ap (map (λ p. p.1)) parts ∙ map_map (λ s. (link_of fill es (entry s), datum s)) (λ p. p.1) datum (λ s. refl) passing),
   )
 
   pub all_made :
-      map (link_parts value) links ≡ map (λ s. (link_of fill es (entry s), datum s)) (filter (λ s. true) segments)
-      → (map (overlay_link_of value) links ≡ all_links fill es) × (map (λ l. l.datum) links ≡ map datum segments)
+      map link_parts links ≡ map (λ s. (link_of fill es (entry s), datum s)) (filter (λ s. true) segments)
+      → (map overlay_link_of links ≡ all_links fill es) × (map (λ l. l.datum) links ≡ map datum segments)
   all_made parts = link_lists segments (parts ∙ ap (map (λ s. (link_of fill es (entry s), datum s))) (filter_true segments))
 
   boundary_by :
-      (rule : OverlayRule) → map (link_parts value) links ≡ map (λ s. (link_of fill es (entry s), datum s)) (filter (λ s. tells_apart rule (fill_of fill es (entry s))) segments)
-      → (map (overlay_link_of value) links ≡ boundary_links fill rule es) × (map (λ l. l.datum) links ≡ map datum (filter (λ s. is_boundary fill rule es (entry s)) segments))
+      (rule : OverlayRule) → map link_parts links ≡ map (λ s. (link_of fill es (entry s), datum s)) (filter (λ s. tells_apart rule (fill_of fill es (entry s))) segments)
+      → (map overlay_link_of links ≡ boundary_links fill rule es) × (map (λ l. l.datum) links ≡ map datum (filter (λ s. is_boundary fill rule es (entry s)) segments))
   boundary_by rule parts =
       let passing = filter_agree (λ s. tells_apart rule (fill_of fill es (entry s))) (λ s. is_boundary fill rule es (entry s)) (λ s. fill_tells_boundary fill rule es (entry s)) segments in
       let both = link_lists (filter (λ s. is_boundary fill rule es (entry s)) segments) (parts ∙ ap (map (λ s. (link_of fill es (entry s), datum s))) passing) in
       (both.0 ∙ ap (map (link_of fill es)) (filter_mapped entry (is_boundary fill rule es) segments), both.1)
 
   pub boundary_made :
-      (rule named : OverlayRule) → named ≡ rule → map (link_parts value) links ≡ map (λ s. (link_of fill es (entry s), datum s)) (filter (λ s. tells_apart named (fill_of fill es (entry s))) segments)
-      → (map (overlay_link_of value) links ≡ boundary_links fill rule es) × (map (λ l. l.datum) links ≡ map datum (filter (λ s. is_boundary fill rule es (entry s)) segments))
+      (rule named : OverlayRule) → named ≡ rule → map link_parts links ≡ map (λ s. (link_of fill es (entry s), datum s)) (filter (λ s. tells_apart named (fill_of fill es (entry s))) segments)
+      → (map overlay_link_of links ≡ boundary_links fill rule es) × (map (λ l. l.datum) links ≡ map datum (filter (λ s. is_boundary fill rule es (entry s)) segments))
   boundary_made rule named is parts =
-      boundary_by rule (subst (λ r. map (link_parts value) links ≡ map (λ s. (link_of fill es (entry s), datum s)) (filter (λ s. tells_apart r (fill_of fill es (entry s))) segments)) is parts)
+      boundary_by rule (subst (λ r. map link_parts links ≡ map (λ s. (link_of fill es (entry s), datum s)) (filter (λ s. tells_apart r (fill_of fill es (entry s))) segments)) is parts)
 
 -- links of some segments, whatever their fills
 module _ {S I D : Type 0} (value : I → ℤ) (entry : S → Entry Count) (datum : S → D) (fill : S → ℕ) (segments : List S) (links : List (OverlayLink I D)) where
   abbrev link : S → Link
   link s = record { edge = (entry s).edge; fill = fill s }
 
-  made_of : (test : S → Bool) → map (link_parts value) links ≡ map (λ s. (link s, datum s)) (filter test segments) → map (link_edge_of value) links ≡ map (λ s. (entry s).edge) (filter test segments)
+  made_of : (test : S → Bool) → map link_parts links ≡ map (λ s. (link s, datum s)) (filter test segments) → map link_edge_of links ≡ map (λ s. (entry s).edge) (filter test segments)
   made_of test parts =
-      sym (map_map (link_parts value) (λ p. p.0.edge) (link_edge_of value) (λ l. refl) links)
+      sym (map_map link_parts (λ p. p.0.edge) link_edge_of (λ l. refl) links)
       ∙ (ap (map (λ p. p.0.edge)) parts
       ∙ map_map (λ s. (link s, datum s)) (λ p. p.0.edge) (λ s. (entry s).edge) (λ s. refl) (filter test segments))
 
   -- what holds of the edges of the segments holds of those of links that are made of some of them
   pub made_edges :
-      (P : Edge → Type 0) (test : S → Bool) → map (link_parts value) links ≡ map (λ s. (link s, datum s)) (filter test segments)
-      → All (λ e. P e.edge) (map entry segments) → All (λ l. P (link_edge_of value l)) links
+      (P : Edge → Type 0) (test : S → Bool) → map link_parts links ≡ map (λ s. (link s, datum s)) (filter test segments)
+      → All (λ e. P e.edge) (map entry segments) → All (λ l. P (link_edge_of l)) links
   made_edges P test parts h =
-      All-unmap (link_edge_of value) P links (subst (All P) (sym (made_of test parts))
+      All-unmap link_edge_of P links (subst (All P) (sym (made_of test parts))
       (All-map P (λ s. (entry s).edge) (filter test segments) (All-filter test (λ s. P (entry s).edge) segments (All-unmap entry (λ e. P e.edge) segments h))))
 
   -- links of some segments of a rising map stand by their starts
   pub made_by_start :
-      (test : S → Bool) → map (link_parts value) links ≡ map (λ s. (link s, datum s)) (filter test segments)
-      → AllPairs (λ e f. edge_order e.edge f.edge ≡ Less) (map entry segments) → AreByStart (map (link_edge_of value) links)
+      (test : S → Bool) → map link_parts links ≡ map (λ s. (link s, datum s)) (filter test segments)
+      → AllPairs (λ e f. edge_order e.edge f.edge ≡ Less) (map entry segments) → AreByStart (map link_edge_of links)
   made_by_start test parts rising =
       subst AreByStart (sym (made_of test parts)) (kept_by_start (λ s. (entry s).edge) test segments (AllPairs-unmap entry (λ e f. edge_order e.edge f.edge ≡ Less) segments rising))
 
-  pub made_length : (test : S → Bool) → map (link_parts value) links ≡ map (λ s. (link s, datum s)) (filter test segments) → length links ≤ length segments
+  pub made_length : (test : S → Bool) → map link_parts links ≡ map (λ s. (link s, datum s)) (filter test segments) → length links ≤ length segments
   made_length test parts =
       let as_many : length links ≡ length (filter test segments) =
-      sym (length-map links (link_parts value)) ∙ (ap length parts ∙ length-map (filter test segments) (λ s. (link s, datum s))) in
+      sym (length-map links link_parts) ∙ (ap length parts ∙ length-map (filter test segments) (λ s. (link s, datum s))) in
       omega (arith, as_many, length-filter_le test segments)

@@ -119,19 +119,19 @@ module _ {I D : Type 0} (value : I → ℤ) (points : List Point) where
         by (inr k) = new_end k (contains_from_member run e k)
 
 pub all_numbered :
-    {I D : Type 0} (value : I → ℤ) (links : List (OverlayLink I D)) (es : List End) → HaveNumbers {D = D} value (ends_of (map (link_edge_of value) links)) links es
-    → ((e : End) → Member e (ends_from 0 (map (link_edge_of value) links)) → Member e es) → AreNumbered value links
+    {I D : Type 0} (value : I → ℤ) (links : List (OverlayLink I D)) (es : List End) → HaveNumbers {D = D} value (ends_of (map link_edge_of links)) links es
+    → ((e : End) → Member e (ends_from 0 (map link_edge_of links)) → Member e es) → AreNumbered links
 all_numbered value links es had complete i d l = (of false, of true)
   where
     edges : List Edge
-    edges = map (link_edge_of value) links
+    edges = map link_edge_of links
 
-    of : (is_last : Bool) → IsNumber (ends_of (map (link_edge_of value) links)) (number_of is_last (get_or links i d)) (end_point is_last (link_edge_of value (get_or links i d)))
+    of : (is_last : Bool) → IsNumber (ends_of (map link_edge_of links)) (number_of is_last (get_or links i d)) (end_point is_last (link_edge_of (get_or links i d)))
     of is_last =
-        subst (λ s. IsNumber (ends_of (map (link_edge_of value) links)) (number_of is_last (get_or links i d)) (end_point is_last s)) (get_or-map (link_edge_of value) links i d (link_edge_of value d) l)
-        (had (record { point = end_point is_last (get_or (map (link_edge_of value) links) i (link_edge_of value d)); is_last = is_last; place = i }) d
-        (complete (record { point = end_point is_last (get_or (map (link_edge_of value) links) i (link_edge_of value d)); is_last = is_last; place = i })
-        (member_first is_last (map (link_edge_of value) links) i (link_edge_of value d) (rw (length-map links (link_edge_of value)) l))))
+        subst (λ s. IsNumber (ends_of (map link_edge_of links)) (number_of is_last (get_or links i d)) (end_point is_last s)) (get_or-map link_edge_of links i d (link_edge_of d) l)
+        (had (record { point = end_point is_last (get_or (map link_edge_of links) i (link_edge_of d)); is_last = is_last; place = i }) d
+        (complete (record { point = end_point is_last (get_or (map link_edge_of links) i (link_edge_of d)); is_last = is_last; place = i })
+        (member_first is_last (map link_edge_of links) i (link_edge_of d) (rw (length-map links link_edge_of) l))))
 
 -- ---- a run gets its number
 
@@ -208,11 +208,11 @@ module _ {I D : Type 0} (number : ℕ) (run : List End) (n : ℕ) (old links : L
 
 -- giving a link a number keeps its parts
 pub parts_kept :
-    {I D : Type 0} (value : I → ℤ) (links : List (OverlayLink I D)) (i : ℕ) (k : Bool) (n : ℕ) (l : OverlayLink I D) → i < length links → l ≡ get_or links i l → map (link_parts value) (set links i (with_number k n l)) ≡ map (link_parts value) links
+    {I D : Type 0} (value : I → ℤ) (links : List (OverlayLink I D)) (i : ℕ) (k : Bool) (n : ℕ) (l : OverlayLink I D) → i < length links → l ≡ get_or links i l → map link_parts (set links i (with_number k n l)) ≡ map link_parts links
 parts_kept value links i k n l inside link =
-    map-set (link_parts value) links i (with_number k n l)
-    ∙ (ap (set (map (link_parts value) links) i) (sym (get_or-map (link_parts value) links i l (link_parts value l) inside ∙ ap (link_parts value) (sym link)))
-    ∙ set-get_or (map (link_parts value) links) i (link_parts value l))
+    map-set link_parts links i (with_number k n l)
+    ∙ (ap (set (map link_parts links) i) (sym (get_or-map link_parts links i l (link_parts l) inside ∙ ap link_parts (sym link)))
+    ∙ set-get_or (map link_parts links) i (link_parts l))
 
 -- ---- lists that are seen through a map
 
@@ -220,13 +220,13 @@ pub map_map : {X Y Z : Type 0} (f : X → Y) (g : Y → Z) (h : X → Z) → ((x
 map_map f g h same [] = refl
 map_map f g h same (x ∷ xs) = λ i. same x i ∷ map_map f g h same xs i
 
-pub edges_kept : {I D : Type 0} (value : I → ℤ) (new old : List (OverlayLink I D)) → map (link_parts value) new ≡ map (link_parts value) old → map (link_edge_of value) new ≡ map (link_edge_of value) old
+pub edges_kept : {I D : Type 0} (value : I → ℤ) (new old : List (OverlayLink I D)) → map link_parts new ≡ map link_parts old → map link_edge_of new ≡ map link_edge_of old
 edges_kept value new old kept =
-    sym (map_map (link_parts value) (λ p. p.0.edge) (link_edge_of value) (λ l. refl) new)
-    ∙ (ap (map (λ p. p.0.edge)) kept ∙ map_map (link_parts value) (λ p. p.0.edge) (link_edge_of value) (λ l. refl) old)
+    sym (map_map link_parts (λ p. p.0.edge) link_edge_of (λ l. refl) new)
+    ∙ (ap (map (λ p. p.0.edge)) kept ∙ map_map link_parts (λ p. p.0.edge) link_edge_of (λ l. refl) old)
 
-pub same_length : {I D : Type 0} (value : I → ℤ) (new old : List (OverlayLink I D)) → map (link_parts value) new ≡ map (link_parts value) old → length new ≡ length old
-same_length value new old kept = sym (length-map new (link_parts value)) ∙ (ap length kept ∙ length-map old (link_parts value))
+pub same_length : {I D : Type 0} (value : I → ℤ) (new old : List (OverlayLink I D)) → map link_parts new ≡ map link_parts old → length new ≡ length old
+same_length value new old kept = sym (length-map new link_parts) ∙ (ap length kept ∙ length-map old link_parts)
 
 pub all_from_members : {X Y : Type 0} (f : X → Y) (P : Y → Type 0) (xs : List X) → ((y : Y) → Member y (map f xs) → P y) → All (λ x. P (f x)) xs
 all_from_members f P [] h = All-nil (λ x. P (f x))

@@ -7,7 +7,6 @@ use Rattle.std.proofs.lemmas.List.Elements.{All-map}
 use Rattle.std.proofs.lemmas.List.FromFn.{length-range_with_len}
 use Rattle.std.specs.Ordering.{ordering_then}
 use Rattle.plane_base.specs.Plane.{Point, Edge, point_order}
-use Rattle.plane_base.specs.Views.{point_of}
 use Rattle.plane_base.proofs.Facts.Points.Orders.{point_total, point_itself, less_apart, greater_from_less, less_from_greater}
 use Rattle.segment_arrangement.specs.Graphs.{node_at, ends_of, nodes_of}
 use Rattle.segment_arrangement.specs.LinkViews.{link_edge_of, link_parts}
@@ -392,24 +391,24 @@ run_places edges from k l = ap (λ es. map (λ e. e.place) (take k es)) (drop_ki
 
 -- ---- links whose numbers alone have changed
 
-module _ {I D : Type 0} (value : I → ℤ) (new old : List (OverlayLink I D)) (kept : map (link_parts value) new ≡ map (link_parts value) old) where
-  pub kept_within : (P : Edge → Type 0) → All (λ l. P (link_edge_of value l)) old → All (λ l. P (link_edge_of value l)) new
+module _ {I D : Type 0} (value : I → ℤ) (new old : List (OverlayLink I D)) (kept : map link_parts new ≡ map link_parts old) where
+  pub kept_within : (P : Edge → Type 0) → All (λ l. P (link_edge_of l)) old → All (λ l. P (link_edge_of l)) new
   kept_within P h i d l =
-      subst P (get_or-map (link_edge_of value) new i d (link_edge_of value d) l)
-      (subst (All P) (sym (edges_kept value new old kept)) (All-map P (link_edge_of value) old h) i (link_edge_of value d) (rw (length-map new (link_edge_of value)) l))
+      subst P (get_or-map link_edge_of new i d (link_edge_of d) l)
+      (subst (All P) (sym (edges_kept value new old kept)) (All-map P link_edge_of old h) i (link_edge_of d) (rw (length-map new link_edge_of) l))
 
   -- where a link starts
-  pub start_here : (i : ℕ) (d : End) (l : OverlayLink I D) → i < length new → get_or (ends_of_kind false 0 (map (link_edge_of value) old)) i d ≡ record { point = point_of value (get_or new i l).a.point; is_last = false; place = i }
+  pub start_here : (i : ℕ) (d : End) (l : OverlayLink I D) → i < length new → get_or (ends_of_kind false 0 (map link_edge_of old)) i d ≡ record { point = (get_or new i l).a.point; is_last = false; place = i }
   start_here i d l inside =
       ap (λ es. get_or (ends_of_kind false 0 es) i d) (sym (edges_kept value new old kept))
-      ∙ (kind_get false 0 (map (link_edge_of value) new) i d (link_edge_of value l) (rw (length-map new (link_edge_of value)) inside)
-      ∙ (λ j. record { point = (get_or-map (link_edge_of value) new i l (link_edge_of value l) inside j).a; is_last = false; place = plus j }))
+      ∙ (kind_get false 0 (map link_edge_of new) i d (link_edge_of l) (rw (length-map new link_edge_of) inside)
+      ∙ (λ j. record { point = (get_or-map link_edge_of new i l (link_edge_of l) inside j).a; is_last = false; place = plus j }))
     where
       plus : 0 + i ≡ i
       plus = omega arith
 
-  pub starts_length : length (ends_of_kind false 0 (map (link_edge_of value) old)) ≡ length new
-  starts_length = kind_length false 0 (map (link_edge_of value) old) ∙ (ap length (sym (edges_kept value new old kept)) ∙ length-map new (link_edge_of value))
+  pub starts_length : length (ends_of_kind false 0 (map link_edge_of old)) ≡ length new
+  starts_length = kind_length false 0 (map link_edge_of old) ∙ (ap length (sym (edges_kept value new old kept)) ∙ length-map new link_edge_of)
 
 -- ---- ends that are seen through a map
 
@@ -483,16 +482,16 @@ all_kinds edges starts lasts firsts seconds e m = by e.is_last refl
 
 -- ---- the same of lists that are equal
 
-module _ {I D : Type 0} (value : I → ℤ) (new old : List (OverlayLink I D)) (kept : map (link_parts value) new ≡ map (link_parts value) old) where
-  pub kept_run : (start to : ℕ) (p : Point) → IsRunAt (ends_of_kind false 0 (map (link_edge_of value) new)) start to p → IsRunAt (ends_of_kind false 0 (map (link_edge_of value) old)) start to p
+module _ {I D : Type 0} (value : I → ℤ) (new old : List (OverlayLink I D)) (kept : map link_parts new ≡ map link_parts old) where
+  pub kept_run : (start to : ℕ) (p : Point) → IsRunAt (ends_of_kind false 0 (map link_edge_of new)) start to p → IsRunAt (ends_of_kind false 0 (map link_edge_of old)) start to p
   kept_run start to p = subst (λ es. IsRunAt (ends_of_kind false 0 es) start to p) (edges_kept value new old kept)
 
   pub kept_next :
-      {X : Type 0} (f : X → End) (xs ys : List X) → xs ≡ ys → (start last : ℕ) (p : Point) → IsNextPoint (ends_of_kind false 0 (map (link_edge_of value) new)) start (map f xs) last p
-      → IsNextPoint (ends_of_kind false 0 (map (link_edge_of value) old)) start (map f ys) last p
+      {X : Type 0} (f : X → End) (xs ys : List X) → xs ≡ ys → (start last : ℕ) (p : Point) → IsNextPoint (ends_of_kind false 0 (map link_edge_of new)) start (map f xs) last p
+      → IsNextPoint (ends_of_kind false 0 (map link_edge_of old)) start (map f ys) last p
   kept_next f xs ys same start last p h =
       subst (λ es. IsNextPoint (ends_of_kind false 0 es) start (map f ys) last p) (edges_kept value new old kept)
-      (subst (λ zs. IsNextPoint (ends_of_kind false 0 (map (link_edge_of value) new)) start (map f zs) last p) same h)
+      (subst (λ zs. IsNextPoint (ends_of_kind false 0 (map link_edge_of new)) start (map f zs) last p) same h)
 
 pub equal_run :
     {X : Type 0} (f : X → End) (xs ys : List X) → xs ≡ ys → (at next : ℕ) (p : Point) → at ≤ next → next ≤ length xs → ((i : ℕ) (x : X) → at ≤ i → i < next → (f (get_or xs i x)).point ≡ p)

@@ -33,9 +33,9 @@ module _ {S : Type 0} (entry : S → Entry StringCount) (segments : List S) wher
     abbrev parts : List (Entry Count) → S → Link × D
     parts es s = (link es s, datum s)
 
-    links_made : (test : S → Bool) → map (link_parts value) links ≡ map (parts (map seen segments)) (filter test segments) → map (overlay_link_of value) links ≡ map (link (map seen segments)) (filter test segments)
+    links_made : (test : S → Bool) → map link_parts links ≡ map (parts (map seen segments)) (filter test segments) → map overlay_link_of links ≡ map (link (map seen segments)) (filter test segments)
     links_made test made =
-        sym (map_map (link_parts value) (λ p. p.0) (overlay_link_of value) (λ l. refl) links)
+        sym (map_map link_parts (λ p. p.0) overlay_link_of (λ l. refl) links)
         ∙ (ap (map (λ p. p.0)) made ∙ map_map (parts (map seen segments)) (λ p. p.0) (link (map seen segments)) (λ s. refl) (filter test segments))
 
     -- the links of all segments are those of the map
@@ -44,12 +44,12 @@ module _ {S : Type 0} (entry : S → Entry StringCount) (segments : List S) wher
         ap (λ es. map (link es) segments) seen_is_subject
         ∙ sym (map_map entry (string_link_of fill (map entry segments)) (link (subject_of (map entry segments))) (λ s. refl) segments)
 
-    pub all_strings_made : map (link_parts value) links ≡ map (parts (map seen segments)) (filter (λ s. true) segments) → map (overlay_link_of value) links ≡ all_string_links fill (map entry segments)
+    pub all_strings_made : map link_parts links ≡ map (parts (map seen segments)) (filter (λ s. true) segments) → map overlay_link_of links ≡ all_string_links fill (map entry segments)
     all_strings_made made = links_made (λ s. true) made ∙ (ap (map (link (map seen segments))) (filter_true segments) ∙ all_linked)
 
     pub clip_made :
-        (clip named : ClipRule) → named ≡ clip → map (link_parts value) links ≡ map (parts (map seen segments)) (filter (λ s. keeps named (told (map seen segments) s)) segments)
-        → map (overlay_link_of value) links ≡ clip_links fill clip (map entry segments)
+        (clip named : ClipRule) → named ≡ clip → map link_parts links ≡ map (parts (map seen segments)) (filter (λ s. keeps named (told (map seen segments) s)) segments)
+        → map overlay_link_of links ≡ clip_links fill clip (map entry segments)
     clip_made clip named is made =
         links_made (λ s. keeps named (told (map seen segments) s)) made
         ∙ (filter_mapped (link (map seen segments)) (λ l. keeps named l.fill) segments

@@ -1,10 +1,8 @@
 -- The segments at the places from one to another, and what is found of them.
-use Rattle.std.proofs.Common.{◌≡◌, ◌≢◌, ℕ, ℤ, ◌++◌, ◌+◌, ◌-◌, ◌<◌, ◌≤◌, ◌⊎◌, inl, inr, List, length, map, take, drop, filter, get_or, AllPairs, Contains, sym, ap, subst, ◌∙◌, arith}
+use Rattle.std.proofs.Common.{◌≡◌, ◌≢◌, ℕ, ◌++◌, ◌+◌, ◌-◌, ◌<◌, ◌≤◌, ◌⊎◌, inl, inr, List, length, map, take, drop, filter, get_or, AllPairs, Contains, sym, ap, subst, ◌∙◌, arith}
 use Rattle.std.specs.declared.cmp.Ordering.TheVariants.{Less}
 use Rattle.std.proofs.lemmas.List.{take-append-drop, get_or-map, length-map, take-map, drop-map, get_or-take, get_or-drop, length-take, length-drop, ext_get_or}
 use Rattle.plane_base.specs.Plane.{Point, edge_order}
-use Rattle.plane_base.specs.Views.{point_of}
-use Rattle.plane_base.specs.declared.point.IntPoint.{IntPoint}
 use Rattle.plane_base.specs.Counts.{Count, Entry}
 use Rattle.segment_arrangement.specs.FanLaws.{starts_at}
 use Rattle.segment_arrangement.specs.SweepViews.{AreStartsAt}
@@ -82,7 +80,3 @@ pub seam_after :
 seam_after entry segments from to rising some within seam together ended =
     let d = first_of segments (omega (arith, some, within)) in
     next_seam (map entry segments) (entry (get_or segments from d)).edge.a from to (omega (arith, some)) (starts_there entry segments from to d rising some within seam (together d) (ended d))
-
--- points are known by the values of their coordinates
-pub known_by_values : {I : Type 0} (value : I → ℤ) → ((a b : I) → value a ≡ value b → a ≡ b) → (a b : IntPoint I) → point_of value a ≡ point_of value b → a ≡ b
-known_by_values value tells a b same i = record { x = tells a.x b.x (ap (λ p. p.x) same) i; y = tells a.y b.y (ap (λ p. p.y) same) i }

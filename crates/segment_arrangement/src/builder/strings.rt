@@ -44,15 +44,15 @@ impl<I: OverlayInt, D: Copy> GraphBuilder<I, D> {
         solver: &Solver,
         segments: &[Segment<ShapeCountString, I, ()>],
     ) -> Result<StringGraph<'_, I>, Fault>
-        requires in_range { AreWithin I.least I.greatest (entries_of I.value segments.now) }
-        requires arrangement { IsArrangement (subject_of (entries_of I.value segments.now)) }
+        requires in_range { AreWithin I.least I.greatest (entries_of segments.now) }
+        requires arrangement { IsArrangement (subject_of (entries_of segments.now)) }
         requires few { length segments.now < 2 ^ 31 }
-        ensures links { IfOk result (λ graph. map (overlay_link_of I.value) (string_links_of graph)
-            ≡ all_string_links (fill_rule_of fill_rule) (entries_of I.value segments.now)) }
-        ensures nodes { IfOk result (λ graph. AreLists (map (link_edge_of I.value) (string_links_of graph)) (lists_lent_by graph)) }
-        ensures numbers { IfOk result (λ graph. AreNumbered I.value (string_links_of graph)) }
-        ensures err { IfErr result (IsRefusal (subject_of (entries_of I.value segments.now))) }
-        ensures* after { sem 𝓛 (Rests (the_row I.row D.row I.Wide.row I.OverlayInt.own I.Ord.own I.PartialEq.own I.PartialOrd.own
+        ensures links { IfOk result (λ graph. map overlay_link_of (string_links_of graph)
+            ≡ all_string_links (fill_rule_of fill_rule) (entries_of segments.now)) }
+        ensures nodes { IfOk result (λ graph. AreLists (map link_edge_of (string_links_of graph)) (lists_lent_by graph)) }
+        ensures numbers { IfOk result (λ graph. AreNumbered (string_links_of graph)) }
+        ensures err { IfErr result (IsRefusal (subject_of (entries_of segments.now))) }
+        ensures* after { sem 𝓛 (Rests (the_row I.row D.row I.Wide.row I.OverlayInt.own I.IntNumber.own I.Ord.own I.PartialEq.own I.PartialOrd.own
             I.Wide.WideIntNumber.own I.Wide.Ord.own I.Wide.PartialEq.own I.Wide.PartialOrd.own
             I.Clone.own I.Eq.own I.Expiration.own I.Wide.Clone.own I.Wide.Eq.own) self.entry (λ new. OnErr result (string_links_kept_by new ≡ []))) }
     {
@@ -69,15 +69,15 @@ impl<I: OverlayInt, D: Copy> GraphBuilder<I, D> {
         solver: &Solver,
         segments: &[Segment<ShapeCountString, I, ()>],
     ) -> Result<StringGraph<'_, I>, Fault>
-        requires in_range { AreWithin I.least I.greatest (entries_of I.value segments.now) }
-        requires arrangement { IsArrangement (subject_of (entries_of I.value segments.now)) }
+        requires in_range { AreWithin I.least I.greatest (entries_of segments.now) }
+        requires arrangement { IsArrangement (subject_of (entries_of segments.now)) }
         requires few { length segments.now < 2 ^ 31 }
-        ensures links { IfOk result (λ graph. map (overlay_link_of I.value) (string_links_of graph)
-            ≡ clip_links (fill_rule_of fill_rule) clip_rule (entries_of I.value segments.now)) }
-        ensures nodes { IfOk result (λ graph. AreLists (map (link_edge_of I.value) (string_links_of graph)) (lists_lent_by graph)) }
-        ensures numbers { IfOk result (λ graph. AreNumbered I.value (string_links_of graph)) }
-        ensures err { IfErr result (IsRefusal (subject_of (entries_of I.value segments.now))) }
-        ensures* after { sem 𝓛 (Rests (the_row I.row D.row I.Wide.row I.OverlayInt.own I.Ord.own I.PartialEq.own I.PartialOrd.own
+        ensures links { IfOk result (λ graph. map overlay_link_of (string_links_of graph)
+            ≡ clip_links (fill_rule_of fill_rule) clip_rule (entries_of segments.now)) }
+        ensures nodes { IfOk result (λ graph. AreLists (map link_edge_of (string_links_of graph)) (lists_lent_by graph)) }
+        ensures numbers { IfOk result (λ graph. AreNumbered (string_links_of graph)) }
+        ensures err { IfErr result (IsRefusal (subject_of (entries_of segments.now))) }
+        ensures* after { sem 𝓛 (Rests (the_row I.row D.row I.Wide.row I.OverlayInt.own I.IntNumber.own I.Ord.own I.PartialEq.own I.PartialOrd.own
             I.Wide.WideIntNumber.own I.Wide.Ord.own I.Wide.PartialEq.own I.Wide.PartialOrd.own
             I.Clone.own I.Eq.own I.Expiration.own I.Wide.Clone.own I.Wide.Eq.own) self.entry (λ new. OnErr result (string_links_kept_by new ≡ []))) }
     {
@@ -93,13 +93,13 @@ impl<I: OverlayInt, D: Copy> GraphBuilder<I, D> {
         solver: &Solver,
         segments: &[Segment<ShapeCountString, I, ()>],
     ) -> Result<(), Fault>
-        requires in_range { AreWithin I.least I.greatest (entries_of I.value segments.now) }
-        requires arrangement { IsArrangement (subject_of (entries_of I.value segments.now)) }
+        requires in_range { AreWithin I.least I.greatest (entries_of segments.now) }
+        requires arrangement { IsArrangement (subject_of (entries_of segments.now)) }
         requires few { length segments.now < 2 ^ 31 }
-        ensures links { OnOk result (map (overlay_link_of I.value) (string_links_kept_by self.new)
-            ≡ all_string_links (fill_rule_of fill_rule) (entries_of I.value segments.now)) }
+        ensures links { OnOk result (map overlay_link_of (string_links_kept_by self.new)
+            ≡ all_string_links (fill_rule_of fill_rule) (entries_of segments.now)) }
         ensures nothing { OnErr result (string_links_kept_by self.new ≡ []) }
-        ensures err { IfErr result (IsRefusal (subject_of (entries_of I.value segments.now))) }
+        ensures err { IfErr result (IsRefusal (subject_of (entries_of segments.now))) }
     {
         self.collect_strings::<AllFilter>(fill_rule, solver, segments)
     }
@@ -120,13 +120,13 @@ impl<I: OverlayInt, D: Copy> GraphBuilder<I, D> {
         solver: &Solver,
         segments: &[Segment<ShapeCountString, I, ()>],
     ) -> Result<(), Fault>
-        requires in_range { AreWithin I.least I.greatest (entries_of I.value segments.now) }
-        requires arrangement { IsArrangement (subject_of (entries_of I.value segments.now)) }
+        requires in_range { AreWithin I.least I.greatest (entries_of segments.now) }
+        requires arrangement { IsArrangement (subject_of (entries_of segments.now)) }
         requires few { length segments.now < 2 ^ 31 }
-        ensures links { OnOk result (map (overlay_link_of I.value) (string_links_kept_by self.new)
-            ≡ clip_links (fill_rule_of fill_rule) clip_rule (entries_of I.value segments.now)) }
+        ensures links { OnOk result (map overlay_link_of (string_links_kept_by self.new)
+            ≡ clip_links (fill_rule_of fill_rule) clip_rule (entries_of segments.now)) }
         ensures nothing { OnErr result (string_links_kept_by self.new ≡ []) }
-        ensures err { IfErr result (IsRefusal (subject_of (entries_of I.value segments.now))) }
+        ensures err { IfErr result (IsRefusal (subject_of (entries_of segments.now))) }
     {
         match (clip_rule.invert, clip_rule.boundary_included) {
             (false, false) => {
@@ -159,14 +159,14 @@ impl<I: OverlayInt, D: Copy> GraphBuilder<I, D> {
         solver: &Solver,
         segments: &[Segment<ShapeCountString, I, ()>],
     ) -> Result<(), Fault>
-        requires in_range { AreWithin I.least I.greatest (entries_of I.value segments.now) }
-        requires arrangement { IsArrangement (subject_of (entries_of I.value segments.now)) }
+        requires in_range { AreWithin I.least I.greatest (entries_of segments.now) }
+        requires arrangement { IsArrangement (subject_of (entries_of segments.now)) }
         requires few { length segments.now < 2 ^ 31 }
-        ensures parts { OnOk result (map (link_parts I.value) (string_links_kept_by self.new)
-            ≡ passing_parts I.value (fill_told string_fill I.value (fill_rule_of fill_rule) (all_seen subject_alone I.value segments.now))
+        ensures parts { OnOk result (map link_parts (string_links_kept_by self.new)
+            ≡ passing_parts (fill_told string_fill (fill_rule_of fill_rule) (all_seen subject_alone segments.now))
             F.includes segments.now) }
         ensures nothing { OnErr result (string_links_kept_by self.new ≡ []) }
-        ensures err { IfErr result (IsRefusal (all_seen subject_alone I.value segments.now)) }
+        ensures err { IfErr result (IsRefusal (all_seen subject_alone segments.now)) }
     {
         let storage = mem::replace(&mut self.string_links, Vec::new(self.alloc));
         self.string_links = make_graph::<ShapeCountString, F, I, (), Vec<usize>>(

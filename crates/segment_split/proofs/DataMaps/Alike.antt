@@ -7,7 +7,7 @@ use Rattle.segment_split.specs.Passes.{pass}
 use Rattle.segment_split.specs.Redrawing.{redrawn}
 use Rattle.segment_split.specs.SegmentViews.{entries_of}
 use Rattle.segment_split.specs.Seen.{Seen, seen_join, seen_entries_of}
-use Rattle.segment_split.specs.declared.segment.Segment.{Segment}
+use Rattle.segment_split.specs.SegmentParts.{Segment}
 use Rattle.segment_split.specs.declared.solver.Precision.{Precision}
 use Rattle.segment_split.proofs.DataMaps.Forgets.{forget_pass, forget_redrawn}
 use Rattle.segment_split.proofs.Seen.{seen_without}
@@ -39,19 +39,19 @@ module _ {D : Type 0} (alike : (d e : D) → d ≡ e) where
       seen_both = seen_alike joins e.count.1 f.count.1
 
   -- the segments of the redrawn map have its data
-  pub redrawn_alike : {C I : Type 0} {order equality part : _} {kind : Counting C} (laws : IsCounting kind) (join : D → D → D) (joins : Bool) (precision : Precision) (value : I → ℤ)
-      (ss rs : List (Segment C I D order equality part)) → entries_of value rs ≡ redrawn kind precision (entries_of value ss)
-      → seen_entries_of value joins rs ≡ redrawn_with_data kind (seen_join joins join) precision (seen_entries_of value joins ss)
+  pub redrawn_alike : {C I : Type 0} {kind : Counting C} (laws : IsCounting kind) (join : D → D → D) (joins : Bool) (precision : Precision) (value : I → ℤ)
+      (ss rs : List (Segment C D)) → entries_of rs ≡ redrawn kind precision (entries_of ss)
+      → seen_entries_of joins rs ≡ redrawn_with_data kind (seen_join joins join) precision (seen_entries_of joins ss)
   redrawn_alike {kind = kind} laws join joins precision value ss rs h =
-      same_with_data joins (seen_entries_of value joins rs) (redrawn_with_data kind (seen_join joins join) precision (seen_entries_of value joins ss))
+      same_with_data joins (seen_entries_of joins rs) (redrawn_with_data kind (seen_join joins join) precision (seen_entries_of joins ss))
       (seen_without value joins rs
-      ∙ (h ∙ (ap (redrawn kind precision) (sym (seen_without value joins ss)) ∙ sym (forget_redrawn laws (seen_join joins join) precision (seen_entries_of value joins ss)))))
+      ∙ (h ∙ (ap (redrawn kind precision) (sym (seen_without value joins ss)) ∙ sym (forget_redrawn laws (seen_join joins join) precision (seen_entries_of joins ss)))))
 
   -- and so those of the map after a pass
-  pub pass_alike : {C I : Type 0} {order equality part : _} {kind : Counting C} (laws : IsCounting kind) (join : D → D → D) (joins : Bool) (precision : Precision) (value : I → ℤ)
-      (ss rs : List (Segment C I D order equality part)) (k : ℕ) → entries_of value rs ≡ pass kind precision (entries_of value ss) k
-      → seen_entries_of value joins rs ≡ pass_with_data kind (seen_join joins join) precision (seen_entries_of value joins ss) k
+  pub pass_alike : {C I : Type 0} {kind : Counting C} (laws : IsCounting kind) (join : D → D → D) (joins : Bool) (precision : Precision) (value : I → ℤ)
+      (ss rs : List (Segment C D)) (k : ℕ) → entries_of rs ≡ pass kind precision (entries_of ss) k
+      → seen_entries_of joins rs ≡ pass_with_data kind (seen_join joins join) precision (seen_entries_of joins ss) k
   pass_alike {kind = kind} laws join joins precision value ss rs k h =
-      same_with_data joins (seen_entries_of value joins rs) (pass_with_data kind (seen_join joins join) precision (seen_entries_of value joins ss) k)
+      same_with_data joins (seen_entries_of joins rs) (pass_with_data kind (seen_join joins join) precision (seen_entries_of joins ss) k)
       (seen_without value joins rs
-      ∙ (h ∙ (ap (λ l. pass kind precision l k) (sym (seen_without value joins ss)) ∙ sym (forget_pass laws (seen_join joins join) precision (seen_entries_of value joins ss) k))))
+      ∙ (h ∙ (ap (λ l. pass kind precision l k) (sym (seen_without value joins ss)) ∙ sym (forget_pass laws (seen_join joins join) precision (seen_entries_of joins ss) k))))

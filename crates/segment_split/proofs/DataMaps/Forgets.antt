@@ -19,7 +19,7 @@ use Rattle.segment_split.specs.Data.{is_counted, never_empty, carried, without_d
 use Rattle.segment_split.specs.Data.{redrawn_with_data, data_entries_of}
 use Rattle.segment_split.specs.DataLaws.{ForgetsData}
 use Rattle.segment_split.specs.declared.solver.Precision.{Precision}
-use Rattle.segment_split.specs.declared.segment.Segment.{Segment}
+use Rattle.segment_split.specs.SegmentParts.{Segment}
 use Rattle.segment_split.proofs.Redrawing.Counts.{with_count_of, counts_normal}
 use Rattle.segment_split.proofs.DataMaps.Drops.{drop_last}
 
@@ -55,10 +55,10 @@ edges_without_data [] = refl
 edges_without_data (e ∷ es) = ap (λ l. e.edge ∷ l) (edges_without_data es)
 
 -- segments seen with their data, and then without them
-pub entries_without_data : {C I D : Type 0} {order equality part : _} (value : I → ℤ) (ss : List (Segment C I D order equality part))
-    → without_data (data_entries_of value ss) ≡ entries_of value ss
+pub entries_without_data : {C I D : Type 0} (value : I → ℤ) (ss : List (Segment C D))
+    → without_data (data_entries_of ss) ≡ entries_of ss
 entries_without_data value [] = refl
-entries_without_data value (s ∷ ss) = ap (λ l. record { edge = edge_of value s.x_segment; count = s.count } ∷ l) (entries_without_data value ss)
+entries_without_data value (s ∷ ss) = ap (λ l. record { edge = edge_of s.x_segment; count = s.count } ∷ l) (entries_without_data value ss)
 
 module _ {C D : Type 0} (kind : Counting C) (join : D → D → D) where
   -- what is dropped is told by counts alone

@@ -19,7 +19,7 @@ use Rattle.segment_split.specs.WholeLaws.{AllMeetWhole, MeetsAllWhole}
 use Rattle.segment_split.specs.declared.solver.Precision.{Precision}
 use Rattle.segment_split.specs.declared.solver.Solver.{Solver}
 use Rattle.segment_split.specs.declared.solver.Strategy.TheVariants as strategy
-use Rattle.segment_split.proofs.Passes.MarkLists.{at_same, at_contains, contains_at, on_grid_whole, edges_directed}
+use Rattle.segment_split.proofs.Passes.MarkLists.{at_same, contains_at, on_grid_whole, edges_directed}
 use Rattle.segment_split.proofs.Passes.Unmarked.{parted_itself}
 use Rattle.segment_split.proofs.Redrawing.Loops.{not_false}
 use Rattle.segment_split.proofs.Whole.RectilinearEdges.{lines_meet_whole}

@@ -1,13 +1,13 @@
 -- The marks of a pass, found pair by pair.
-use Rattle.std.specs.Prelude.{◌≡◌, ◌≢◌, ◌==◌, ◌||◌, ◌&&◌, not, slice_index_or, ◌↔◌, ◌⊎◌, ℕ, zero, suc, ◌+◌, ◌<◌, ◌≤◌, ℤ, ◌≤ℤ◌, ◌<ℤ◌, Bool, true, false, cond, nat_lt, List, [], ◌∷◌, ◌++◌, length, map, flat_map, All, AllPairs, Contains, IsPermutation}
+use Rattle.std.specs.Prelude.{◌≡◌, ◌≢◌, ◌==◌, ◌||◌, ◌&&◌, not, slice_index_or, ◌↔◌, ◌⊎◌, ℕ, zero, suc, ◌+◌, ◌<◌, ◌≤◌, ℤ, ◌≤ℤ◌, ◌<ℤ◌, Bool, true, false, List, [], ◌∷◌, ◌++◌, length, map, flat_map, All, AllPairs, Contains, IsPermutation}
 use Rattle.std.specs.Int.{int_min, int_max}
 use Rattle.std.specs.declared.cmp.Ordering.TheVariants.{Less}
-use Rattle.std.proofs.Common.{refl, sym, ap, ap₂, ◌∙◌, subst, inl, inr, ⊎_elim, get_or, arith}
+use Rattle.std.proofs.Common.{refl, sym, ap, ap₂, ◌∙◌, subst, inl, inr, get_or, arith}
 use Rattle.std.proofs.lemmas.Int.{ints}
 use Rattle.std.proofs.lemmas.Bool.{cases_order, false≢true}
 use Rattle.std.proofs.lemmas.List.Sorted.{All-permutation, Contains-permutation}
 use Rattle.std.proofs.lemmas.List.{get_or_default, get_or-map, length-map}
-use Rattle.std.proofs.lemmas.List.Elements.{All-nil, All-cons, All-get_or, All-append, All-map, All-weaker, All-contains, All-contains_itself, Contains-append_left, Contains-append_right, Contains-append_cases}
+use Rattle.std.proofs.lemmas.List.Elements.{All-nil, All-cons, All-get_or, All-map, All-weaker, All-contains, All-contains_itself, Contains-append_left, Contains-append_right, Contains-append_cases}
 use Rattle.plane_base.specs.Plane.{Point, Edge, IsWithin, is_before, edge_order}
 use Rattle.plane_base.specs.Segments.{cross_properly, parted}
 use Rattle.plane_base.specs.Crossing.{Marks, no_marks, exchanged, marks_by, crossing, is_whole, crosses_off_grid}
@@ -15,11 +15,10 @@ use Rattle.plane_base.specs.declared.rounding.Rounding.{Rounding}
 use Rattle.plane_base.specs.declared.rounding.Rounding.TheVariants.{Nearest}
 use Rattle.plane_base.proofs.Facts.Crossings.Roundings.{unless_parted as unless_parted_by, marks_turned, unmarked_apart}
 use Rattle.plane_base.specs.WholeLaws.{MeetsWhole}
-use Rattle.plane_base.specs.CrossingLaws.{BoxesMeet}
 use Rattle.plane_base.specs.MarkOrder.{along}
-use Rattle.plane_base.proofs.Facts.Points.Orders.{edge_total, less_then, less_apart, point_less_x, point_equal, before_is_less}
+use Rattle.plane_base.proofs.Facts.Points.Orders.{edge_total, less_apart, point_less_x, before_is_less}
 use Rattle.plane_base.specs.Counts.{Counting, Entry, IsNormal}
-use Rattle.segment_split.specs.Passes.{early_passes, edges_of, radius, marks_in, marks_on, MarksSome}
+use Rattle.segment_split.specs.Passes.{edges_of, marks_in, marks_on, MarksSome}
 use Rattle.segment_split.specs.MarkLists.{LaidMark, place_along, laid_on, IsAt, IsLaid, HasMark, HasPair, AreMarks, IsFound, SkipsOld, CountsPairs}
 use Rattle.i_tree.specs.Steps.{Counts}
 use Rattle.segment_split.specs.declared.solver.Precision.{Precision}
@@ -27,9 +26,7 @@ use Rattle.segment_split.proofs.Passes.Unmarked.{unless_parted, parted_itself}
 use Rattle.segment_split.proofs.Facts.Marks.{marks_exchanged}
 use Rattle.segment_split.proofs.Redrawing.Neighbours.{AllPairs-map}
 use Rattle.segment_split.proofs.Spread.StaircaseMembers.{marks_stand_along}
-use Rattle.segment_split.specs.WholeLaws.{AllMeetWhole}
 use Rattle.plane_base.proofs.Facts.Crossings.Steps.{parted_on_grid}
-use Rattle.plane_base.proofs.Facts.Crossings.Whole.{whole_marks_stay}
 
 -- ---- elements by number
 

@@ -16,7 +16,7 @@ use Rattle.plane_base.proofs.Facts.Points.Orders.{edge_total}
 use Rattle.segment_split.specs.Merging.{IsMap}
 use Rattle.segment_split.specs.SegmentViews.{entries_of, AreSorted}
 use Rattle.segment_split.specs.Seen.{Seen, seen_entries_of}
-use Rattle.segment_split.specs.declared.segment.Segment.{Segment}
+use Rattle.segment_split.specs.SegmentParts.{Segment}
 use Rattle.segment_split.proofs.Passes.Merges.{same_first}
 use Rattle.segment_split.proofs.Redrawing.Neighbours.{AllPairs-map}
 use Rattle.segment_split.proofs.Seen.{seen_without}
@@ -26,11 +26,11 @@ pub map_sorted : {C : Type 0} {kind : Counting C} {es : List (Entry C)} → IsMa
 map_sorted h = λ i j d l m. let less = h.rising i j d l m in λ greater. absurd (cc)
 
 -- what is seen of data apart
-pub sorted_without : {C I D : Type 0} {order equality part : _} (value : I → ℤ) (joins : Bool) (ss : List (Segment C I D order equality part))
-    → AreSorted (seen_entries_of value joins ss) → AreSorted (entries_of value ss)
+pub sorted_without : {C I D : Type 0} (value : I → ℤ) (joins : Bool) (ss : List (Segment C D))
+    → AreSorted (seen_entries_of joins ss) → AreSorted (entries_of ss)
 sorted_without {C} {I} {D} value joins ss h =
     subst AreSorted (seen_without value joins ss)
-    (AllPairs-map (λ (e f : Entry C). edge_order e.edge f.edge ≢ Greater) (λ (e : Entry (C × Seen joins D)). record { edge = e.edge; count = e.count.0 }) (seen_entries_of value joins ss) h)
+    (AllPairs-map (λ (e f : Entry C). edge_order e.edge f.edge ≢ Greater) (λ (e : Entry (C × Seen joins D)). record { edge = e.edge; count = e.count.0 }) (seen_entries_of joins ss) h)
 
 is_greater : (o : Ordering) → is_gt o ≡ true → o ≡ Greater
 is_greater Less e = absurd (cc)

@@ -13,7 +13,7 @@ use Rattle.plane_base.specs.Given.{laid_path}
 use Rattle.plane_base.proofs.Facts.Numbers.Products.{factor_zero}
 use Rattle.plane_base.proofs.Facts.Numbers.Polynomials.{var, minus, times, by_ring}
 use Rattle.plane_base.proofs.Facts.Points.Turns.{coordinates, place, a_turn}
-use Rattle.plane_base.proofs.Facts.Points.Orders.{point_total, point_less, before_is_less, less_apart, equal_then, int_equal}
+use Rattle.plane_base.proofs.Facts.Points.Orders.{point_total, point_less, before_is_less, less_apart, int_equal}
 use Rattle.plane_base.proofs.Facts.Maps.Normal.{AllPairs-cons, AllPairs-head, AllPairs-tail}
 use Rattle.plane_base.proofs.Facts.Maps.Laying.{lay_by}
 use Rattle.segment_split.specs.Paths.{mark_order, with_mark, along, path}

@@ -6,9 +6,8 @@ use Rattle.std.proofs.lemmas.List.{drop-map, take-map, take_all, take-append-dro
 use Rattle.std.proofs.lemmas.List.Elements.{All-nil, All-head}
 use Rattle.plane_base.proofs.Facts.Thinning.Indexes.{taken_to}
 use Rattle.plane_base.specs.Counts.{Counting, Entry, IsNormal}
-use Rattle.plane_base.specs.Crossing.{Marks}
 use Rattle.plane_base.specs.Given.{laid_path}
-use Rattle.plane_base.specs.Plane.{Edge, edge_order}
+use Rattle.plane_base.specs.Plane.{edge_order}
 use Rattle.segment_split.specs.Cutting.{IsCut}
 use Rattle.segment_split.specs.MarkLists.{LaidMark, IsAt, AreMarks, AreInPlace}
 use Rattle.segment_split.specs.Passes.{edges_of, marks_in}

@@ -1,20 +1,17 @@
 -- The loop of redrawing: passes until one marks nothing.
 use Rattle.std.specs.Prelude.{◌≡◌, ◌↔◌, ℕ, zero, suc, ◌+◌, ◌<◌, ◌≤◌, ℤ, Bool, true, false, not, nat_lt, List, [], ◌∷◌, map, All, Contains}
-use Rattle.std.specs.declared.cmp.Ordering.{Ordering}
-use Rattle.std.specs.Ordering.{ordering_then, int_cmp, is_lt}
-use Rattle.std.proofs.Common.{refl, sym, ap, ap₂, ◌∙◌, subst, get_or, arith}
+use Rattle.std.proofs.Common.{refl, sym, ap, ◌∙◌, subst, get_or, arith}
 use Rattle.std.proofs.lemmas.Bool.{false≢true, lt-ltb}
 use Rattle.std.proofs.lemmas.List.Elements.{All-nil, All-cons, All-head, All-tail, All-map, All-contains, All-contains_itself}
 use Rattle.plane_base.specs.Plane.{Point, Edge, IsWithin, is_before}
 use Rattle.plane_base.specs.Segments.{MeetsInEnds}
 use Rattle.plane_base.specs.Counts.{Counting, Entry, IsNormal, normal}
-use Rattle.plane_base.specs.SegmentViews.{edge_of}
-use Rattle.plane_base.specs.declared.segment.XSegment.{XSegment}
 use Rattle.plane_base.proofs.Facts.Maps.Normal.{normal_is_normal}
 use Rattle.segment_split.specs.Passes.{early_passes, edges_of, marks_in, marks_on, MarksSome, pass, pass_by}
 use Rattle.segment_split.specs.Redrawing.{iterate, redrawn, spread, MarksInPass}
 use Rattle.segment_split.specs.RedrawLaws.{marks_some, Bounds, LiesWithin, EndsLieWithin}
-use Rattle.segment_split.specs.SegmentViews.{AreWithin}
+use Rattle.segment_split.specs.SegmentViews.{AreWithin, entry_of, entries_of}
+use Rattle.segment_split.specs.SegmentParts.{Segment}
 use Rattle.segment_split.specs.declared.solver.Precision.{Precision}
 use Rattle.segment_split.proofs.Redrawing.Iterates.{leaves_as_it_is}
 use Rattle.segment_split.proofs.Passes.Laws.{pass_rearranges}
@@ -157,18 +154,7 @@ not_raised flag down h p = false≢true (sym down ∙ h.1 p)
 
 -- ---- segments
 
--- the ends of a segment stand in their order over whole numbers too
-ends_before : {I : Type 0} (value : I → ℤ) (cmp : I → I → Ordering) → ((a b : I) → cmp a b ≡ int_cmp (value a) (value b)) → (ax ay bx by : I)
-    → is_lt (ordering_then (cmp ax bx) (cmp ay by)) ≡ true
-    → is_lt (ordering_then (int_cmp (value ax) (value bx)) (int_cmp (value ay) (value by))) ≡ true
-ends_before value cmp ordered ax ay bx by h = ap₂ (λ o p. is_lt (ordering_then o p)) (sym (ordered ax bx)) (sym (ordered ay by)) ∙ h
-
-module _ {I C X : Type 0} (value : I → ℤ) (cmp : I → I → Ordering) (ordered : (a b : I) → cmp a b ≡ int_cmp (value a) (value b)) (segment : X → XSegment I) (count : X → C) where
-  -- the map that segments give is normal
-  pub joined_normal : (kind : Counting C) (xs : List X)
-      → ((x : X) → is_lt (ordering_then (cmp (segment x).a.x (segment x).b.x) (cmp (segment x).a.y (segment x).b.y)) ≡ true)
-      → IsNormal kind (normal kind (map (λ x. record { edge = edge_of value (segment x); count = count x }) xs))
-  joined_normal kind xs directed =
-      normal_is_normal kind (map (λ x. record { edge = edge_of value (segment x); count = count x }) xs)
-      (All-map (λ e. is_before e.edge.a e.edge.b ≡ true) (λ x. record { edge = edge_of value (segment x); count = count x }) xs
-      (λ i d l. let x = get_or xs i d in ends_before value cmp ordered (segment x).a.x (segment x).a.y (segment x).b.x (segment x).b.y (directed x)))
+-- the map that segments give is normal
+pub joined_normal : {I C D : Type 0} (value : I → ℤ) (kind : Counting C) (ss : List (Segment C D)) → IsNormal kind (normal kind (entries_of ss))
+joined_normal value kind ss =
+    normal_is_normal kind (entries_of ss) (All-map (λ e. is_before e.edge.a e.edge.b ≡ true) entry_of ss (λ i d l. (get_or ss i d).directed))

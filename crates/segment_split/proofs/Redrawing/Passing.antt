@@ -6,7 +6,7 @@ use Rattle.i_tree.specs.Steps.{Counts}
 use Rattle.plane_base.proofs.Facts.Maps.Normal.{IsCounting}
 use Rattle.plane_base.specs.Counts.{Counting, Entry, IsNormal}
 use Rattle.plane_base.specs.declared.fault.Fault.{Fault}
-use Rattle.segment_split.specs.Data.{carried, without_data, normal_with_data, pass_with_data, iterate_with_data}
+use Rattle.segment_split.specs.Data.{carried, without_data, normal_with_data, pass_with_data}
 use Rattle.segment_split.specs.Passes.{edges_of, marks_in, MarksSome, cut, pass_by, pass}
 use Rattle.segment_split.specs.Redrawing.{iterate, MarksInPass, AllMarkedBefore}
 use Rattle.segment_split.specs.RedrawLaws.{marks_some}
@@ -14,7 +14,7 @@ use Rattle.segment_split.specs.Redraws.{Work, Listed, Redraws, IsBefore}
 use Rattle.segment_split.specs.Refusals.{steps_in, IsOverfull, IsRefusal}
 use Rattle.segment_split.specs.Rows.{CountsPairsUpTo}
 use Rattle.segment_split.specs.Seen.{seen_join}
-use Rattle.segment_split.specs.StepBounds.{most_pairs, pairs_in_passes, LooksAtFew}
+use Rattle.segment_split.specs.StepBounds.{most_pairs, LooksAtFew}
 use Rattle.segment_split.specs.WholeLaws.{AllMeetWhole}
 use Rattle.segment_split.specs.MarkLists.{CountsPairs}
 use Rattle.segment_split.specs.declared.solver.Precision.{Precision}

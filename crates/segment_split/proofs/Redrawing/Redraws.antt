@@ -1,8 +1,8 @@
 -- The promise of redrawing, from the calls that it is made of.
-use Rattle.std.specs.Prelude.{◌≡◌, ◌≤◌, ◌<◌, ◌^◌, ◌↔◌, ℕ, Bool, true, List, [], length, Option, None, Some, Result, Ok, Err, OnOk, IfErr}
+use Rattle.std.specs.Prelude.{◌≡◌, ◌≤◌, ◌^◌, ◌↔◌, ℕ, Bool, true, List, length, Result, Ok, Err}
 use Rattle.std.proofs.Common.{refl, sym, ap, ◌∙◌, subst, inr, arith}
 use Rattle.i_tree.specs.Steps.{Counts}
-use Rattle.plane_base.specs.Counts.{Counting, Entry, normal}
+use Rattle.plane_base.specs.Counts.{Counting, normal}
 use Rattle.plane_base.specs.declared.fault.Fault.{Fault}
 use Rattle.plane_base.specs.declared.fault.Fault.TheVariants.{Memory}
 use Rattle.segment_split.specs.Data.{redrawn_with_data}
@@ -16,7 +16,7 @@ use Rattle.segment_split.specs.Seen.{seen_join, normal_seen}
 use Rattle.segment_split.specs.StepBounds.{most_pairs, LooksAtFew}
 use Rattle.segment_split.specs.declared.solver.Solver.{Solver}
 use Rattle.segment_split.specs.declared.solver.Strategy.TheVariants as strategy
-use Rattle.segment_split.proofs.Redrawing.Looks.{counted, none_before, looks_few, looks_at_none}
+use Rattle.segment_split.proofs.Redrawing.Looks.{none_before, looks_few, looks_at_none}
 use Rattle.segment_split.proofs.Redrawing.Refusals.{handed_on}
 
 -- by what a function over these members redraws

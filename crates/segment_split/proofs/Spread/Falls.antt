@@ -1,20 +1,17 @@
 -- A late pass lowers the spread by at least 2 for each edge that it marks.
-use Rattle.std.proofs.Common.{◌≡◌, ◌≢◌, ℕ, ◌+◌, ◌*◌, ◌≤◌, Bool, true, false, cond, ltb, List, [], ◌∷◌, ◌++◌, length, Contains, All, inl, refl, sym, ap, subst, ◌∙◌, arith}
+use Rattle.std.proofs.Common.{◌≡◌, ◌≢◌, ℕ, ◌+◌, ◌*◌, ◌≤◌, Bool, true, false, cond, ltb, List, [], ◌∷◌, ◌++◌, length, Contains, All, refl, sym, ap, subst, ◌∙◌, arith}
 use Rattle.std.specs.declared.cmp.Ordering.{Ordering}
 use Rattle.std.specs.declared.cmp.Ordering.TheVariants.{Less, Equal, Greater}
 use Rattle.std.proofs.lemmas.Bool.{lt-ltb, le-ltb}
 use Rattle.std.proofs.lemmas.List.Elements.{All-map, All-weaker, All-contains}
 use Rattle.plane_base.specs.Plane.{Point, Edge, is_before, edge_order}
 use Rattle.plane_base.specs.Counts.{Counting, Entry, IsNormal}
-use Rattle.plane_base.specs.Segments.{strictly_inside, cross_properly, parted}
 use Rattle.plane_base.specs.Crossing.{Marks, no_marks, cross_marks, late_marks}
 use Rattle.plane_base.specs.RoundingLaws.{IsRoundedOn}
 use Rattle.plane_base.proofs.Facts.Points.Orders.{edge_equal, edge_total, less_apart, less_from_greater}
 use Rattle.plane_base.proofs.Facts.Crossings.MarkLaws.{marks_are_real, marks_agree}
 use Rattle.plane_base.proofs.Facts.Crossings.Parted.{mark_unless_parted}
 use Rattle.plane_base.proofs.Facts.Crossings.Staircases.{rounded_climb, late_marks_are_rounded}
-use Rattle.plane_base.proofs.Facts.Crossings.Tests.{inside_apart}
-use Rattle.plane_base.proofs.Facts.Crossings.Marks.{no_shared_end}
 use Rattle.segment_split.specs.Paths.{along, path}
 use Rattle.segment_split.specs.Passes.{radius, early_passes, edges_of, marks_in, marks_on, pass_by, MarksSome, pass}
 use Rattle.segment_split.specs.Redrawing.{spread}

@@ -250,7 +250,7 @@ module _ {I : Type 0} (es : List (Entry Count)) (ends : List (SecondEnd I)) (hei
 
 -- ---- on to the next end
 
-module _ {I : Type 0} (value : I → ℤ) (es : List (Entry Count)) (ends : List (SecondEnd I)) (sound : CanBeSwept value es ends) (heights : List ℤ) (left : Left) (old : Running)
+module _ {I : Type 0} (value : I → ℤ) (es : List (Entry Count)) (ends : List (SecondEnd I)) (sound : CanBeSwept es ends) (heights : List ℤ) (left : Left) (old : Running)
     (is : IsCounted es ends heights left old) (p : Point) (greatest : IsGreatestEnd (take left.starts es) (take left.ends (ended es ends)) p)
     (place low : ℕ) (placed : IsPlaceOf p.y heights place) (above : IsPlaceAbove p.y heights low)
     (free : 0 < old.column → (k : ℕ) → low ≤ k → k < old.last → is_member old.places k ≡ false)
@@ -319,7 +319,7 @@ module _ {I : Type 0} (value : I → ℤ) (es : List (Entry Count)) (ends : List
 
 -- ---- at first, and at last
 
-module _ {I : Type 0} (value : I → ℤ) (es : List (Entry Count)) (ends : List (SecondEnd I)) (sound : CanBeSwept value es ends) (lines : LinesView) (left : Left) (running : Running) where
+module _ {I : Type 0} (value : I → ℤ) (es : List (Entry Count)) (ends : List (SecondEnd I)) (sound : CanBeSwept es ends) (lines : LinesView) (left : Left) (running : Running) where
   pub counted_first : left.starts ≡ length es → left.ends ≡ length ends → lines.column ≡ bare → AreRising lines.rows → All (λ r. r.line ≡ bare) lines.rows
       → All (λ e. int_eq e.edge.a.x e.edge.b.x ≡ false → Contains (heights_in lines.rows) e.edge.a.y) es
       → running.rows.items ≡ replicate (length lines.rows) 0 → running.column ≡ 0 → running.places ≡ replicate (length lines.rows) false → IsCounted es ends (heights_in lines.rows) left running

@@ -49,7 +49,7 @@ some_all_at more p order many within = down many (omega arith) (none_yet more p 
         by true f further = further (subst (λ n. All (λ e. end_of more e.edge ≡ p) (drop n (take many order))) one_less (one_more_at more p order many (suc left) e (omega arith) l within there (same_point q p f) at))
         by false f further = (suc left, record { within = l; at = at; none = none_at more p order (suc left) e (omega arith) (omega (arith, l, within)) there (other_point q p f) })
 
-module _ {I : Type 0} (value : I → ℤ) (es : List (Entry Count)) (ends : List (SecondEnd I)) (sound : CanBeSwept value es ends) (heights : List ℤ) (left : Left) (old : Running)
+module _ {I : Type 0} (value : I → ℤ) (es : List (Entry Count)) (ends : List (SecondEnd I)) (sound : CanBeSwept es ends) (heights : List ℤ) (left : Left) (old : Running)
     (is : IsCounted es ends heights left old) (p : Point) (greatest : IsGreatestEnd (take left.starts es) (take left.ends (ended es ends)) p) where
   abbrev full : LinesView
   full = is.lines

@@ -1,5 +1,5 @@
 -- Rows by their heights: the place of a height, and that of the first one above it.
-use Rattle.std.proofs.Common.{◌≡◌, ◌≢◌, ℕ, ◌+◌, ◌-◌, ◌<◌, ◌≤◌, Bool, false, List, length, take, drop, map, get_or, All, ℤ, ◌<ℤ◌, ◌≤ℤ◌, int_eq, inl, inr, ⊎_elim, sym, ap, subst, ◌∙◌, arith}
+use Rattle.std.proofs.Common.{◌≡◌, ◌≢◌, ℕ, ◌+◌, ◌-◌, ◌<◌, ◌≤◌, Bool, false, List, length, take, drop, map, get_or, All, ℤ, ◌<ℤ◌, ◌≤ℤ◌, int_eq, ⊎_elim, sym, ap, subst, ◌∙◌, arith}
 use Rattle.std.proofs.lemmas.Int.{ints}
 use Rattle.std.proofs.lemmas.List.{take-map, drop-map, get_or_default, get_or-drop, get_or-take, get_or-map, length-drop, length-take, length-map}
 use Rattle.std.proofs.lemmas.List.Elements.{All-map, All-weaker}

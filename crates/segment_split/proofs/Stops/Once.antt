@@ -1,5 +1,5 @@
 -- One crossing more, by the places of rows.
-use Rattle.std.proofs.Common.{◌≡◌, ℕ, ◌+◌, ◌<◌, ◌≤◌, true, false, List, ◌∷◌, ◌++◌, length, drop, map, get_or, All, Contains, Some, ℤ, ◌<ℤ◌, ◌≤ℤ◌, sym, ap, subst, ◌∙◌, arith}
+use Rattle.std.proofs.Common.{◌≡◌, ℕ, ◌+◌, ◌<◌, ◌≤◌, true, false, List, ◌∷◌, ◌++◌, length, map, get_or, All, Contains, Some, ℤ, ◌<ℤ◌, sym, subst, ◌∙◌, arith}
 use Rattle.plane_base.specs.Plane.{Point}
 use Rattle.plane_base.specs.Counts.{Count, Entry}
 use Rattle.segment_split.specs.Stops.{RowView, LinesView, AreRising, heights_in, IsPlaceOf, IsPlaceAbove, visited, steps_from}

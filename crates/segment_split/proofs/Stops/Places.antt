@@ -1,17 +1,17 @@
 -- Rows by their places: those before a place and those from it on, and rows between two on which no key runs.
-use Rattle.std.proofs.Common.{◌≡◌, ◌≢◌, ⊎_elim, Ordering, Less, Equal, Greater, is_lt, ℕ, ◌+◌, ◌<◌, ◌≤◌, Bool, true, false, ◌||◌, List, [], ◌∷◌, ◌++◌, length, take, drop, map, get_or, All, AllPairs, Contains, ℤ, ◌<ℤ◌, ◌≤ℤ◌, append_assoc, refl, sym, ap, subst, ◌∙◌, arith}
+use Rattle.std.proofs.Common.{◌≡◌, ◌≢◌, ⊎_elim, Ordering, Less, Equal, Greater, is_lt, ℕ, ◌+◌, ◌<◌, ◌≤◌, Bool, true, false, ◌||◌, List, [], ◌∷◌, ◌++◌, length, take, drop, map, get_or, All, AllPairs, Contains, ℤ, ◌<ℤ◌, ◌≤ℤ◌, refl, sym, ap, subst, ◌∙◌, arith}
 use Rattle.std.specs.Ordering.{is_le}
 use Rattle.std.proofs.lemmas.Int.{ints}
 use Rattle.std.proofs.lemmas.Bool.{false≢true}
-use Rattle.std.proofs.lemmas.List.{map-append, take_all, take-append-drop, take-take, take-map, drop-map, get_or-drop, get_or-take, get_or-map, length-drop, length-take, length-map}
-use Rattle.std.proofs.lemmas.List.Elements.{All-nil, All-cons, All-append, All-map, All-head, All-tail, All-weaker}
+use Rattle.std.proofs.lemmas.List.{map-append, take-append-drop, get_or-map, length-map}
+use Rattle.std.proofs.lemmas.List.Elements.{All-nil, All-cons, All-append, All-head, All-weaker}
 use Rattle.plane_base.specs.Plane.{Point, is_before, point_order}
 use Rattle.plane_base.specs.Counts.{Count, Entry}
 use Rattle.plane_base.proofs.Facts.Points.Orders.{point_total, point_itself, before_is_less}
 use Rattle.plane_base.proofs.Facts.Lists.Cycles.{All-back}
 use Rattle.plane_base.proofs.Facts.Maps.Normal.{AllPairs-head, AllPairs-tail}
 use Rattle.plane_base.proofs.Facts.Thinning.Indexes.{dropped_from, taken_to}
-use Rattle.segment_split.specs.Stops.{LineView, RowView, AreRising}
+use Rattle.segment_split.specs.Stops.{RowView, AreRising}
 use Rattle.segment_split.proofs.Stops.Rows.{rising_behind}
 use Rattle.segment_split.proofs.Stops.Steps.{le_tells, le_from}
 

@@ -1,11 +1,10 @@
 //! Edges, paths and contours added to a list of segments. A contour is added whole or not at all; of a path the edges before a refused
 //! one stay. Degenerate cases: edges of no length are left out. It takes linear time.
 
-ghost use Rattle.std.specs.Prelude.{◌≡◌, ◌<◌, ◌≤◌, ◌+◌, ◌^◌, ◌++◌, true, All, IfErr, OnOk, OnErr, length, map, vec_capacity};
+ghost use Rattle.std.specs.Prelude.{◌≡◌, ◌<◌, ◌≤◌, ◌+◌, ◌^◌, ◌++◌, true, All, IfErr, OnOk, OnErr, length, vec_capacity};
 ghost use Rattle.plane_base.specs.Plane.{IsWithin};
 ghost use Rattle.plane_base.specs.Counts.{boolean, one_subject, lay};
 ghost use Rattle.plane_base.specs.Given.{laid_path, laid};
-ghost use Rattle.plane_base.specs.Views.{point_of, points_of};
 ghost use Rattle.segment_split.specs.Data.{carried, data_entries_of, MayBeTurned, LaysWith};
 ghost use Rattle.segment_split.specs.SegmentViews.{entries_of};
 ghost use Rattle.segment_split.specs.Adding.{LacksRoom, LacksRoomFor, Adds, IsRefused, AddsStepsUntil, AddsAll, AddsUntil};
@@ -14,7 +13,7 @@ use crate::count::WindingCount;
 use crate::data::OverlayEdgeData;
 use crate::segment::Segment;
 use plane_base::fault::Fault;
-use plane_base::int::OverlayInt;
+use plane_base::int::{IntNumber, OverlayInt};
 use plane_base::point::IntPoint;
 use plane_base::resource::IntShapeResource;
 use plane_base::thin::thin;
@@ -33,20 +32,20 @@ pub fn add_edge<C: WindingCount, I: OverlayInt, D: OverlayEdgeData<C>>(
     datum: D,
     store: &mut D::Store,
 ) -> Result<(), Fault>
-    ensures added { OnOk result (entries_of I.value segments.new.items ≡
-        entries_of I.value segments.old.items ++ lay C.counting (point_of I.value from) (point_of I.value to) count) }
+    ensures added { OnOk result (entries_of segments.new.items ≡
+        entries_of segments.old.items ++ lay C.counting from to count) }
     ensures data { OnOk result (LaysWith (carried C.counting D.join) (MayBeTurned D.JOINS D.turns_to)
-        (point_of I.value from) (point_of I.value to) count datum
-        (data_entries_of I.value segments.old.items) (data_entries_of I.value segments.new.items)) }
-    ensures joined { D.JOINS ≡ true → OnOk result (data_entries_of I.value segments.new.items ≡
-        data_entries_of I.value segments.old.items ++ lay (carried C.counting D.join) (point_of I.value from) (point_of I.value to) (count, datum)) }
+        from to count datum
+        (data_entries_of segments.old.items) (data_entries_of segments.new.items)) }
+    ensures joined { D.JOINS ≡ true → OnOk result (data_entries_of segments.new.items ≡
+        data_entries_of segments.old.items ++ lay (carried C.counting D.join) from to (count, datum)) }
     ensures few { length segments.old.items < 2 ^ 31 → length segments.new.items < 2 ^ 31 }
     ensures unchanged { OnErr result (segments.new.items ≡ segments.old.items) }
     ensures capacity { OnErr result (vec_capacity segments.new ≡ vec_capacity segments.old) }
     ensures grows { vec_capacity segments.old ≤ vec_capacity segments.new }
     ensures stored { OnErr result (store.new ≡ store.old) }
     ensures refused { IfErr result (LacksRoom (vec_capacity segments.old) (length segments.old.items)
-        (length (lay C.counting (point_of I.value from) (point_of I.value to) count))) }
+        (length (lay C.counting from to count))) }
 {
     if from == to {
         return Ok(());
@@ -57,7 +56,7 @@ pub fn add_edge<C: WindingCount, I: OverlayInt, D: OverlayEdgeData<C>>(
 }
 
 // Makes room for so many edges more. What is held stays.
-fn make_room<C: Copy, I: Ord + Copy, D: Copy>(
+fn make_room<C: Copy, I: IntNumber, D: Copy>(
     segments: &mut Vec<Segment<C, I, D>>,
     more: usize,
 ) -> Result<(), Fault>
@@ -84,15 +83,15 @@ fn lay_edge<C: WindingCount, I: OverlayInt, D: OverlayEdgeData<C>>(
     datum: D,
     store: &mut D::Store,
 )
-    requires room { length segments.old.items + length (lay C.counting (point_of I.value from) (point_of I.value to) count)
+    requires room { length segments.old.items + length (lay C.counting from to count)
         ≤ vec_capacity segments.old }
-    ensures added { entries_of I.value segments.new.items ≡
-        entries_of I.value segments.old.items ++ lay C.counting (point_of I.value from) (point_of I.value to) count }
+    ensures added { entries_of segments.new.items ≡
+        entries_of segments.old.items ++ lay C.counting from to count }
     ensures data { LaysWith (carried C.counting D.join) (MayBeTurned D.JOINS D.turns_to)
-        (point_of I.value from) (point_of I.value to) count datum
-        (data_entries_of I.value segments.old.items) (data_entries_of I.value segments.new.items) }
-    ensures joined { D.JOINS ≡ true → data_entries_of I.value segments.new.items ≡
-        data_entries_of I.value segments.old.items ++ lay (carried C.counting D.join) (point_of I.value from) (point_of I.value to) (count, datum) }
+        from to count datum
+        (data_entries_of segments.old.items) (data_entries_of segments.new.items) }
+    ensures joined { D.JOINS ≡ true → data_entries_of segments.new.items ≡
+        data_entries_of segments.old.items ++ lay (carried C.counting D.join) from to (count, datum) }
     ensures capacity { vec_capacity segments.new ≡ vec_capacity segments.old }
 {
     if from == to {
@@ -110,16 +109,16 @@ pub fn add_path<C: WindingCount, I: OverlayInt, D: OverlayEdgeData<C>>(
     datum: D,
     store: &mut D::Store,
 ) -> Result<(), Fault>
-    ensures added { OnOk result (entries_of I.value segments.new.items ≡
-        entries_of I.value segments.old.items ++ laid_path C.counting count (points_of I.value points.now)) }
+    ensures added { OnOk result (entries_of segments.new.items ≡
+        entries_of segments.old.items ++ laid_path C.counting count points.now) }
     ensures few { length segments.old.items < 2 ^ 31 → length segments.new.items < 2 ^ 31 }
     ensures grows { vec_capacity segments.old ≤ vec_capacity segments.new }
-    ensures refused { IfErr result (AddsStepsUntil C.counting count (points_of I.value points.now) (vec_capacity segments.new)
-        (entries_of I.value segments.old.items) (entries_of I.value segments.new.items)) }
-    ensures data { D.JOINS ≡ true → OnOk result (data_entries_of I.value segments.new.items ≡
-        data_entries_of I.value segments.old.items ++ laid_path (carried C.counting D.join) (count, datum) (points_of I.value points.now)) }
-    ensures data_until { D.JOINS ≡ true → IfErr result (AddsStepsUntil (carried C.counting D.join) (count, datum) (points_of I.value points.now)
-        (vec_capacity segments.new) (data_entries_of I.value segments.old.items) (data_entries_of I.value segments.new.items)) }
+    ensures refused { IfErr result (AddsStepsUntil C.counting count points.now (vec_capacity segments.new)
+        (entries_of segments.old.items) (entries_of segments.new.items)) }
+    ensures data { D.JOINS ≡ true → OnOk result (data_entries_of segments.new.items ≡
+        data_entries_of segments.old.items ++ laid_path (carried C.counting D.join) (count, datum) points.now) }
+    ensures data_until { D.JOINS ≡ true → IfErr result (AddsStepsUntil (carried C.counting D.join) (count, datum) points.now
+        (vec_capacity segments.new) (data_entries_of segments.old.items) (data_entries_of segments.new.items)) }
 {
     for i in 1..points.len() {
         add_edge(segments, points[i - 1], points[i], count, datum, store)?;
@@ -138,19 +137,19 @@ pub fn add_contour<C: WindingCount, I: OverlayInt, D: OverlayEdgeData<C>>(
     datum: D,
     store: &mut D::Store,
 ) -> Result<(), Fault>
-    requires in_range { All (IsWithin I.least I.greatest) (points_of I.value points.now) }
-    ensures added { OnOk result (Adds C.counting count keep_all (points_of I.value points.now) (entries_of I.value segments.old.items)
-        (entries_of I.value segments.new.items)) }
+    requires in_range { All (IsWithin I.least I.greatest) points.now }
+    ensures added { OnOk result (Adds C.counting count keep_all points.now (entries_of segments.old.items)
+        (entries_of segments.new.items)) }
     ensures few { length segments.old.items < 2 ^ 31 → length segments.new.items < 2 ^ 31 }
     ensures unchanged { OnErr result (segments.new.items ≡ segments.old.items) }
     ensures capacity { OnErr result (vec_capacity segments.new ≡ vec_capacity segments.old) }
     ensures grows { vec_capacity segments.old ≤ vec_capacity segments.new }
     ensures stored { OnErr result (store.new ≡ store.old) }
-    ensures refused { IfErr result (IsRefused C.counting count keep_all (points_of I.value points.now) (entries_of I.value segments.old.items)) }
+    ensures refused { IfErr result (IsRefused C.counting count keep_all points.now (entries_of segments.old.items)) }
     ensures room { keep_all ≡ true → IfErr result (LacksRoom (vec_capacity segments.old) (length segments.old.items)
-        (length (laid C.counting count (points_of I.value points.now)))) }
-    ensures data { D.JOINS ≡ true → OnOk result (Adds (carried C.counting D.join) (count, datum) keep_all (points_of I.value points.now)
-        (data_entries_of I.value segments.old.items) (data_entries_of I.value segments.new.items)) }
+        (length (laid C.counting count points.now))) }
+    ensures data { D.JOINS ≡ true → OnOk result (Adds (carried C.counting D.join) (count, datum) keep_all points.now
+        (data_entries_of segments.old.items) (data_entries_of segments.new.items)) }
 {
     if keep_all {
         return add_closed(segments, points, count, datum, store);
@@ -167,17 +166,17 @@ fn add_closed<C: WindingCount, I: OverlayInt, D: OverlayEdgeData<C>>(
     datum: D,
     store: &mut D::Store,
 ) -> Result<(), Fault>
-    ensures added { OnOk result (entries_of I.value segments.new.items ≡
-        entries_of I.value segments.old.items ++ laid C.counting count (points_of I.value points.now)) }
-    ensures data { D.JOINS ≡ true → OnOk result (data_entries_of I.value segments.new.items ≡
-        data_entries_of I.value segments.old.items ++ laid (carried C.counting D.join) (count, datum) (points_of I.value points.now)) }
+    ensures added { OnOk result (entries_of segments.new.items ≡
+        entries_of segments.old.items ++ laid C.counting count points.now) }
+    ensures data { D.JOINS ≡ true → OnOk result (data_entries_of segments.new.items ≡
+        data_entries_of segments.old.items ++ laid (carried C.counting D.join) (count, datum) points.now) }
     ensures few { length segments.old.items < 2 ^ 31 → length segments.new.items < 2 ^ 31 }
     ensures unchanged { OnErr result (segments.new.items ≡ segments.old.items) }
     ensures capacity { OnErr result (vec_capacity segments.new ≡ vec_capacity segments.old) }
     ensures grows { vec_capacity segments.old ≤ vec_capacity segments.new }
     ensures stored { OnErr result (store.new ≡ store.old) }
     ensures refused { IfErr result (LacksRoom (vec_capacity segments.old) (length segments.old.items)
-        (length (laid C.counting count (points_of I.value points.now)))) }
+        (length (laid C.counting count points.now))) }
 {
     make_room(segments, count_edges(points))?;
     let n = points.len();
@@ -190,7 +189,7 @@ fn add_closed<C: WindingCount, I: OverlayInt, D: OverlayEdgeData<C>>(
 
 // How many edges lead from each point to the next, the last to the first.
 fn count_edges<I: OverlayInt>(points: &[IntPoint<I>]) -> usize
-    ensures { result ≡ length (laid boolean one_subject (points_of I.value points.now)) }
+    ensures { result ≡ length (laid boolean one_subject points.now) }
 {
     let n = points.len();
     let mut edges = 0;
@@ -203,7 +202,7 @@ fn count_edges<I: OverlayInt>(points: &[IntPoint<I>]) -> usize
 
 // One edge, or none where the points are equal.
 fn edges_between<I: OverlayInt>(from: IntPoint<I>, to: IntPoint<I>) -> usize
-    ensures { result ≡ length (lay boolean (point_of I.value from) (point_of I.value to) one_subject) }
+    ensures { result ≡ length (lay boolean from to one_subject) }
 {
     usize::from(from != to)
 }
@@ -220,19 +219,19 @@ pub fn add_source<C: WindingCount, I: OverlayInt, D: OverlayEdgeData<C>, R: IntS
     store: &mut D::Store,
 ) -> Result<(), Fault>
     requires ready { R.is_ready source.now }
-    requires in_range { All (All (IsWithin I.least I.greatest)) (map (points_of I.value) (R.paths source.now)) }
-    ensures added { OnOk result (AddsAll C.counting count keep_all (map (points_of I.value) (R.paths source.now)) (entries_of I.value segments.old.items)
-        (entries_of I.value segments.new.items)) }
+    requires in_range { All (All (IsWithin I.least I.greatest)) (R.paths source.now) }
+    ensures added { OnOk result (AddsAll C.counting count keep_all (R.paths source.now) (entries_of segments.old.items)
+        (entries_of segments.new.items)) }
     ensures few { length segments.old.items < 2 ^ 31 → length segments.new.items < 2 ^ 31 }
-    ensures refused { IfErr result (AddsUntil C.counting count keep_all (map (points_of I.value) (R.paths source.now)) (entries_of I.value segments.old.items)
-        (entries_of I.value segments.new.items)) }
-    ensures room { keep_all ≡ true → IfErr result (LacksRoomFor C.counting count (map (points_of I.value) (R.paths source.now))
-        (vec_capacity segments.new) (entries_of I.value segments.old.items) (entries_of I.value segments.new.items)) }
+    ensures refused { IfErr result (AddsUntil C.counting count keep_all (R.paths source.now) (entries_of segments.old.items)
+        (entries_of segments.new.items)) }
+    ensures room { keep_all ≡ true → IfErr result (LacksRoomFor C.counting count (R.paths source.now)
+        (vec_capacity segments.new) (entries_of segments.old.items) (entries_of segments.new.items)) }
     ensures grows { vec_capacity segments.old ≤ vec_capacity segments.new }
-    ensures data { D.JOINS ≡ true → OnOk result (AddsAll (carried C.counting D.join) (count, datum) keep_all (map (points_of I.value) (R.paths source.now))
-        (data_entries_of I.value segments.old.items) (data_entries_of I.value segments.new.items)) }
+    ensures data { D.JOINS ≡ true → OnOk result (AddsAll (carried C.counting D.join) (count, datum) keep_all (R.paths source.now)
+        (data_entries_of segments.old.items) (data_entries_of segments.new.items)) }
     ensures data_until { D.JOINS ≡ true → IfErr result (AddsUntil (carried C.counting D.join) (count, datum) keep_all
-        (map (points_of I.value) (R.paths source.now)) (data_entries_of I.value segments.old.items) (data_entries_of I.value segments.new.items)) }
+        (R.paths source.now) (data_entries_of segments.old.items) (data_entries_of segments.new.items)) }
 {
     for shape in 0..source.shape_count() {
         for index in 0..source.shape_len(shape) {

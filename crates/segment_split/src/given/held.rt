@@ -2,10 +2,9 @@
 //! added whole or not at all. A refused query leaves nothing held, and then edges are refused with `Failed` until all is taken out.
 //! It takes the time of `build` and of `split`.
 
-ghost use Rattle.std.specs.Prelude.{◌≡◌, ◌↔◌, ◌<◌, ◌≤◌, ◌^◌, ◌++◌, true, [], All, IfOk, IfErr, OnOk, OnErr, IsOkUnless, length, map};
+ghost use Rattle.std.specs.Prelude.{◌≡◌, ◌↔◌, ◌<◌, ◌≤◌, ◌^◌, ◌++◌, true, [], All, IfOk, IfErr, OnOk, OnErr, IsOkUnless, length};
 ghost use Rattle.plane_base.specs.Counts.{lay, normal};
 ghost use Rattle.plane_base.specs.Plane.{IsWithin};
-ghost use Rattle.plane_base.specs.Views.{point_of, points_of};
 ghost use Rattle.segment_split.specs.Data.{carried, data_entries_of, MayBeTurned, LaysWith, normal_with_data, redrawn_with_data};
 ghost use Rattle.segment_split.specs.Redrawing.{redrawn, IsChanged};
 ghost use Rattle.segment_split.specs.Refusals.{CountsTooMuch, LaysTooMany, IsRefusal};
@@ -47,9 +46,9 @@ impl<C: WindingCount, I: OverlayInt, D: OverlayEdgeData<C>> Model for Held<C, I,
     ghost Value = { HeldEdges C D D.Store };
 
     ghost view = { λ h. record {
-      edges = entries_of I.value h.segments.items;
+      edges = entries_of h.segments.items;
       has_failed = h.has_failed;
-      with_data = data_entries_of I.value h.segments.items;
+      with_data = data_entries_of h.segments.items;
       store = h.store;
       room = vec_capacity h.segments;
     } };
@@ -87,8 +86,8 @@ impl<C: WindingCount, I: OverlayInt, D: OverlayEdgeData<C>> Held<C, I, D> {
 
     /// The segments that are held.
     pub fn segments(&self) -> &[Segment<C, I, D>]
-        ensures is { entries_of I.value result.now ≡ self.now.edges }
-        ensures data { data_entries_of I.value result.now ≡ self.now.with_data }
+        ensures is { entries_of result.now ≡ self.now.edges }
+        ensures data { data_entries_of result.now ≡ self.now.with_data }
         ensures few { length result.now < 2 ^ 31 }
     {
         &self.segments
@@ -160,8 +159,8 @@ impl<C: WindingCount, I: OverlayInt, D: OverlayEdgeData<C>> Held<C, I, D> {
     /// The store of the data, to be written. All else stays.
     pub fn store_mut(&mut self) -> &mut D::Store
         ensures value { result.now ≡ self.old.store }
-        ensures* writes_back { sem 𝓛 (Lends (the_row C.row I.row D.row I.Wide.row D.Store.row I.Ord.own I.PartialEq.own I.PartialOrd.own C.WindingCount.own
-            I.OverlayInt.own I.Wide.WideIntNumber.own I.Wide.Ord.own I.Wide.PartialEq.own I.Wide.PartialOrd.own D.OverlayEdgeData.own D.PartialEq.own) D.Store.row self.entry result (λ store. record self.old { store = store })) }
+        ensures* writes_back { sem 𝓛 (Lends (the_row C.row I.row D.row I.Wide.row D.Store.row C.WindingCount.own I.OverlayInt.own I.IntNumber.own I.Ord.own
+            I.PartialEq.own I.PartialOrd.own I.Wide.WideIntNumber.own I.Wide.Ord.own I.Wide.PartialEq.own I.Wide.PartialOrd.own D.OverlayEdgeData.own D.PartialEq.own) D.Store.row self.entry result (λ store. record self.old { store = store })) }
     {
         &mut self.store
     }
@@ -182,11 +181,11 @@ impl<C: WindingCount, I: OverlayInt, D: OverlayEdgeData<C>> Held<C, I, D> {
         count: C,
         datum: D,
     ) -> Result<(), Fault>
-        ensures takes { TakesEdge C.counting count (point_of I.value from) (point_of I.value to) self.old self.new result }
+        ensures takes { TakesEdge C.counting count from to self.old self.new result }
         ensures data { OnOk result (LaysWith (carried C.counting D.join) (MayBeTurned D.JOINS D.turns_to)
-            (point_of I.value from) (point_of I.value to) count datum self.old.with_data self.new.with_data) }
+            from to count datum self.old.with_data self.new.with_data) }
         ensures joined { D.JOINS ≡ true → OnOk result (self.new.with_data ≡
-            self.old.with_data ++ lay (carried C.counting D.join) (point_of I.value from) (point_of I.value to) (count, datum)) }
+            self.old.with_data ++ lay (carried C.counting D.join) from to (count, datum)) }
     {
         if self.has_failed {
             return Err(Fault::Failed);
@@ -204,8 +203,8 @@ impl<C: WindingCount, I: OverlayInt, D: OverlayEdgeData<C>> Held<C, I, D> {
         count: C,
         datum: D,
     ) -> Result<(), Fault>
-        requires in_range { All (IsWithin I.least I.greatest) (points_of I.value points.now) }
-        ensures { TakesContour C.counting count keep_all (points_of I.value points.now) self.old self.new result }
+        requires in_range { All (IsWithin I.least I.greatest) points.now }
+        ensures { TakesContour C.counting count keep_all points.now self.old self.new result }
     {
         if self.has_failed {
             return Err(Fault::Failed);
@@ -230,8 +229,8 @@ impl<C: WindingCount, I: OverlayInt, D: OverlayEdgeData<C>> Held<C, I, D> {
         datum: D,
     ) -> Result<(), Fault>
         requires ready { R.is_ready source.now }
-        requires in_range { All (All (IsWithin I.least I.greatest)) (map (points_of I.value) (R.paths source.now)) }
-        ensures { TakesSource C.counting count keep_all (map (points_of I.value) (R.paths source.now)) self.old self.new result }
+        requires in_range { All (All (IsWithin I.least I.greatest)) (R.paths source.now) }
+        ensures { TakesSource C.counting count keep_all (R.paths source.now) self.old self.new result }
     {
         if self.has_failed {
             return Err(Fault::Failed);
@@ -251,7 +250,7 @@ impl<C: WindingCount, I: OverlayInt, D: OverlayEdgeData<C>> Held<C, I, D> {
     /// refused one stay: `Failed` after a refused query, `Edges` where 2^31 edges would be held, `Memory` only without room for the
     /// edge.
     pub fn add_path(&mut self, points: &[IntPoint<I>], count: C, datum: D) -> Result<(), Fault>
-        ensures { TakesPath C.counting count (points_of I.value points.now) self.old self.new result }
+        ensures { TakesPath C.counting count points.now self.old self.new result }
     {
         if self.has_failed {
             return Err(Fault::Failed);

@@ -6,7 +6,6 @@
 //! linear time, and room for the keys where these are copied.
 
 ghost use Rattle.std.specs.Prelude.{◌≡◌, ◌≤◌, true, length, IfOk, OnOk, IfNone, IsTrue, IsOkUnless};
-ghost use Rattle.plane_base.specs.SegmentViews.{edge_of};
 ghost use Rattle.segment_split.specs.RedrawLaws.{with_counts};
 ghost use Rattle.segment_split.specs.Redraws.{Work, listed, CanBeRedrawn, RedrawsOrLeaves};
 ghost use Rattle.segment_split.specs.SegmentViews.{entries_of};
@@ -40,9 +39,9 @@ pub(crate) fn redraw_by_lines<C: WindingCount, I: OverlayInt, D: OverlayEdgeData
     room: &mut SortRoom,
     steps: &mut Steps<L>,
 ) -> Result<Option<bool>, Fault>
-    requires { CanBeRedrawn I.least I.greatest C.counting (entries_of I.value segments.old.items) }
+    requires { CanBeRedrawn I.least I.greatest C.counting (entries_of segments.old.items) }
     ensures { let work : Work C D = record { kind = C.counting; fits = C.fits; joins = D.JOINS; join = D.join; solver = solver } in
-        RedrawsOrLeaves work (listed I.value D.JOINS segments.old.items) (listed I.value D.JOINS segments.new.items) steps.old steps.new result }
+        RedrawsOrLeaves work (listed D.JOINS segments.old.items) (listed D.JOINS segments.new.items) steps.old steps.new result }
 {
     if !may_take_lines(solver, segments.len()) {
         return Ok(None);
@@ -78,7 +77,7 @@ fn take_keys<C: WindingCount, I: OverlayInt, D: OverlayEdgeData<C>>(
     segments: &mut Vec<Segment<C, I, D>>,
 ) -> Result<Vec<Key<I>>, Fault>
     requires adds { C.ADDS ≡ true }
-    ensures same { IfOk result (λ keys. with_counts (of_count C.of) (entries_of I.value keys.items) ≡ entries_of I.value segments.old.items) }
+    ensures same { IfOk result (λ keys. with_counts (of_count C.of) (entries_of keys.items) ≡ entries_of segments.old.items) }
     ensures memory { IsOkUnless result Fault.Memory }
 {
     let mut keys = Vec::new(alloc);
@@ -94,7 +93,7 @@ fn give_keys<C: WindingCount, I: OverlayInt, D: OverlayEdgeData<C>>(
     mut keys: Vec<Key<I>>,
     datum: D,
 ) -> Result<(), Fault>
-    ensures same { OnOk result (entries_of I.value segments.new.items ≡ with_counts (of_count C.of) (entries_of I.value keys.items)) }
+    ensures same { OnOk result (entries_of segments.new.items ≡ with_counts (of_count C.of) (entries_of keys.items)) }
     ensures memory { IsOkUnless result Fault.Memory }
 {
     if D::exchange(segments, &mut keys) {
@@ -121,7 +120,8 @@ pub(crate) fn first_datum<C, I: OverlayInt, D: Copy>(segments: &[Segment<C, I, D
     if segments.is_empty() {
         return None;
     }
-    Some(segments[0].datum)
+    let first = &segments[0];
+    Some(first.datum)
 }
 
 // The segments with their sums, and without their data.
@@ -130,7 +130,7 @@ fn keys_of<C: WindingCount, I: OverlayInt, D: Copy>(
     segments: &[Segment<C, I, D>],
 ) -> Result<Vec<Key<I>>, Fault>
     requires adds { C.ADDS ≡ true }
-    ensures same { IfOk result (λ keys. with_counts (of_count C.of) (entries_of I.value keys.items) ≡ entries_of I.value segments.now) }
+    ensures same { IfOk result (λ keys. with_counts (of_count C.of) (entries_of keys.items) ≡ entries_of segments.now) }
     ensures memory { IsOkUnless result Fault.Memory }
 {
     let mut keys = Vec::new(alloc);
@@ -143,7 +143,7 @@ fn keys_of<C: WindingCount, I: OverlayInt, D: Copy>(
 
 pub(crate) fn key_of<C: WindingCount, I: OverlayInt, D: Copy>(segment: Segment<C, I, D>) -> Key<I>
     requires adds { C.ADDS ≡ true }
-    ensures edge { edge_of I.value result.x_segment ≡ edge_of I.value segment.x_segment }
+    ensures edge { result.x_segment ≡ segment.x_segment }
     ensures count { of_count C.of result.count ≡ segment.count }
 {
     Segment {
@@ -159,7 +159,7 @@ pub(crate) fn put_all<C: WindingCount, I: OverlayInt, D: Copy>(
     keys: &[Key<I>],
     datum: D,
 ) -> Result<(), Fault>
-    ensures same { OnOk result (entries_of I.value segments.new.items ≡ with_counts (of_count C.of) (entries_of I.value keys.now)) }
+    ensures same { OnOk result (entries_of segments.new.items ≡ with_counts (of_count C.of) (entries_of keys.now)) }
     ensures memory { IsOkUnless result Fault.Memory }
 {
     segments.clear();
@@ -171,7 +171,7 @@ pub(crate) fn put_all<C: WindingCount, I: OverlayInt, D: Copy>(
 }
 
 fn segment_of<C: WindingCount, I: OverlayInt, D: Copy>(key: Key<I>, datum: D) -> Segment<C, I, D>
-    ensures edge { edge_of I.value result.x_segment ≡ edge_of I.value key.x_segment }
+    ensures edge { result.x_segment ≡ key.x_segment }
     ensures count { result.count ≡ of_count C.of key.count }
 {
     let count = key.count;

@@ -5,17 +5,15 @@
 //! is counted, as no crossing is come to: the set of rows on which keys run is asked whether it has one between two places, and no row
 //! is read. Of keys that begin or end on others, many may stand on one line: no two of them are looked at together.
 
-ghost use Rattle.std.specs.Prelude.{◌≡◌, ◌≤◌, ◌<◌, ◌+◌, ◌-◌, ◌^◌, ◌↔◌, ◌⊎◌, ◌||◌, ◌&&◌, true, false, cond, min, nat_lt, length, slice_index, slice_index_or, take, drop, ℕ, replicate, All, Contains, IfOk, IfSome, IfNone, OnOk, IsTrue, IsOkUnless};
+ghost use Rattle.std.specs.Prelude.{◌≡◌, ◌≤◌, ◌<◌, ◌-◌, ◌↔◌, ◌⊎◌, ◌&&◌, true, false, length, slice_index, slice_index_or, take, drop, ℕ, replicate, All, Contains, IfOk, IsOkUnless};
 ghost use Rattle.std.specs.Ordering.{int_eq};
 ghost use Rattle.plane_base.specs.Counts.{boolean, IsNormal};
-ghost use Rattle.plane_base.specs.SegmentViews.{edge_of};
-ghost use Rattle.plane_base.specs.Views.{point_of};
 ghost use Rattle.segment_split.specs.Redrawing.{MarksInPass};
 ghost use Rattle.segment_split.specs.Passes.{edges_of};
 ghost use Rattle.segment_split.specs.PlaceSet.{is_member};
 ghost use Rattle.segment_split.specs.SecondEnds.{in_order, CanBeSwept, AreLeft, AreFewer, AreAllAt, HaveRows, AreRunning, HasStopInside, IsCounted};
 ghost use Rattle.segment_split.specs.SegmentViews.{entries_of};
-ghost use Rattle.segment_split.specs.Stops.{LinesView, line_of, rows_of, bare, AreRising, heights_in, IsAt, changed, count_of, at_line, all_changed, line_at};
+ghost use Rattle.segment_split.specs.Stops.{LinesView, line_of, rows_of, bare, AreRising, heights_in, IsAt, changed, count_of, at_line, all_changed};
 ghost use Rattle.segment_split.specs.declared.solver.Precision.{Precision};
 
 use super::ends::{Left, SecondEnd, last_at, next_end};
@@ -42,15 +40,15 @@ pub(super) fn is_cut<I: OverlayInt>(
     keys: &[Key<I>],
     ends: &[SecondEnd<I>],
 ) -> Result<bool, Fault>
-    requires normal { IsNormal boolean (entries_of I.value keys.now) }
-    requires sound { CanBeSwept I.value (entries_of I.value keys.now) ends.now }
-    requires column { line_of I.value lines.now.column ≡ bare }
+    requires normal { IsNormal boolean (entries_of keys.now) }
+    requires sound { CanBeSwept (entries_of keys.now) ends.now }
+    requires column { line_of lines.now.column ≡ bare }
     requires rising { AreRising (rows_of I.value lines.now.rows.items) }
     requires bare { All (λ r. r.line ≡ bare) (rows_of I.value lines.now.rows.items) }
     requires has { All (λ e. int_eq e.edge.a.x e.edge.b.x ≡ false → Contains (heights_in (rows_of I.value lines.now.rows.items)) e.edge.a.y)
-        (entries_of I.value keys.now) }
+        (entries_of keys.now) }
     ensures cut { IfOk result (λ is_cut. (precision : Precision) →
-        (is_cut ≡ true) ↔ ((k : ℕ) × MarksInPass boolean precision (entries_of I.value keys.now) k)) }
+        (is_cut ≡ true) ↔ ((k : ℕ) × MarksInPass boolean precision (entries_of keys.now) k)) }
     ensures memory { IsOkUnless result Fault.Memory }
 {
     let mut running = none_running(alloc, lines.rows.len())?;
@@ -93,18 +91,18 @@ fn cut_on<I: OverlayInt>(
     ends: &[SecondEnd<I>],
     left: Left,
 ) -> Left
-    requires sound { CanBeSwept I.value (entries_of I.value keys.now) ends.now }
-    requires left { AreLeft (entries_of I.value keys.now) ends.now left }
+    requires sound { CanBeSwept (entries_of keys.now) ends.now }
+    requires left { AreLeft (entries_of keys.now) ends.now left }
     requires rising { AreRising (rows_of I.value lines.now.rows.items) }
     requires as_many { length running.old.places ≡ length running.old.rows.items }
     ensures as_many { length running.new.places ≡ length running.new.rows.items }
     ensures fewer { result.is_marked ≡ false → AreFewer left result }
     ensures marked { result.is_marked ≡ true →
-        IsCounted (entries_of I.value keys.now) ends.now (heights_in (rows_of I.value lines.now.rows.items)) left running.old →
-        HasStopInside (edges_of (entries_of I.value keys.now)) }
+        IsCounted (entries_of keys.now) ends.now (heights_in (rows_of I.value lines.now.rows.items)) left running.old →
+        HasStopInside (edges_of (entries_of keys.now)) }
     ensures counted { result.is_marked ≡ false →
-        IsCounted (entries_of I.value keys.now) ends.now (heights_in (rows_of I.value lines.now.rows.items)) left running.old →
-        IsCounted (entries_of I.value keys.now) ends.now (heights_in (rows_of I.value lines.now.rows.items)) result running.new }
+        IsCounted (entries_of keys.now) ends.now (heights_in (rows_of I.value lines.now.rows.items)) left running.old →
+        IsCounted (entries_of keys.now) ends.now (heights_in (rows_of I.value lines.now.rows.items)) result running.new }
 {
     let point = next_end(keys, ends, left);
     let near = lines.guesses.place(point.y.to_i64());
@@ -170,14 +168,14 @@ fn count_all<I: OverlayInt>(
     place: usize,
     more: bool,
 ) -> usize
-    requires sound { CanBeSwept I.value (entries_of I.value keys.now) ends.now }
-    requires within { many ≤ length (in_order more (entries_of I.value keys.now) ends.now) }
+    requires sound { CanBeSwept (entries_of keys.now) ends.now }
+    requires within { many ≤ length (in_order more (entries_of keys.now) ends.now) }
     requires as_many { length running.old.places ≡ length running.old.rows.items }
     ensures as_many { length running.new.places ≡ length running.new.rows.items }
-    ensures all { AreAllAt more (point_of I.value point) (in_order more (entries_of I.value keys.now) ends.now) many result }
+    ensures all { AreAllAt more point (in_order more (entries_of keys.now) ends.now) many result }
     ensures last { running.new.last ≡ running.old.last }
-    ensures counted { (lines : LinesView) → HaveRows (entries_of I.value keys.now) (I.value point.y) place lines.rows → AreRunning lines running.old →
-        AreRunning (all_changed more (drop result (take many (in_order more (entries_of I.value keys.now) ends.now))) lines) running.new }
+    ensures counted { (lines : LinesView) → HaveRows (entries_of keys.now) point.y place lines.rows → AreRunning lines running.old →
+        AreRunning (all_changed more (drop result (take many (in_order more (entries_of keys.now) ends.now))) lines) running.new }
 {
     let mut left = many;
     while 0 < left {
@@ -196,8 +194,8 @@ fn count_one<I: OverlayInt>(running: &mut Running, key: Key<I>, place: usize, mo
     ensures as_many { length running.new.places ≡ length running.new.rows.items }
     ensures last { running.new.last ≡ running.old.last }
     ensures counted { (lines : LinesView) → AreRising lines.rows →
-        (int_eq (I.value key.x_segment.a.x) (I.value key.x_segment.b.x) ≡ false → IsAt (I.value key.x_segment.a.y) (heights_in lines.rows) place) →
-        AreRunning lines running.old → AreRunning (at_line (edge_of I.value key.x_segment) (changed more (count_of more key.count)) lines) running.new }
+        (int_eq key.x_segment.a.x key.x_segment.b.x ≡ false → IsAt key.x_segment.a.y (heights_in lines.rows) place) →
+        AreRunning lines running.old → AreRunning (at_line key.x_segment (changed more (count_of more key.count)) lines) running.new }
 {
     if is_vertical(key.x_segment) {
         running.column = one_more(running.column, more);

@@ -5,16 +5,14 @@
 //! Degenerate cases: keys that end where others begin on their line, and sums that leave their range. A stop takes constant time, and
 //! log m of m rows where no guess is right.
 
-ghost use Rattle.std.specs.Prelude.{◌≡◌, ◌≢◌, ◌<◌, ◌≤◌, ◌<ℤ◌, ◌≤ℤ◌, ◌&&◌, ◌++◌, ◌∷◌, [], true, false, length, take, drop, slice_index_or};
-ghost use Rattle.std.specs.Prelude.{◌+◌, ◌-◌, ◌^◌, ℕ, cond, min, All, Some, IfOk, IfErr, OnOk, IsOkUnless};
+ghost use Rattle.std.specs.Prelude.{◌≡◌, ◌≢◌, ◌<◌, ◌≤◌, ◌<ℤ◌, ◌≤ℤ◌, ◌&&◌, ◌++◌, true, false, length, take, drop, slice_index_or};
+ghost use Rattle.std.specs.Prelude.{◌+◌, ◌-◌, ◌^◌, cond, min, All, Some, IfOk, IfErr, OnOk, IsOkUnless};
 ghost use Rattle.std.specs.Ordering.{int_eq};
-ghost use Rattle.plane_base.specs.Counts.{Count, Entry, boolean};
-ghost use Rattle.plane_base.specs.Views.{point_of};
-ghost use Rattle.plane_base.specs.SegmentViews.{edge_of};
+ghost use Rattle.plane_base.specs.Counts.{boolean};
 ghost use Rattle.segment_split.specs.Kinds.{count_fits};
 ghost use Rattle.segment_split.specs.Refusals.{IsRefusal};
-ghost use Rattle.segment_split.specs.SegmentViews.{entry_of, entries_of};
-ghost use Rattle.segment_split.specs.Stops.{line_of, row_of, rows_of, lines_of, AreRising, AreSeen, changed, stopped, at_height, at_line};
+ghost use Rattle.segment_split.specs.SegmentViews.{entries_of};
+ghost use Rattle.segment_split.specs.Stops.{line_of, rows_of, lines_of, AreRising, AreSeen, changed, stopped, at_height, at_line};
 ghost use Rattle.segment_split.specs.Stops.{heights_in, IsPlaceOf, IsPlaceAbove};
 ghost use Rattle.segment_split.specs.Stops.{count_of, all_changed, visited, step_with, step_from, steps_from, line_at, above_it, next_of};
 ghost use Rattle.segment_split.specs.Sweeps.{line_on, LeavesRange};
@@ -27,7 +25,7 @@ use crate::lines::guesses::Guesses;
 use crate::maps::step::lay_step;
 use crate::segment::Segment;
 use plane_base::fault::Fault;
-use plane_base::int::OverlayInt;
+use plane_base::int::{IntNumber, OverlayInt};
 use plane_base::point::IntPoint;
 use plane_base::segment::XSegment;
 
@@ -36,7 +34,7 @@ pub(super) type Key<I> = Segment<ShapeCountBoolean, I, ()>;
 
 // What runs along a line on from the last stop: how many keys, and what they count for together. And the last stop on the line.
 #[derive(Clone, Copy)]
-pub(super) struct Line<I> {
+pub(super) struct Line<I: IntNumber> {
     pub(super) running: u32,
     pub(super) sum: ShapeCountBoolean,
     pub(super) next: Option<IntPoint<I>>,
@@ -44,7 +42,7 @@ pub(super) struct Line<I> {
 
 // A horizontal line, of the height y.
 #[derive(Clone, Copy)]
-pub(super) struct Row<I> {
+pub(super) struct Row<I: IntNumber> {
     pub(super) y: I,
     pub(super) line: Line<I>,
 }
@@ -53,7 +51,7 @@ pub(super) struct Row<I> {
 // and guesses of where each height stands. And the places of the rows on which a key runs, and of those where what runs counts for
 // something.
 #[derive(Drop)]
-pub(super) struct Lines<I> {
+pub(super) struct Lines<I: IntNumber> {
     pub(super) rows: Vec<Row<I>>,
     pub(super) column: Line<I>,
     pub(super) place: usize,
@@ -129,7 +127,7 @@ fn change<I: OverlayInt>(
     count: ShapeCountBoolean,
     more: bool,
 ) -> Result<Line<I>, Fault>
-    ensures changed { IfOk result (λ line_after. line_of I.value line_after ≡ changed more count (line_of I.value line)) }
+    ensures changed { IfOk result (λ line_after. line_of line_after ≡ changed more count (line_of line)) }
     ensures refused { IfErr result (IsRefusal (count_fits (boolean.join line.sum count) ≡ false) ⊥) }
 {
     Ok(Line {
@@ -159,12 +157,12 @@ fn change_line<I: OverlayInt>(
 ) -> Result<(), Fault>
     requires rising { AreRising (rows_of I.value lines.old.rows.items) }
     requires seen { AreSeen I.value lines.old }
-    requires placed { int_eq (I.value key.x_segment.a.x) (I.value key.x_segment.b.x) ≡ false →
-        IsPlaceOf (I.value key.x_segment.a.y) (heights_in (rows_of I.value lines.old.rows.items)) place }
+    requires placed { int_eq key.x_segment.a.x key.x_segment.b.x ≡ false →
+        IsPlaceOf key.x_segment.a.y (heights_in (rows_of I.value lines.old.rows.items)) place }
     ensures seen { OnOk result (AreSeen I.value lines.new) }
     ensures changed { OnOk result (lines_of I.value lines.new ≡
-        at_line (edge_of I.value key.x_segment) (changed more (count_of more key.count)) (lines_of I.value lines.old)) }
-    ensures refused { IfErr result (IsRefusal (count_fits (boolean.join (line_on (edge_of I.value key.x_segment) (lines_of I.value lines.old)).sum
+        at_line key.x_segment (changed more (count_of more key.count)) (lines_of I.value lines.old)) }
+    ensures refused { IfErr result (IsRefusal (count_fits (boolean.join (line_on key.x_segment (lines_of I.value lines.old)).sum
         (count_of more key.count)) ≡ false) ⊥) }
 {
     let count = count_of(key, more);
@@ -184,7 +182,7 @@ fn count_of<I: OverlayInt>(key: Key<I>, more: bool) -> ShapeCountBoolean
 
 // Whether a segment runs upward.
 pub(super) fn is_vertical<I: OverlayInt>(s: XSegment<I>) -> bool
-    ensures { result ≡ int_eq (I.value s.a.x) (I.value s.b.x) }
+    ensures { result ≡ int_eq s.a.x s.b.x }
 {
     s.a.x.to_i64() == s.b.x.to_i64()
 }
@@ -229,18 +227,18 @@ pub(super) fn change_all<I: OverlayInt>(
     place: usize,
     more: bool,
 ) -> Result<usize, Fault>
-    requires sound { CanBeSwept I.value (entries_of I.value keys.now) ends.now }
-    requires within { many ≤ length (in_order more (entries_of I.value keys.now) ends.now) }
+    requires sound { CanBeSwept (entries_of keys.now) ends.now }
+    requires within { many ≤ length (in_order more (entries_of keys.now) ends.now) }
     requires rising { AreRising (rows_of I.value lines.old.rows.items) }
     requires seen { AreSeen I.value lines.old }
-    requires placed { IsPlaceOf (I.value point.y) (heights_in (rows_of I.value lines.old.rows.items)) place }
+    requires placed { IsPlaceOf point.y (heights_in (rows_of I.value lines.old.rows.items)) place }
     ensures rising { OnOk result (AreRising (rows_of I.value lines.new.rows.items)) }
     ensures seen { OnOk result (AreSeen I.value lines.new) }
-    ensures all { IfOk result (AreAllAt more (point_of I.value point) (in_order more (entries_of I.value keys.now) ends.now) many) }
+    ensures all { IfOk result (AreAllAt more point (in_order more (entries_of keys.now) ends.now) many) }
     ensures changed { IfOk result (λ n. lines_of I.value lines.new ≡
-        all_changed more (drop n (take many (in_order more (entries_of I.value keys.now) ends.now))) (lines_of I.value lines.old)) }
+        all_changed more (drop n (take many (in_order more (entries_of keys.now) ends.now))) (lines_of I.value lines.old)) }
     ensures refused { IfErr result (IsRefusal
-        (LeavesRange more (point_of I.value point) (take many (in_order more (entries_of I.value keys.now) ends.now)) (lines_of I.value lines.old)) ⊥) }
+        (LeavesRange more point (take many (in_order more (entries_of keys.now) ends.now)) (lines_of I.value lines.old)) ⊥) }
 {
     let mut left = many;
     while 0 < left {
@@ -264,12 +262,12 @@ pub(super) fn visit<I: OverlayInt>(
 ) -> Result<(), Fault>
     requires rising { AreRising (rows_of I.value lines.old.rows.items) }
     requires seen { AreSeen I.value lines.old }
-    requires placed { IsPlaceOf (I.value point.y) (heights_in (rows_of I.value lines.old.rows.items)) place }
+    requires placed { IsPlaceOf point.y (heights_in (rows_of I.value lines.old.rows.items)) place }
     ensures rising { OnOk result (AreRising (rows_of I.value lines.new.rows.items)) }
     ensures seen { OnOk result (AreSeen I.value lines.new) }
-    ensures lines { OnOk result (lines_of I.value lines.new ≡ visited (point_of I.value point) (lines_of I.value lines.old)) }
-    ensures laid { OnOk result (entries_of I.value laid.new.items ≡ entries_of I.value laid.old.items ++
-        steps_from (point_of I.value point) (lines_of I.value lines.old)) }
+    ensures lines { OnOk result (lines_of I.value lines.new ≡ visited point (lines_of I.value lines.old)) }
+    ensures laid { OnOk result (entries_of laid.new.items ≡ entries_of laid.old.items ++
+        steps_from point (lines_of I.value lines.old)) }
     ensures memory { IsOkUnless result Fault.Memory }
 {
     visit_row(laid, &mut lines.rows, point, place)?;
@@ -285,8 +283,8 @@ fn lay_up<I: OverlayInt>(
     column: Line<I>,
     point: IntPoint<I>,
 ) -> Result<(), Fault>
-    ensures laid { OnOk result (entries_of I.value laid.new.items ≡ entries_of I.value laid.old.items ++
-        step_with column.sum (point_of I.value point) (above_it (point_of I.value point) (next_of I.value column.next))) }
+    ensures laid { OnOk result (entries_of laid.new.items ≡ entries_of laid.old.items ++
+        step_with column.sum point (above_it point (next_of column.next))) }
     ensures memory { IsOkUnless result Fault.Memory }
 {
     let Line {
@@ -307,8 +305,8 @@ fn lay_at_x<I: OverlayInt>(
     above: IntPoint<I>,
     count: ShapeCountBoolean,
 ) -> Result<(), Fault>
-    ensures laid { OnOk result (entries_of I.value laid.new.items ≡ entries_of I.value laid.old.items ++
-        step_with count (point_of I.value point) (above_it (point_of I.value point) (Some (point_of I.value above)))) }
+    ensures laid { OnOk result (entries_of laid.new.items ≡ entries_of laid.old.items ++
+        step_with count point (above_it point (Some above))) }
     ensures memory { IsOkUnless result Fault.Memory }
 {
     if above.x == point.x {
@@ -326,11 +324,11 @@ fn visit_row<I: OverlayInt>(
     place: usize,
 ) -> Result<(), Fault>
     requires rising { AreRising (rows_of I.value rows.old.items) }
-    requires placed { IsPlaceOf (I.value point.y) (heights_in (rows_of I.value rows.old.items)) place }
+    requires placed { IsPlaceOf point.y (heights_in (rows_of I.value rows.old.items)) place }
     ensures rows { OnOk result (rows_of I.value rows.new.items ≡
-        at_height (I.value point.y) (stopped (point_of I.value point)) (rows_of I.value rows.old.items)) }
-    ensures laid { OnOk result (entries_of I.value laid.new.items ≡ entries_of I.value laid.old.items ++
-        step_from (point_of I.value point) (line_at (I.value point.y) (rows_of I.value rows.old.items))) }
+        at_height point.y (stopped point) (rows_of I.value rows.old.items)) }
+    ensures laid { OnOk result (entries_of laid.new.items ≡ entries_of laid.old.items ++
+        step_from point (line_at point.y (rows_of I.value rows.old.items))) }
     ensures memory { IsOkUnless result Fault.Memory }
 {
     if is_at(rows, place, point.y) {
@@ -343,7 +341,7 @@ fn visit_row<I: OverlayInt>(
 
 // The line with its last stop at a point.
 fn stop<I: OverlayInt>(line: Line<I>, point: IntPoint<I>) -> Line<I>
-    ensures { line_of I.value result ≡ stopped (point_of I.value point) (line_of I.value line) }
+    ensures { line_of result ≡ stopped point (line_of line) }
 {
     Line {
         running: line.running,
@@ -358,7 +356,7 @@ fn lay_to_next<I: OverlayInt>(
     line: Line<I>,
     point: IntPoint<I>,
 ) -> Result<(), Fault>
-    ensures laid { OnOk result (entries_of I.value laid.new.items ≡ entries_of I.value laid.old.items ++ step_from (point_of I.value point) (line_of I.value line)) }
+    ensures laid { OnOk result (entries_of laid.new.items ≡ entries_of laid.old.items ++ step_from point (line_of line)) }
     ensures memory { IsOkUnless result Fault.Memory }
 {
     let Line {
@@ -379,8 +377,8 @@ fn lay_to<I: OverlayInt>(
     next: IntPoint<I>,
     count: ShapeCountBoolean,
 ) -> Result<(), Fault>
-    ensures laid { OnOk result (entries_of I.value laid.new.items ≡ entries_of I.value laid.old.items ++
-        step_with count (point_of I.value point) (Some (point_of I.value next))) }
+    ensures laid { OnOk result (entries_of laid.new.items ≡ entries_of laid.old.items ++
+        step_with count point (Some next)) }
     ensures memory { IsOkUnless result Fault.Memory }
 {
     if count.is_empty() {

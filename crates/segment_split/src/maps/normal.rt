@@ -3,7 +3,6 @@
 
 ghost use Rattle.std.specs.Prelude.{◌≡◌, ◌+◌, ◌<◌, ◌≤◌, ◌++◌, ◌∷◌, [], ℕ, length, take, drop, IfOk, IfErr, OnOk, false};
 ghost use Rattle.plane_base.specs.Counts.{normal};
-ghost use Rattle.plane_base.specs.SegmentViews.{edge_of};
 ghost use Rattle.segment_split.specs.Refusals.{IsOverfull, IsRefusal};
 ghost use Rattle.segment_split.specs.SegmentViews.{entry_of, entries_of, AreSorted};
 ghost use Rattle.segment_split.specs.Seen.{carrying, normal_seen, seen_entry_of, seen_entries_of};
@@ -22,10 +21,10 @@ pub(crate) fn sort_and_join<C: WindingCount, I: OverlayInt, D: OverlayEdgeData<C
     room: &mut SortRoom,
     store: &mut D::Store,
 ) -> Result<(), Fault>
-    ensures normal { OnOk result (entries_of I.value segments.new.items ≡ normal C.counting (entries_of I.value segments.old.items)) }
-    ensures data { OnOk result (seen_entries_of I.value D.JOINS segments.new.items ≡
-        normal_seen C.counting D.JOINS D.join (seen_entries_of I.value D.JOINS segments.old.items)) }
-    ensures refused { IfErr result (IsRefusal (IsOverfull C.counting C.fits (entries_of I.value segments.old.items)) ⊥) }
+    ensures normal { OnOk result (entries_of segments.new.items ≡ normal C.counting (entries_of segments.old.items)) }
+    ensures data { OnOk result (seen_entries_of D.JOINS segments.new.items ≡
+        normal_seen C.counting D.JOINS D.join (seen_entries_of D.JOINS segments.old.items)) }
+    ensures refused { IfErr result (IsRefusal (IsOverfull C.counting C.fits (entries_of segments.old.items)) ⊥) }
 {
     sort(segments, other, room)?;
     join_neighbours(segments, store)?;
@@ -38,10 +37,10 @@ pub(crate) fn join_neighbours<C: WindingCount, I: OverlayInt, D: OverlayEdgeData
     segments: &mut Vec<Segment<C, I, D>>,
     store: &mut D::Store,
 ) -> Result<(), Fault>
-    requires sorted { AreSorted (entries_of I.value segments.old.items) }
-    ensures joined { OnOk result (seen_entries_of I.value D.JOINS segments.new.items ≡
-        normal (carrying C.counting D.JOINS D.join) (seen_entries_of I.value D.JOINS segments.old.items)) }
-    ensures refused { IfErr result (IsRefusal (IsOverfull C.counting C.fits (entries_of I.value segments.old.items)) ⊥) }
+    requires sorted { AreSorted (entries_of segments.old.items) }
+    ensures joined { OnOk result (seen_entries_of D.JOINS segments.new.items ≡
+        normal (carrying C.counting D.JOINS D.join) (seen_entries_of D.JOINS segments.old.items)) }
+    ensures refused { IfErr result (IsRefusal (IsOverfull C.counting C.fits (entries_of segments.old.items)) ⊥) }
 {
     if segments.is_empty() {
         return Ok(());
@@ -69,8 +68,8 @@ fn put<C: WindingCount, I: OverlayInt, D: OverlayEdgeData<C>>(
     segment: Segment<C, I, D>,
 ) -> usize
     requires within { place < length segments.old.items }
-    ensures kept { seen_entries_of I.value D.JOINS (take result segments.new.items) ≡
-        seen_entries_of I.value D.JOINS (take place segments.old.items) ++ seen_entry_of I.value D.JOINS segment ∷ [] }
+    ensures kept { seen_entries_of D.JOINS (take result segments.new.items) ≡
+        seen_entries_of D.JOINS (take place segments.old.items) ++ seen_entry_of D.JOINS segment ∷ [] }
     ensures end { result ≤ place + 1 }
     ensures len { length segments.new.items ≡ length segments.old.items }
     ensures rest { (i : ℕ) → place < i → drop i segments.new.items ≡ drop i segments.old.items }
@@ -85,10 +84,10 @@ pub(crate) fn both<C: WindingCount, I: OverlayInt, D: OverlayEdgeData<C>>(
     other: Segment<C, I, D>,
     store: &mut D::Store,
 ) -> Result<Segment<C, I, D>, Fault>
-    ensures is { IfOk result (λ sum. entry_of I.value sum ≡ record { edge = edge_of I.value one.x_segment; count = C.counting.join one.count other.count }) }
-    ensures data { IfOk result (λ sum. seen_entry_of I.value D.JOINS sum ≡ record {
-      edge = edge_of I.value one.x_segment;
-      count = (carrying C.counting D.JOINS D.join).join (seen_entry_of I.value D.JOINS one).count (seen_entry_of I.value D.JOINS other).count;
+    ensures is { IfOk result (λ sum. entry_of sum ≡ record { edge = one.x_segment; count = C.counting.join one.count other.count }) }
+    ensures data { IfOk result (λ sum. seen_entry_of D.JOINS sum ≡ record {
+      edge = one.x_segment;
+      count = (carrying C.counting D.JOINS D.join).join (seen_entry_of D.JOINS one).count (seen_entry_of D.JOINS other).count;
     }) }
     ensures refused { IfErr result (IsRefusal (C.fits (C.counting.join one.count other.count) ≡ false) ⊥) }
 {

@@ -2,7 +2,6 @@
 
 ghost use Rattle.std.specs.Prelude.{◌≡◌, ◌++◌, OnOk, IsOkUnless};
 ghost use Rattle.plane_base.specs.Counts.{lay};
-ghost use Rattle.plane_base.specs.Views.{point_of};
 ghost use Rattle.segment_split.specs.SegmentViews.{entries_of};
 ghost use Rattle.segment_split.specs.Seen.{seen, carrying, seen_entries_of};
 
@@ -22,10 +21,10 @@ pub(crate) fn lay_step<C: WindingCount, I: OverlayInt, D: OverlayEdgeData<C>>(
     datum: D,
     store: &mut D::Store,
 ) -> Result<(), Fault>
-    ensures laid { OnOk result (entries_of I.value pieces.new.items ≡
-        entries_of I.value pieces.old.items ++ lay C.counting (point_of I.value from) (point_of I.value to) count) }
-    ensures data { OnOk result (seen_entries_of I.value D.JOINS pieces.new.items ≡ seen_entries_of I.value D.JOINS pieces.old.items ++
-        lay (carrying C.counting D.JOINS D.join) (point_of I.value from) (point_of I.value to) (count, seen D.JOINS datum)) }
+    ensures laid { OnOk result (entries_of pieces.new.items ≡
+        entries_of pieces.old.items ++ lay C.counting from to count) }
+    ensures data { OnOk result (seen_entries_of D.JOINS pieces.new.items ≡ seen_entries_of D.JOINS pieces.old.items ++
+        lay (carrying C.counting D.JOINS D.join) from to (count, seen D.JOINS datum)) }
     ensures memory { IsOkUnless result Fault.Memory }
 {
     if from != to {

@@ -12,7 +12,6 @@ ghost use Rattle.std.specs.Ordering.{int_cmp};
 ghost use Rattle.i_tree.specs.Layout.{IsAccepted};
 ghost use Rattle.i_tree.specs.Bag.{IsInTime, IsPassed};
 ghost use Rattle.plane_base.specs.Crossing.{marks_by};
-ghost use Rattle.plane_base.specs.SegmentViews.{edge_of};
 ghost use Rattle.segment_split.specs.MarkLists.{laid_marks, AreMarks, SkipsOld, IsAt};
 ghost use Rattle.segment_split.specs.Rows.{CountsPairsUpTo, Finds};
 ghost use Rattle.segment_split.specs.StepBounds.{bucket_pairs, most_by_buckets, y_range};
@@ -45,7 +44,7 @@ pub(crate) fn find_marks<C: WindingCount, I: OverlayInt, D, L: Ledger>(
     steps: &mut Steps<L>,
 ) -> Result<bool, Fault>
     requires { SkipsOld pass.now.edges pass.now.next_new }
-    ensures found { OnOk result (AreMarks I.stride I.least I.greatest (marks_by pass.now.rounding) pass.now.edges (laid_marks I.value I.Wide.number marks.new.items)) }
+    ensures found { OnOk result (AreMarks I.stride I.least I.greatest (marks_by pass.now.rounding) pass.now.edges (laid_marks I.Wide.number marks.new.items)) }
     ensures whole { IfOk result (λ off_grid. off_grid ≡ false → AllMeetWhole pass.now.edges) }
     ensures memory { IsOkUnless result Fault.Memory }
     ensures buckets { CountsPairsUpTo steps.old steps.new (most_by_buckets pass.now.edges) }
@@ -69,7 +68,7 @@ fn pass_all<C: WindingCount, I: OverlayInt, D, L: Ledger>(
 ) -> Result<bool, Fault>
     requires { HoldAll pass.now.edges pass.now.next_new 0 trees.new_ones trees.old_ones }
     ensures found { IfOk result (λ own. Finds I.stride I.least I.greatest (marks_by pass.now.rounding) pass.now.edges (Meets pass.now.edges pass.now.next_new)
-        (laid_marks I.value I.Wide.number marks.old.items) (laid_marks I.value I.Wide.number marks.new.items) own) }
+        (laid_marks I.Wide.number marks.old.items) (laid_marks I.Wide.number marks.new.items) own) }
     ensures memory { IsOkUnless result Fault.Memory }
     ensures steps { CountsPairsUpTo steps.old steps.new (bucket_pairs (y_buckets pass.now.edges) pass.now.edges) }
 {
@@ -97,12 +96,13 @@ fn pass_one<C: WindingCount, I: OverlayInt, D, L: Ledger>(
     requires trees { HoldAll pass.now.edges pass.now.next_new j new_ones.old old_ones.old }
     ensures trees { OnOk result (HoldAll pass.now.edges pass.now.next_new (j + 1) new_ones.new old_ones.new) }
     ensures found { IfOk result (λ own. Finds I.stride I.least I.greatest (marks_by pass.now.rounding) pass.now.edges
-        (λ h k. (k ≡ j) × Meets pass.now.edges pass.now.next_new h k) (laid_marks I.value I.Wide.number marks.old.items) (laid_marks I.value I.Wide.number marks.new.items) own) }
+        (λ h k. (k ≡ j) × Meets pass.now.edges pass.now.next_new h k) (laid_marks I.Wide.number marks.old.items) (laid_marks I.Wide.number marks.new.items) own) }
     ensures memory { IsOkUnless result Fault.Memory }
     ensures steps { CountsPairsUpTo steps.old steps.new (met_before pass.now.edges j) }
 {
     let segments = pass.segments;
-    let s = segments[j].x_segment;
+    let segment = &segments[j];
+    let s = segment.x_segment;
     let own = hold_met(marks, pass, new_ones, j, s, steps)?;
     if next_from(pass.next_new, j) != j {
         put(old_ones, j, s)?;
@@ -122,15 +122,15 @@ fn hold_met<C: WindingCount, I: OverlayInt, D, L: Ledger>(
     s: XSegment<I>,
     steps: &mut Steps<L>,
 ) -> Result<bool, Fault>
-    requires at { IsAt pass.now.edges j (edge_of I.value s) }
-    requires in_time { IsInTime int_cmp (I.value s.a.x) tree.old }
-    requires accepted { IsAccepted (y_range (edge_of I.value s)).least (y_range (edge_of I.value s)).greatest tree.old.buckets }
-    requires earlier { All (λ p. p.number < j) (met_in tree.old (edge_of I.value s)) }
+    requires at { IsAt pass.now.edges j s }
+    requires in_time { IsInTime int_cmp s.a.x tree.old }
+    requires accepted { IsAccepted (y_range s).least (y_range s).greatest tree.old.buckets }
+    requires earlier { All (λ p. p.number < j) (met_in tree.old s) }
     ensures found { IfOk result (λ own. Finds I.stride I.least I.greatest (marks_by pass.now.rounding) pass.now.edges
-        (λ h k. (k ≡ j) × HasNumber (met_in tree.old (edge_of I.value s)) h) (laid_marks I.value I.Wide.number marks.old.items) (laid_marks I.value I.Wide.number marks.new.items) own) }
-    ensures passed { IsPassed int_cmp (λ p. p.end) (I.value s.a.x) tree.old tree.new }
+        (λ h k. (k ≡ j) × HasNumber (met_in tree.old s) h) (laid_marks I.Wide.number marks.old.items) (laid_marks I.Wide.number marks.new.items) own) }
+    ensures passed { IsPassed int_cmp (λ p. p.end) s.a.x tree.old tree.new }
     ensures memory { IsOkUnless result Fault.Memory }
-    ensures steps { CountsPairsUpTo steps.old steps.new (length (met_in tree.old (edge_of I.value s))) }
+    ensures steps { CountsPairsUpTo steps.old steps.new (length (met_in tree.old s)) }
 {
     let found = find_met(tree, s)?;
     let own = hold_found(marks, pass, &found, j, steps)?;
@@ -148,7 +148,7 @@ fn hold_found<C: WindingCount, I: OverlayInt, D, L: Ledger>(
     requires within { j < length pass.now.edges }
     requires earlier { All (λ p. p.number < j) found.now }
     ensures found { IfOk result (λ own. Finds I.stride I.least I.greatest (marks_by pass.now.rounding) pass.now.edges
-        (λ h k. (k ≡ j) × HasNumber found.now h) (laid_marks I.value I.Wide.number marks.old.items) (laid_marks I.value I.Wide.number marks.new.items) own) }
+        (λ h k. (k ≡ j) × HasNumber found.now h) (laid_marks I.Wide.number marks.old.items) (laid_marks I.Wide.number marks.new.items) own) }
     ensures memory { IsOkUnless result Fault.Memory }
     ensures steps { CountsPairsUpTo steps.old steps.new (length found.now) }
 {
@@ -156,7 +156,8 @@ fn hold_found<C: WindingCount, I: OverlayInt, D, L: Ledger>(
     let mut is_off_grid = false;
     for k in 0..found.len() {
         let i = found[k].number;
-        let s = segments[i].x_segment;
+        let segment = &segments[i];
+        let s = segment.x_segment;
         let own = look(marks, pass, i, s, j, steps)?;
         is_off_grid = either(is_off_grid, own);
     }

@@ -31,7 +31,7 @@ pub(crate) fn find_marks<C: WindingCount, I: OverlayInt, D, L: Ledger>(
     steps: &mut Steps<L>,
 ) -> Result<bool, Fault>
     requires { SkipsOld pass.now.edges pass.now.next_new }
-    ensures found { OnOk result (AreMarks I.stride I.least I.greatest (marks_by pass.now.rounding) pass.now.edges (laid_marks I.value I.Wide.number marks.new.items)) }
+    ensures found { OnOk result (AreMarks I.stride I.least I.greatest (marks_by pass.now.rounding) pass.now.edges (laid_marks I.Wide.number marks.new.items)) }
     ensures whole { IfOk result (λ off_grid. off_grid ≡ false → AllMeetWhole pass.now.edges) }
     ensures memory { IsOkUnless result Fault.Memory }
     ensures steps { CountsPairsUpTo steps.old steps.new (all_pairs pass.now.edges) }
@@ -57,17 +57,19 @@ fn look_ahead<C: WindingCount, I: OverlayInt, D, L: Ledger>(
     requires skips { SkipsOld pass.now.edges pass.now.next_new }
     ensures found { IfOk result (λ own. Finds I.stride I.least I.greatest (marks_by pass.now.rounding) pass.now.edges
         (λ h k. (h ≡ i) × MarksAhead (marks_by pass.now.rounding) pass.now.edges h k)
-        (laid_marks I.value I.Wide.number marks.old.items) (laid_marks I.value I.Wide.number marks.new.items) own) }
+        (laid_marks I.Wide.number marks.old.items) (laid_marks I.Wide.number marks.new.items) own) }
     ensures memory { IsOkUnless result Fault.Memory }
     ensures steps { CountsPairsUpTo steps.old steps.new (length pass.now.edges - (i + 1)) }
 {
     let segments = pass.segments;
-    let s = segments[i].x_segment;
+    let segment = &segments[i];
+    let s = segment.x_segment;
     let is_new = next_from(pass.next_new, i) == i;
     let mut is_off_grid = false;
     let mut j = step_to(pass.next_new, is_new, i + 1);
     while j < segments.len() {
-        if ends_before(s, segments[j].x_segment, steps) {
+        let other = &segments[j];
+        if ends_before(s, other.x_segment, steps) {
             return Ok(is_off_grid);
         }
         let own = look(marks, pass, i, s, j, steps)?;
@@ -100,8 +102,8 @@ fn ends_before<I: OverlayInt, L: Ledger>(
     t: XSegment<I>,
     steps: &mut Steps<L>,
 ) -> bool
-    ensures past { IsTrue result → I.value s.b.x <ℤ I.value t.a.x }
-    ensures reached { IsFalse result → I.value t.a.x ≤ℤ I.value s.b.x }
+    ensures past { IsTrue result → s.b.x <ℤ t.a.x }
+    ensures reached { IsFalse result → t.a.x ≤ℤ s.b.x }
     ensures comparisons { steps.new.comparisons ≡ steps.old.comparisons }
     ensures pairs { steps.new.pairs ≡ steps.old.pairs + cond result 1 0 }
 {

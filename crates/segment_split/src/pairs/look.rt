@@ -4,7 +4,6 @@ ghost use Rattle.std.specs.Prelude.{◌≡◌, ◌+◌, ◌<◌, length, IfOk, I
 ghost use Rattle.plane_base.specs.Plane.{Edge};
 ghost use Rattle.plane_base.specs.Crossing.{marks_by};
 ghost use Rattle.plane_base.specs.Sides.{AreSides};
-ghost use Rattle.plane_base.specs.SegmentViews.{edge_of};
 ghost use Rattle.segment_split.specs.MarkLists.{laid_marks, IsAt};
 ghost use Rattle.segment_split.specs.Rows.{Finds};
 
@@ -36,9 +35,9 @@ impl<'a, C: WindingCount, I: OverlayInt, D> Model for Pass<'a, C, I, D> {
 
     ghost Value = { SeenPass };
 
-    ghost view = { λ p. seen_pass (entries_of I.value p.segments.now) p.next_new.now p.rounding };
+    ghost view = { λ p. seen_pass (entries_of p.segments.now) p.next_new.now p.rounding };
 
-    ghost invariant = { λ p. CanBePassed I.least I.greatest C.counting (entries_of I.value p.segments.now) };
+    ghost invariant = { λ p. CanBePassed I.least I.greatest C.counting (entries_of p.segments.now) };
 }
 
 // Holds the segments of the numbers i and j against each other, where that of i was read, lays what they lay on each other, and
@@ -52,17 +51,18 @@ pub(super) fn look<C: WindingCount, I: OverlayInt, D, L: Ledger>(
     j: usize,
     steps: &mut Steps<L>,
 ) -> Result<bool, Fault>
-    requires at { IsAt pass.now.edges i (edge_of I.value s) }
+    requires at { IsAt pass.now.edges i s }
     requires before { i < j }
     requires within { j < length pass.now.edges }
     ensures found { IfOk result (λ own. Finds I.stride I.least I.greatest (marks_by pass.now.rounding) pass.now.edges (λ h k. (h ≡ i) × (k ≡ j))
-        (laid_marks I.value I.Wide.number marks.old.items) (laid_marks I.value I.Wide.number marks.new.items) own) }
+        (laid_marks I.Wide.number marks.old.items) (laid_marks I.Wide.number marks.new.items) own) }
     ensures comparisons { steps.new.comparisons ≡ steps.old.comparisons }
     ensures pairs { steps.new.pairs ≡ steps.old.pairs + 1 }
     ensures memory { IsOkUnless result Fault.Memory }
 {
     let segments = pass.segments;
-    let t = segments[j].x_segment;
+    let other = &segments[j];
+    let t = other.x_segment;
     steps.tick_pair();
     let Some(sides) = sides_unless_apart(s, t) else {
         return Ok(false);
@@ -84,12 +84,14 @@ fn lay_met<C: WindingCount, I: OverlayInt, D>(
     requires within { j < length pass.now.edges }
     requires sides { (s t : Edge) → IsAt pass.now.edges i s → IsAt pass.now.edges j t → AreSides I.Wide.number I.most s t sides }
     ensures found { IfOk result (λ own. Finds I.stride I.least I.greatest (marks_by pass.now.rounding) pass.now.edges (λ h k. (h ≡ i) × (k ≡ j))
-        (laid_marks I.value I.Wide.number marks.old.items) (laid_marks I.value I.Wide.number marks.new.items) own) }
+        (laid_marks I.Wide.number marks.old.items) (laid_marks I.Wide.number marks.new.items) own) }
     ensures memory { IsOkUnless result Fault.Memory }
 {
     let segments = pass.segments;
-    let s = segments[i].x_segment;
-    let t = segments[j].x_segment;
+    let one = &segments[i];
+    let other = &segments[j];
+    let s = one.x_segment;
+    let t = other.x_segment;
     let found = meet_closely(s, t, sides, pass.rounding);
     lay(marks, i, s, found.target)?;
     lay(marks, j, t, found.other)?;

@@ -7,7 +7,7 @@
 //! Degenerate cases: a high segment stands in each row that it reaches; where none is new nothing is laid out. It takes a sort of
 //! places, and a test at most for each pair that shares an x and a row.
 
-ghost use Rattle.std.specs.Prelude.{◌≡◌, ◌||◌, ℕ, Bool, false, IfOk, OnOk, IsOkUnless};
+ghost use Rattle.std.specs.Prelude.{◌≡◌, ◌||◌, Bool, false, IfOk, OnOk, IsOkUnless};
 ghost use Rattle.plane_base.specs.Plane.{Edge};
 ghost use Rattle.plane_base.specs.Crossing.{marks_by};
 ghost use Rattle.segment_split.specs.MarkLists.{laid_marks, AreMarks, SkipsOld};
@@ -47,7 +47,7 @@ pub(crate) fn find_marks<C: WindingCount, I: OverlayInt, D, L: Ledger>(
     steps: &mut Steps<L>,
 ) -> Result<bool, Fault>
     requires { SkipsOld pass.now.edges pass.now.next_new }
-    ensures found { OnOk result (AreMarks I.stride I.least I.greatest (marks_by pass.now.rounding) pass.now.edges (laid_marks I.value I.Wide.number marks.new.items)) }
+    ensures found { OnOk result (AreMarks I.stride I.least I.greatest (marks_by pass.now.rounding) pass.now.edges (laid_marks I.Wide.number marks.new.items)) }
     ensures whole { IfOk result (λ off_grid. off_grid ≡ false → AllMeetWhole pass.now.edges) }
     ensures memory { IsOkUnless result Fault.Memory }
     ensures columns { CountsPairsUpTo steps.old steps.new (most_by_columns pass.now.edges) }
@@ -69,7 +69,7 @@ pub(crate) fn find_marks_of_new<C: WindingCount, I: OverlayInt, D, L: Ledger>(
     steps: &mut Steps<L>,
 ) -> Result<OffGrid, Fault>
     ensures found { IfOk result (λ off. Finds I.stride I.least I.greatest (marks_by pass.now.rounding) pass.now.edges (IsNewPair pass.now.next_new)
-        (laid_marks I.value I.Wide.number marks.old.items) (laid_marks I.value I.Wide.number marks.new.items) (off.among_new || off.with_old)) }
+        (laid_marks I.Wide.number marks.old.items) (laid_marks I.Wide.number marks.new.items) (off.among_new || off.with_old)) }
     ensures whole { IfOk result (λ off. off.with_old ≡ false → MeetNewWhole pass.now.edges pass.now.next_new) }
     ensures memory { IsOkUnless result Fault.Memory }
     ensures steps { (test : Edge → Edge → Bool) → TakesNew pass.now.edges pass.now.next_new test →
@@ -91,7 +91,7 @@ pub(crate) fn find_marks_among_new<C: WindingCount, I: OverlayInt, D, L: Ledger>
     steps: &mut Steps<L>,
 ) -> Result<bool, Fault>
     ensures found { IfOk result (λ off. Finds I.stride I.least I.greatest (marks_by pass.now.rounding) pass.now.edges (AreBothNew pass.now.next_new)
-        (laid_marks I.value I.Wide.number marks.old.items) (laid_marks I.value I.Wide.number marks.new.items) off) }
+        (laid_marks I.Wide.number marks.old.items) (laid_marks I.Wide.number marks.new.items) off) }
     ensures memory { IsOkUnless result Fault.Memory }
     ensures steps { (test : Edge → Edge → Bool) → TakesBothNew pass.now.edges pass.now.next_new test →
         CountsPairsUpTo steps.old steps.new (pairs_by test pass.now.edges) }

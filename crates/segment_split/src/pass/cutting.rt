@@ -5,7 +5,6 @@
 ghost use Rattle.std.specs.Prelude.{◌≡◌, ◌≢◌, ◌≤◌, ◌<◌, ◌++◌, ◌∷◌, [], List, All, length, take, drop, map, IfOk, OnOk, IsOkUnless};
 ghost use Rattle.plane_base.specs.Counts.{IsNormal, lay};
 ghost use Rattle.plane_base.specs.Given.{laid_path};
-ghost use Rattle.plane_base.specs.Views.{point_of};
 ghost use Rattle.segment_split.specs.SegmentViews.{entries_of};
 ghost use Rattle.segment_split.specs.Seen.{seen, carrying, seen_entries_of};
 ghost use Rattle.segment_split.specs.MarkLists.{LaidMark, laid_marks, AreInPlace};
@@ -28,13 +27,13 @@ pub(crate) fn cut_all<C: WindingCount, I: OverlayInt, D: OverlayEdgeData<C>>(
     marks: &[Mark<I, I::Wide>],
     store: &mut D::Store,
 ) -> Result<(), Fault>
-    requires normal { IsNormal C.counting (entries_of I.value segments.now) }
-    requires in_place { AreInPlace (laid_marks I.value I.Wide.number marks.now) }
-    requires within { All (λ m. m.segment < length segments.now) (laid_marks I.value I.Wide.number marks.now) }
-    ensures cut { OnOk result (IsCut I.stride I.least I.greatest C.counting (laid_marks I.value I.Wide.number marks.now) (entries_of I.value segments.now)
-        (entries_of I.value kept.new.items) (entries_of I.value pieces.new.items)) }
-    ensures data { OnOk result (IsCut I.stride I.least I.greatest (carrying C.counting D.JOINS D.join) (laid_marks I.value I.Wide.number marks.now)
-        (seen_entries_of I.value D.JOINS segments.now) (seen_entries_of I.value D.JOINS kept.new.items) (seen_entries_of I.value D.JOINS pieces.new.items)) }
+    requires normal { IsNormal C.counting (entries_of segments.now) }
+    requires in_place { AreInPlace (laid_marks I.Wide.number marks.now) }
+    requires within { All (λ m. m.segment < length segments.now) (laid_marks I.Wide.number marks.now) }
+    ensures cut { OnOk result (IsCut I.stride I.least I.greatest C.counting (laid_marks I.Wide.number marks.now) (entries_of segments.now)
+        (entries_of kept.new.items) (entries_of pieces.new.items)) }
+    ensures data { OnOk result (IsCut I.stride I.least I.greatest (carrying C.counting D.JOINS D.join) (laid_marks I.Wide.number marks.now)
+        (seen_entries_of D.JOINS segments.now) (seen_entries_of D.JOINS kept.new.items) (seen_entries_of D.JOINS pieces.new.items)) }
     ensures memory { IsOkUnless result Fault.Memory }
 {
     kept.clear();
@@ -72,8 +71,8 @@ fn keep_all<C: WindingCount, I: OverlayInt, D: Copy>(
 // How many marks at the beginning of a list lie on the segment.
 pub(crate) fn run_length<I: OverlayInt>(marks: &[Mark<I, I::Wide>], segment: usize) -> usize
     ensures within { result ≤ length marks.now }
-    ensures own { All (λ m. m.segment ≡ segment) (laid_marks I.value I.Wide.number (take result marks.now)) }
-    ensures apart { (m : LaidMark) (more : List LaidMark) → laid_marks I.value I.Wide.number (drop result marks.now) ≡ m ∷ more → m.segment ≢ segment }
+    ensures own { All (λ m. m.segment ≡ segment) (laid_marks I.Wide.number (take result marks.now)) }
+    ensures apart { (m : LaidMark) (more : List LaidMark) → laid_marks I.Wide.number (drop result marks.now) ≡ m ∷ more → m.segment ≢ segment }
 {
     for i in 0..marks.len() {
         if marks[i].segment != segment {
@@ -90,12 +89,12 @@ pub(crate) fn lay_run<C: WindingCount, I: OverlayInt, D: OverlayEdgeData<C>>(
     run: &[Mark<I, I::Wide>],
     store: &mut D::Store,
 ) -> Result<(), Fault>
-    ensures laid { OnOk result (entries_of I.value pieces.new.items ≡
-        entries_of I.value pieces.old.items ++ laid_path C.counting segment.count
-        (point_of I.value segment.x_segment.a ∷ (map (λ m. m.point) (laid_marks I.value I.Wide.number run.now) ++ (point_of I.value segment.x_segment.b ∷ [])))) }
-    ensures data { OnOk result (seen_entries_of I.value D.JOINS pieces.new.items ≡ seen_entries_of I.value D.JOINS pieces.old.items ++
+    ensures laid { OnOk result (entries_of pieces.new.items ≡
+        entries_of pieces.old.items ++ laid_path C.counting segment.count
+        (segment.x_segment.a ∷ (map (λ m. m.point) (laid_marks I.Wide.number run.now) ++ (segment.x_segment.b ∷ [])))) }
+    ensures data { OnOk result (seen_entries_of D.JOINS pieces.new.items ≡ seen_entries_of D.JOINS pieces.old.items ++
         laid_path (carrying C.counting D.JOINS D.join) (segment.count, seen D.JOINS segment.datum)
-        (point_of I.value segment.x_segment.a ∷ (map (λ m. m.point) (laid_marks I.value I.Wide.number run.now) ++ (point_of I.value segment.x_segment.b ∷ [])))) }
+        (segment.x_segment.a ∷ (map (λ m. m.point) (laid_marks I.Wide.number run.now) ++ (segment.x_segment.b ∷ [])))) }
     ensures memory { IsOkUnless result Fault.Memory }
 {
     let XSegment { a, b } = segment.x_segment;
@@ -121,10 +120,10 @@ fn lay_to_mark<C: WindingCount, I: OverlayInt, D: OverlayEdgeData<C>>(
     datum: D,
     store: &mut D::Store,
 ) -> Result<D, Fault>
-    ensures laid { OnOk result (entries_of I.value pieces.new.items ≡
-        entries_of I.value pieces.old.items ++ lay C.counting (point_of I.value cut.a) (point_of I.value cut.p) count) }
-    ensures data { OnOk result (seen_entries_of I.value D.JOINS pieces.new.items ≡ seen_entries_of I.value D.JOINS pieces.old.items ++
-        lay (carrying C.counting D.JOINS D.join) (point_of I.value cut.a) (point_of I.value cut.p) (count, seen D.JOINS datum)) }
+    ensures laid { OnOk result (entries_of pieces.new.items ≡
+        entries_of pieces.old.items ++ lay C.counting cut.a cut.p count) }
+    ensures data { OnOk result (seen_entries_of D.JOINS pieces.new.items ≡ seen_entries_of D.JOINS pieces.old.items ++
+        lay (carrying C.counting D.JOINS D.join) cut.a cut.p (count, seen D.JOINS datum)) }
     ensures rest { IfOk result (λ rest. seen D.JOINS rest ≡ seen D.JOINS datum) }
     ensures memory { IsOkUnless result Fault.Memory }
 {

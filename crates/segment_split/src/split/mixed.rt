@@ -13,7 +13,6 @@ ghost use Rattle.std.specs.Prelude.{◌≡◌, ◌<◌, ◌≤◌, ◌^◌, ◌�
 ghost use Rattle.i_tree.specs.Steps.{Counts};
 ghost use Rattle.plane_base.specs.Plane.{is_before};
 ghost use Rattle.plane_base.specs.Counts.{IsNormal};
-ghost use Rattle.plane_base.specs.SegmentViews.{edge_of};
 ghost use Rattle.segment_split.specs.LineLaws.{is_rectilinear};
 ghost use Rattle.segment_split.specs.MarkLists.{laid_marks, AreInPlace};
 ghost use Rattle.segment_split.specs.Mixed.{TellsOld, IsSearched, IsCutApart, lines_among, laid_through};
@@ -61,9 +60,9 @@ pub(super) fn cross_mixed<C: WindingCount, I: OverlayInt, D: OverlayEdgeData<C>,
     store: &mut D::Store,
     steps: &mut Steps<L>,
 ) -> Result<Option<Passed>, Fault>
-    requires { CanBeRedrawn I.least I.greatest C.counting (entries_of I.value segments.old.items) }
+    requires { CanBeRedrawn I.least I.greatest C.counting (entries_of segments.old.items) }
     ensures { let work : Work C D = record { kind = C.counting; fits = C.fits; joins = D.JOINS; join = D.join; solver = solver } in
-        PassesOrLeaves work 0 (listed I.value D.JOINS segments.old.items) (listed I.value D.JOINS segments.new.items) room.new.next_new.items
+        PassesOrLeaves work 0 (listed D.JOINS segments.old.items) (listed D.JOINS segments.new.items) room.new.next_new.items
         steps.old steps.new result }
 {
     if !may_take_lines(solver, segments.len()) {
@@ -142,12 +141,13 @@ fn tell_old<C: WindingCount, I: OverlayInt, D>(
     are_lines_old: bool,
 ) -> Result<(), Fault>
     ensures told { OnOk result (TellsOld (λ s. cond are_lines_old (is_rectilinear s) (not (is_rectilinear s)))
-        (edges_of (entries_of I.value segments.now)) next_new.new.items) }
+        (edges_of (entries_of segments.now)) next_new.new.items) }
     ensures memory { IsOkUnless result Fault.Memory }
 {
     next_new.clear();
     for i in 0..segments.len() {
-        if is_rectilinear(segments[i].x_segment) != are_lines_old {
+        let segment = &segments[i];
+        if is_rectilinear(segment.x_segment) != are_lines_old {
             fill(next_new, i)?;
             next_new.push(i)?;
         }
@@ -165,17 +165,17 @@ fn cut_in_turn<C: WindingCount, I: OverlayInt, D: OverlayEdgeData<C>, L: Ledger>
     store: &mut D::Store,
     steps: &mut Steps<L>,
 ) -> Result<Passed, Fault>
-    requires can { CanBeRedrawn I.least I.greatest C.counting (entries_of I.value segments.old.items) }
+    requires can { CanBeRedrawn I.least I.greatest C.counting (entries_of segments.old.items) }
     requires adds { C.ADDS ≡ true }
     requires bare { (d e : D) → d ≡ e }
     requires searched { (solver : Solver) × (first : Counts) ×
-        IsSearched I.stride I.least I.greatest solver (entries_of I.value segments.old.items) (laid_marks I.value I.Wide.number room.old.marks.items) is_last
+        IsSearched I.stride I.least I.greatest solver (entries_of segments.old.items) (laid_marks I.Wide.number room.old.marks.items) is_last
         first steps.old }
     ensures { (solver : Solver) (first : Counts) →
-        IsSearched I.stride I.least I.greatest solver (entries_of I.value segments.old.items) (laid_marks I.value I.Wide.number room.old.marks.items) is_last
+        IsSearched I.stride I.least I.greatest solver (entries_of segments.old.items) (laid_marks I.Wide.number room.old.marks.items) is_last
         first steps.old →
         let work : Work C D = record { kind = C.counting; fits = C.fits; joins = D.JOINS; join = D.join; solver = solver } in
-        Passes work 0 (listed I.value D.JOINS segments.old.items) (listed I.value D.JOINS segments.new.items) room.new.next_new.items first steps.new result }
+        Passes work 0 (listed D.JOINS segments.old.items) (listed D.JOINS segments.new.items) room.new.next_new.items first steps.new result }
 {
     let unmarked = Passed {
         is_marked: false,
@@ -218,18 +218,18 @@ fn cut_apart<C: WindingCount, I: OverlayInt, D: OverlayEdgeData<C>>(
     room: &mut Room<I>,
     store: &mut D::Store,
 ) -> Result<bool, Fault>
-    requires normal { IsNormal C.counting (entries_of I.value segments.now) }
+    requires normal { IsNormal C.counting (entries_of segments.now) }
     requires adds { C.ADDS ≡ true }
-    ensures cut { OnOk result (IsCutApart I.stride I.least I.greatest C.counting (of_count C.of) (laid_marks I.value I.Wide.number room.old.marks.items)
-        (entries_of I.value segments.now) (entries_of I.value lines.new.items) (entries_of I.value others.new.items)) }
+    ensures cut { OnOk result (IsCutApart I.stride I.least I.greatest C.counting (of_count C.of) (laid_marks I.Wide.number room.old.marks.items)
+        (entries_of segments.now) (entries_of lines.new.items) (entries_of others.new.items)) }
     ensures marked { IfOk result (λ is_marked. (is_marked ≡ false) ↔ (room.old.marks.items ≡ [])) }
-    ensures order { OnOk result (AreInOrder (entries_of I.value lines.new.items)) }
+    ensures order { OnOk result (AreInOrder (entries_of lines.new.items)) }
     ensures few { OnOk result (length lines.new.items < 2 ^ 31) }
     ensures unmarked { IfOk result (λ is_marked. is_marked ≡ false →
-        with_counts (of_count C.of) (entries_of I.value lines.new.items) ≡ lines_among (entries_of I.value segments.now)) }
+        with_counts (of_count C.of) (entries_of lines.new.items) ≡ lines_among (entries_of segments.now)) }
     ensures refused { IfErr result (IsRefusal ⊥ ((2 ^ 31 ≤ length lines.new.items) ×
-        IsCutApart I.stride I.least I.greatest C.counting (of_count C.of) (laid_marks I.value I.Wide.number room.old.marks.items)
-        (entries_of I.value segments.now) (entries_of I.value lines.new.items) (entries_of I.value others.new.items))) }
+        IsCutApart I.stride I.least I.greatest C.counting (of_count C.of) (laid_marks I.Wide.number room.old.marks.items)
+        (entries_of segments.now) (entries_of lines.new.items) (entries_of others.new.items))) }
 {
     let is_marked = !room.marks.is_empty();
     put_in_order(
@@ -259,14 +259,14 @@ fn cut_by_slope<C: WindingCount, I: OverlayInt, D: OverlayEdgeData<C>>(
     marks: &[Mark<I, I::Wide>],
     store: &mut D::Store,
 ) -> Result<(), Fault>
-    requires normal { IsNormal C.counting (entries_of I.value segments.now) }
+    requires normal { IsNormal C.counting (entries_of segments.now) }
     requires adds { C.ADDS ≡ true }
-    requires in_place { AreInPlace (laid_marks I.value I.Wide.number marks.now) }
-    ensures cut { OnOk result (IsCutApart I.stride I.least I.greatest C.counting (of_count C.of) (laid_marks I.value I.Wide.number marks.now)
-        (entries_of I.value segments.now) (entries_of I.value lines.new.items) (entries_of I.value others.new.items)) }
-    ensures directed { OnOk result (All (λ e. is_before e.edge.a e.edge.b ≡ true) (entries_of I.value lines.new.items)) }
+    requires in_place { AreInPlace (laid_marks I.Wide.number marks.now) }
+    ensures cut { OnOk result (IsCutApart I.stride I.least I.greatest C.counting (of_count C.of) (laid_marks I.Wide.number marks.now)
+        (entries_of segments.now) (entries_of lines.new.items) (entries_of others.new.items)) }
+    ensures directed { OnOk result (All (λ e. is_before e.edge.a e.edge.b ≡ true) (entries_of lines.new.items)) }
     ensures unmarked { OnOk result (length marks.now ≡ 0 →
-        with_counts (of_count C.of) (entries_of I.value lines.new.items) ≡ lines_among (entries_of I.value segments.now)) }
+        with_counts (of_count C.of) (entries_of lines.new.items) ≡ lines_among (entries_of segments.now)) }
     ensures memory { IsOkUnless result Fault.Memory }
 {
     lines.clear();
@@ -291,12 +291,12 @@ fn cut_one_by_slope<C: WindingCount, I: OverlayInt, D: OverlayEdgeData<C>>(
     store: &mut D::Store,
 ) -> Result<(), Fault>
     requires adds { C.ADDS ≡ true }
-    ensures lines { OnOk result (with_counts (of_count C.of) (entries_of I.value lines.new.items) ≡
-        with_counts (of_count C.of) (entries_of I.value lines.old.items) ++ cond (is_rectilinear (edge_of I.value segment.x_segment))
-        (laid_through C.counting (entry_of I.value segment) (laid_marks I.value I.Wide.number run.now)) []) }
-    ensures others { OnOk result (entries_of I.value others.new.items ≡
-        entries_of I.value others.old.items ++ cond (is_rectilinear (edge_of I.value segment.x_segment))
-        [] (laid_through C.counting (entry_of I.value segment) (laid_marks I.value I.Wide.number run.now))) }
+    ensures lines { OnOk result (with_counts (of_count C.of) (entries_of lines.new.items) ≡
+        with_counts (of_count C.of) (entries_of lines.old.items) ++ cond (is_rectilinear segment.x_segment)
+        (laid_through C.counting (entry_of segment) (laid_marks I.Wide.number run.now)) []) }
+    ensures others { OnOk result (entries_of others.new.items ≡
+        entries_of others.old.items ++ cond (is_rectilinear segment.x_segment)
+        [] (laid_through C.counting (entry_of segment) (laid_marks I.Wide.number run.now))) }
     ensures memory { IsOkUnless result Fault.Memory }
 {
     if is_rectilinear(segment.x_segment) {

@@ -53,8 +53,9 @@ fn adds_edges_of_strings(rt: HostRuntime) -> Result<(), Fail> {
         assert_eq!(rt; segment.x_segment.b, high);
         assert_eq!(rt; segment.count.subj, 0);
     }
-    assert_eq!(rt; segments[0].count.clip, STRING_FORWARD_CLIP);
-    assert_eq!(rt; segments[1].count.clip, STRING_BACK_CLIP);
+    let (first, second) = (&segments[0], &segments[1]);
+    assert_eq!(rt; first.count.clip, STRING_FORWARD_CLIP);
+    assert_eq!(rt; second.count.clip, STRING_BACK_CLIP);
     Ok(())
 }
 

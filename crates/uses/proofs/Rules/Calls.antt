@@ -30,8 +30,8 @@ if_refused (Err e) f h = f e h
 
 -- the contours of shapes, as a source has them
 pub same_shapes : {I : Type 0} (value : I → ℤ) (found : IntShapes I)
-    → contours_of value (paths_of_shapes found.shapes.items) ≡ all_contours (shapes_of value found.shapes.items)
-same_shapes value found = same_contours (λ s. s.contours.items) (λ path. path.points.items) (points_of value) found.shapes.items
+    → contours_of (paths_of_shapes found.shapes.items) ≡ all_contours (shapes_of found.shapes.items)
+same_shapes value found = same_contours (λ s. s.contours.items) (λ path. path.points.items) points_of found.shapes.items
 
 module _ (least greatest : ℤ) where
   -- what is sized is a mask

@@ -1,9 +1,8 @@
 -- The edges of a contour, from point to point.
-use Rattle.std.proofs.Common.{◌≡◌, refl, sym, ap, ◌∙◌, ℕ, ◌+◌, ◌<◌, ◌≤◌, List, [], ◌∷◌, map, drop, length, get_or, arith}
+use Rattle.std.proofs.Common.{◌≡◌, refl, sym, ap, ◌∙◌, ℕ, ◌+◌, ◌<◌, ◌≤◌, List, [], ◌∷◌, drop, length, get_or, arith}
 use Rattle.std.proofs.Math.ListN.{drop_of_length-le}
-use Rattle.std.proofs.lemmas.List.{drop-map}
 use Rattle.plane_base.specs.Plane.{Point, Edge}
-use Rattle.plane_base.proofs.Facts.Lists.Views.{drop-mapped}
+use Rattle.plane_base.proofs.Facts.Lists.Views.{drop_at}
 use Rattle.contour_walk.specs.Walks.{between, path_edges, contour_edges}
 use Rattle.contour_walk.specs.ShapeViews.{next_of}
 
@@ -21,15 +20,15 @@ path_edges_more first p [] = refl
 path_edges_more first p (r ∷ rest) = refl
 
 -- one edge more
-pub edges_left_more : {X : Type 0} (f : X → Point) (xs : List X) (i : ℕ) (x : X) (after : Point) → i < length xs → x ≡ get_or xs i x
-    → ((first : Point) (rest : List Point) → map f xs ≡ first ∷ rest → after ≡ next_of first (map f (drop (i + 1) xs)))
-    → edges_left (map f xs) i ≡ between (f x) after ∷ edges_left (map f xs) (i + 1)
-edges_left_more f [] i x after inside at next = absurd (omega arith)
-edges_left_more f (y ∷ ys) i x after inside at next =
-    let rest : List Point = drop (i + 1) (map f (y ∷ ys)) in
-    let there : after ≡ next_of (f y) rest = next (f y) (map f ys) refl ∙ ap (next_of (f y)) (sym (drop-map f (i + 1) (y ∷ ys))) in
-    ap (path_edges (f y)) (drop-mapped f (y ∷ ys) i x inside at)
-    ∙ (path_edges_more (f y) (f x) rest ∙ ap (λ r. between (f x) r ∷ path_edges (f y) rest) (sym there))
+pub edges_left_more : (xs : List Point) (i : ℕ) (x after : Point) → i < length xs → x ≡ get_or xs i x
+    → ((first : Point) (rest : List Point) → xs ≡ first ∷ rest → after ≡ next_of first (drop (i + 1) xs))
+    → edges_left xs i ≡ between x after ∷ edges_left xs (i + 1)
+edges_left_more [] i x after inside at next = absurd (omega arith)
+edges_left_more (y ∷ ys) i x after inside at next =
+    let rest : List Point = drop (i + 1) (y ∷ ys) in
+    let there : after ≡ next_of y rest = next y ys refl in
+    ap (path_edges y) (drop_at (y ∷ ys) i x inside at)
+    ∙ (path_edges_more y x rest ∙ ap (λ r. between x r ∷ path_edges y rest) (sym there))
 
 -- none is left at the end
 pub no_edges_left : (ps : List Point) (i : ℕ) → length ps ≤ i → edges_left ps i ≡ []

@@ -3,9 +3,8 @@ use Rattle.std.proofs.Common.{◌≡◌, refl, sym, ap, ◌∙◌, ℕ, zero, su
 use Rattle.std.specs.Prelude.{Option}
 use Rattle.std.specs.Ordering.{int_eq}
 use Rattle.std.proofs.Math.ListN.{drop_of_length-le}
-use Rattle.std.proofs.lemmas.List.{drop-map}
 use Rattle.plane_base.specs.Plane.{Point, turn}
-use Rattle.plane_base.proofs.Facts.Lists.Views.{drop-mapped}
+use Rattle.plane_base.proofs.Facts.Lists.Views.{drop_at, drop-mapped}
 use Rattle.contour_walk.specs.Walks.{Border, Contour}
 use Rattle.contour_walk.specs.Binding.{hole_owner}
 use Rattle.contour_walk.specs.Shapes.{corners_after, last_of, without_straight, is_owned_by, holes_from, shapes_from}
@@ -27,27 +26,27 @@ corners_more before first p (r ∷ rest) =
       | false ↦ refl
     ]
 
-last_at : {X : Type 0} (f : X → Point) (y : X) (ys : List X) (x : X) → x ≡ get_or (y ∷ ys) (length ys) x → f x ≡ last_of (f y) (map f ys)
-last_at f y [] x at = ap f at
-last_at f y (z ∷ zs) x at = last_at f z zs x at
+last_at : (y : Point) (ys : List Point) (x : Point) → x ≡ get_or (y ∷ ys) (length ys) x → x ≡ last_of y ys
+last_at y [] x at = at
+last_at y (z ∷ zs) x at = last_at z zs x at
 
 -- all corners, after the last point
-pub all_corners_left : {X : Type 0} (f : X → Point) (xs : List X) (last : X) → 0 < length xs → last ≡ get_or xs (length xs - 1) last → corners_left (f last) (map f xs) 0 ≡ without_straight (map f xs)
-all_corners_left f [] last h at = absurd (omega arith)
-all_corners_left f (y ∷ ys) last h at =
+pub all_corners_left : (xs : List Point) (last : Point) → 0 < length xs → last ≡ get_or xs (length xs - 1) last → corners_left last xs 0 ≡ without_straight xs
+all_corners_left [] last h at = absurd (omega arith)
+all_corners_left (y ∷ ys) last h at =
     let end : length (y ∷ ys) - 1 ≡ length ys = omega arith in
-    ap (λ p. corners_after p (f y) (f y ∷ map f ys)) (last_at f y ys last (at ∙ ap (λ n. get_or (y ∷ ys) n last) end))
+    ap (λ p. corners_after p y (y ∷ ys)) (last_at y ys last (at ∙ ap (λ n. get_or (y ∷ ys) n last) end))
 
 -- one point more
-pub corners_left_more : {X : Type 0} (f : X → Point) (xs : List X) (i : ℕ) (x : X) (before after : Point) → i < length xs → x ≡ get_or xs i x
-    → ((first : Point) (rest : List Point) → map f xs ≡ first ∷ rest → after ≡ next_of first (map f (drop (i + 1) xs)))
-    → corners_left before (map f xs) i ≡ corner before (f x) after ++ corners_left (f x) (map f xs) (i + 1)
-corners_left_more f [] i x before after inside at next = absurd (omega arith)
-corners_left_more f (y ∷ ys) i x before after inside at next =
-    let rest : List Point = drop (i + 1) (map f (y ∷ ys)) in
-    let there : after ≡ next_of (f y) rest = next (f y) (map f ys) refl ∙ ap (next_of (f y)) (sym (drop-map f (i + 1) (y ∷ ys))) in
-    ap (corners_after before (f y)) (drop-mapped f (y ∷ ys) i x inside at)
-    ∙ (corners_more before (f y) (f x) rest ∙ ap (λ r. corner before (f x) r ++ corners_after (f x) (f y) rest) (sym there))
+pub corners_left_more : (xs : List Point) (i : ℕ) (x before after : Point) → i < length xs → x ≡ get_or xs i x
+    → ((first : Point) (rest : List Point) → xs ≡ first ∷ rest → after ≡ next_of first (drop (i + 1) xs))
+    → corners_left before xs i ≡ corner before x after ++ corners_left x xs (i + 1)
+corners_left_more [] i x before after inside at next = absurd (omega arith)
+corners_left_more (y ∷ ys) i x before after inside at next =
+    let rest : List Point = drop (i + 1) (y ∷ ys) in
+    let there : after ≡ next_of y rest = next y ys refl in
+    ap (corners_after before y) (drop_at (y ∷ ys) i x inside at)
+    ∙ (corners_more before y x rest ∙ ap (λ r. corner before x r ++ corners_after x y rest) (sym there))
 
 pub no_corners_left : (before : Point) (ps : List Point) (i : ℕ) → length ps ≤ i → corners_left before ps i ≡ []
 no_corners_left before [] i h = refl

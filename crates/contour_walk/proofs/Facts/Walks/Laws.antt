@@ -1,5 +1,5 @@
 -- Steps of a walk by the links of a list.
-use Rattle.std.proofs.Common.{◌≡◌, ℕ, ◌+◌, Bool, not, true, false, cond, List, [], ◌∷◌, ◌++◌, length, Some, sym, ap, ◌∙◌, append_assoc, suc, None}
+use Rattle.std.proofs.Common.{◌≡◌, ℕ, Bool, not, true, false, cond, List, [], ◌∷◌, ◌++◌, length, Some, sym, ap, ◌∙◌, append_assoc, suc, None}
 use Rattle.std.specs.Prelude.{Option}
 use Rattle.plane_base.specs.Plane.{Point, Edge}
 use Rattle.contour_walk.specs.Walks.{Border, next_point, between, same_edge, without, walked, walk_from}

@@ -9,7 +9,7 @@ use Rattle.contour_walk.proofs.bind.only_outline.Goals.{then-not-contours-number
 
 pub loop-number-preserved : goal.loop-number-preserved
 loop-number-preserved g c =
-    let f = contour_of g.I.OverlayInt.value in
+    let f = contour_of in
     let xs = c.args.contours.now in
     let i = c.loop-number.number in
     elim c.if-not-contours-number.branch [
@@ -20,6 +20,6 @@ loop-number-preserved g c =
 pub returns : goal.returns
 returns g c = by c.loop-number.found c.loop-number.invariant
   where
-    by : (found : Option _) → StandsBefore (walks_of g.I.OverlayInt.value c.args.contours.now) c.loop-number.number found → IfSome found (IsOnlyOutline (walks_of g.I.OverlayInt.value c.args.contours.now))
+    by : (found : Option _) → StandsBefore (walks_of c.args.contours.now) c.loop-number.number found → IfSome found (IsOnlyOutline (walks_of c.args.contours.now))
     by None stands = tt
-    by (Some m) stands = only_one (walks_of g.I.OverlayInt.value c.args.contours.now) c.loop-number.number m (omega (arith, c.loop-number-test.false, length-map c.args.contours.now (contour_of g.I.OverlayInt.value))) stands
+    by (Some m) stands = only_one (walks_of c.args.contours.now) c.loop-number.number m (omega (arith, c.loop-number-test.false, length-map c.args.contours.now contour_of)) stands

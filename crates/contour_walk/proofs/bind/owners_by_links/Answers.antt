@@ -11,16 +11,16 @@ use Rattle.contour_walk.proofs.bind.owners_by_links.Goals as goal
 
 pub returns-clause-len : goal.returns-clause-len
 returns-clause-len g c =
-    let f = contour_of g.I.OverlayInt.value in
-    let links = borders_of g.I.OverlayInt.value c.deref.result.now in
-    let cs = walks_of g.I.OverlayInt.value c.args.contours.now in
+    let f = contour_of in
+    let links = borders_of c.deref.result.now in
+    let cs = walks_of c.args.contours.now in
     if_answered c.owners.result (λ owners is. ap length is ∙ (many_owners links cs 0 cs ∙ length-map c.args.contours.now f)) c.owners.ensures.is
 
 pub returns-clause-is : goal.returns-clause-is
 returns-clause-is g c =
-    let links = borders_of g.I.OverlayInt.value c.deref.result.now in
-    let cs = walks_of g.I.OverlayInt.value c.args.contours.now in
-    let same = ap (borders_of g.I.OverlayInt.value) c.deref.ensures.value ∙ c.in_ok-borders.ensures.is in
+    let links = borders_of c.deref.result.now in
+    let cs = walks_of c.args.contours.now in
+    let same = ap borders_of c.deref.ensures.value ∙ c.in_ok-borders.ensures.is in
     if_answered c.owners.result (λ owners is. subst (λ ls. AreOwners ls cs owners.items) same (all_are_owners links cs owners.items is)) c.owners.ensures.is
 
 pub returns-in_err-borders-clause-len : goal.returns-in_err-borders-clause-len

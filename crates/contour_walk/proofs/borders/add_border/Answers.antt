@@ -26,7 +26,7 @@ pub returns-clause-in_range : goal.returns-clause-in_range
 returns-clause-in_range g c =
     let least = g.I.OverlayInt.least in
     let greatest = g.I.OverlayInt.greatest in
-    let f = border_of g.I.OverlayInt.value in
+    let f = border_of in
     let b = c.border_of_link.result in
     subst (AreWithin least greatest) (sym (ap (map f) c.in_ok-push.ensures.items ∙ map-append f c.args.borders.now.items (b ∷ [])))
     (All-append (λ (l : Border). IsEdgeWithin least greatest l.edge) (map f c.args.borders.now.items) (f b ∷ []) c.requires.in_range

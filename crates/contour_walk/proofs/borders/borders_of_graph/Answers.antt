@@ -23,7 +23,7 @@ returns-in_err-add_border-clause-in_range g c = rw ((err_from_is_err_and c.from_
 
 pub loop-link-preserved : goal.loop-link-preserved
 loop-link-preserved g c =
-    let link_of = overlay_link_of g.I.OverlayInt.value in
+    let link_of = overlay_link_of in
     let rule = overlay_rule_of c.args.rule in
     let links = c.args.links.now in
     let i = c.loop-link.link-index in
@@ -39,7 +39,7 @@ loop-link-preserved g c =
 pub returns-clause-is : goal.returns-clause-is
 returns-clause-is g c =
     c.loop-link.invariant.0
-    ∙ ap (borders_of_links (overlay_rule_of c.args.rule)) (ap (map (overlay_link_of g.I.OverlayInt.value)) (take_all c.loop-link.link-index c.args.links.now c.loop-link-test.false))
+    ∙ ap (borders_of_links (overlay_rule_of c.args.rule)) (ap (map overlay_link_of) (take_all c.loop-link.link-index c.args.links.now c.loop-link-test.false))
 
 pub returns-clause-in_range : goal.returns-clause-in_range
 returns-clause-in_range g c = c.loop-link.invariant.1

@@ -1,12 +1,10 @@
-use Rattle.std.proofs.Common.{◌≡◌, ℤ, pos, Bool, true, false, cond, [], ◌∷◌, ◌++◌, map, refl, sym, ap, ◌∙◌, append-nil}
+use Rattle.std.proofs.Common.{◌≡◌, ℤ, pos, Bool, true, false, cond, [], ◌∷◌, ◌++◌, refl, sym, ap, ◌∙◌, append-nil}
 use Rattle.std.specs.Bool.{◌==◌}
 use Rattle.std.specs.Ordering.{int_cmp, int_eq, is_eq, ordering_index}
 use Rattle.std.specs.declared.cmp.Ordering.{Ordering}
 use Rattle.std.specs.declared.cmp.Ordering.TheVariants.{Less, Equal, Greater}
-use Rattle.std.proofs.lemmas.List.{map-append}
 use Rattle.std.proofs.lemmas.Result.{err_from_is_err_and}
 use Rattle.plane_base.specs.Plane.{turn}
-use Rattle.plane_base.specs.Views.{point_of}
 use Rattle.contour_walk.proofs.contour.keep_corner.Goals as goal
 
 same_test : (o : Ordering) → is_eq o ≡ (ordering_index o == 1)
@@ -22,22 +20,20 @@ returns-in_err-push-clause-is g c = rw ((err_from_is_err_and c.from_residual.res
 
 pub returns-then-eq-clause-is : goal.returns-then-eq-clause-is
 returns-then-eq-clause-is g c =
-    let f = point_of g.I.OverlayInt.value in
-    let xs = map f c.args.kept.now.items in
-    let z = turn (f c.args.before) (f c.args.point) (f c.args.after) in
+    let xs = c.args.kept.now.items in
+    let z = turn c.args.before c.args.point c.args.after in
     let straight : int_eq z (pos 0) ≡ true = equal_tells z c.eq.result (c.eq.ensures ∙ ap (λ o. ordering_index o == 1) c.orientation.ensures) ∙ c.if-eq.true in
-    sym (append-nil xs) ∙ ap (λ b. xs ++ cond b [] (f c.args.point ∷ [])) (sym straight)
+    sym (append-nil xs) ∙ ap (λ b. xs ++ cond b [] (c.args.point ∷ [])) (sym straight)
 
 pub returns-then-eq-clause-memory : goal.returns-then-eq-clause-memory
 returns-then-eq-clause-memory g c = tt
 
 pub returns-clause-is : goal.returns-clause-is
 returns-clause-is g c =
-    let f = point_of g.I.OverlayInt.value in
-    let xs = map f c.args.kept.now.items in
-    let z = turn (f c.args.before) (f c.args.point) (f c.args.after) in
+    let xs = c.args.kept.now.items in
+    let z = turn c.args.before c.args.point c.args.after in
     let straight : int_eq z (pos 0) ≡ false = equal_tells z c.eq.result (c.eq.ensures ∙ ap (λ o. ordering_index o == 1) c.orientation.ensures) ∙ c.if-eq.false in
-    ap (map f) c.in_ok-push.ensures.items ∙ (map-append f c.args.kept.now.items (c.args.point ∷ []) ∙ ap (λ b. xs ++ cond b [] (f c.args.point ∷ [])) (sym straight))
+    c.in_ok-push.ensures.items ∙ ap (λ b. xs ++ cond b [] (c.args.point ∷ [])) (sym straight)
 
 pub returns-clause-memory : goal.returns-clause-memory
 returns-clause-memory g c = tt

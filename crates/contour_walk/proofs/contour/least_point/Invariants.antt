@@ -1,5 +1,4 @@
 use Rattle.std.proofs.Common.{◌≡◌, ◌-◌, length, drop}
-use Rattle.plane_base.specs.Views.{points_of}
 use Rattle.contour_walk.specs.Binding.{least_point}
 use Rattle.contour_walk.specs.WalkViews.{point_if_any}
 use Rattle.contour_walk.proofs.contour.least_point.Given as goal
@@ -7,4 +6,4 @@ use Rattle.contour_walk.proofs.contour.least_point.Given as goal
 -- The least of the points behind is known.
 abbrev pub invariant-loop-done : goal.invariant-loop-done
 invariant-loop-done g l =
-    point_if_any g.I.OverlayInt.value l.least ≡ least_point (points_of g.I.OverlayInt.value (drop (length l.points - l.done) l.points))
+    point_if_any l.least ≡ least_point (drop (length l.points - l.done) l.points)

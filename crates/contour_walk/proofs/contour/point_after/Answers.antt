@@ -1,17 +1,16 @@
 use Rattle.std.proofs.lemmas.Grind.{common_steps}
 use Rattle.std.proofs.Common.{◌+◌, arith}
 use Rattle.plane_base.specs.Plane.{IsWithin}
-use Rattle.plane_base.specs.Views.{point_of}
-use Rattle.plane_base.proofs.Facts.Lists.Views.{All-mapped}
+use Rattle.plane_base.proofs.Facts.Lists.Views.{All_at}
 use Rattle.contour_walk.proofs.contour.point_after.Goals as goal
 
 pub returns-then-place-points-clause-in_range : goal.returns-then-place-points-clause-in_range
 returns-then-place-points-clause-in_range g c = λ all.
-    All-mapped (IsWithin g.I.OverlayInt.least g.I.OverlayInt.greatest) (point_of g.I.OverlayInt.value) c.args.points.now (c.args.place + 1) c.index-points-place.result c.if-place-points.true c.index-points-place.is all
+    All_at (IsWithin g.I.OverlayInt.least g.I.OverlayInt.greatest) c.args.points.now (c.args.place + 1) c.index-points-place.result c.if-place-points.true c.index-points-place.is all
 
 pub returns-clause-in_range : goal.returns-clause-in_range
 returns-clause-in_range g c = λ all.
-    All-mapped (IsWithin g.I.OverlayInt.least g.I.OverlayInt.greatest) (point_of g.I.OverlayInt.value) c.args.points.now 0 c.index-points-0.result (omega (arith, c.requires)) c.index-points-0.is all
+    All_at (IsWithin g.I.OverlayInt.least g.I.OverlayInt.greatest) c.args.points.now 0 c.index-points-0.result (omega (arith, c.requires)) c.index-points-0.is all
 
 pub overflow_add-place : goal.overflow_add-place
 overflow_add-place g c = grind (arith, common_steps)

@@ -2,51 +2,44 @@ use contract.BorrowLft.{⊑_static}
 use Rattle.contour_walk.proofs.Lives.{point_lives, within_point, within_vec}
 use Rattle.std.proofs.lemmas.Result.{err_from_is_err_and}
 use Rattle.std.proofs.Common.{◌∙◌, sym, ap, ◌++◌, ◌+◌, append_assoc, append-nil, length, arith}
-use Rattle.std.proofs.lemmas.List.{length-map}
 use Rattle.plane_base.specs.Plane.{IsWithin}
-use Rattle.plane_base.specs.Views.{point_of, points_of}
-use Rattle.plane_base.proofs.Facts.Lists.Views.{All-mapped, some_first}
+use Rattle.plane_base.proofs.Facts.Lists.Views.{All_at, some_first}
 use Rattle.contour_walk.specs.ShapeViews.{corner}
 use Rattle.contour_walk.proofs.Facts.Contours.Shapes.{corners_left, all_corners_left, corners_left_more, no_corners_left}
 use Rattle.contour_walk.proofs.contour.without_straight.Goals as goal
 
 pub loop-i-init : goal.loop-i-init
 loop-i-init g c =
-    let value = g.I.OverlayInt.value in
-    let f = point_of value in
     let points = c.args.points.now in
     let last = c.index-points-points.result in
     let some = some_first (length points) c.is_empty.ensures c.if-is_empty.false in (
-      ap (λ ps. points_of value ps ++ corners_left (f last) (points_of value points) 0) c.in_ok-kept.ensures.items ∙ all_corners_left f points last some c.index-points-points.is,
-      All-mapped (IsWithin g.I.OverlayInt.least g.I.OverlayInt.greatest) f points _ last (omega (arith, some)) c.index-points-points.is c.requires,
+      ap (λ ps. ps ++ corners_left last points 0) c.in_ok-kept.ensures.items ∙ all_corners_left points last some c.index-points-points.is,
+      All_at (IsWithin g.I.OverlayInt.least g.I.OverlayInt.greatest) points _ last (omega (arith, some)) c.index-points-points.is c.requires,
     )
 
 pub keep_corner-requires-clause-point_in_range : goal.keep_corner-requires-clause-point_in_range
 keep_corner-requires-clause-point_in_range g c =
-    All-mapped (IsWithin g.I.OverlayInt.least g.I.OverlayInt.greatest) (point_of g.I.OverlayInt.value) c.args.points.now c.loop-i.i c.index-points-i.result c.loop-i-test.true c.index-points-i.is c.requires
+    All_at (IsWithin g.I.OverlayInt.least g.I.OverlayInt.greatest) c.args.points.now c.loop-i.i c.index-points-i.result c.loop-i-test.true c.index-points-i.is c.requires
 
 pub loop-i-preserved : goal.loop-i-preserved
 loop-i-preserved g c =
-    let value = g.I.OverlayInt.value in
-    let f = point_of value in
     let points = c.args.points.now in
     let i = c.loop-i.i in
-    let so_far = points_of value c.loop-i.kept.items in
-    let before = f c.loop-i.before in
-    let here = f c.index-points-i.result in
-    let after = f c.point_after.result in
-    let rest = corners_left here (points_of value points) (i + 1) in
-    let step = corners_left_more f points i c.index-points-i.result before after c.loop-i-test.true c.index-points-i.is c.point_after.ensures.is in (
+    let so_far = c.loop-i.kept.items in
+    let before = c.loop-i.before in
+    let here = c.index-points-i.result in
+    let after = c.point_after.result in
+    let rest = corners_left here points (i + 1) in
+    let step = corners_left_more points i c.index-points-i.result before after c.loop-i-test.true c.index-points-i.is c.point_after.ensures.is in (
       ap (λ ps. ps ++ rest) c.in_ok-keep_corner.ensures.is
           ∙ (append_assoc so_far (corner before here after) rest ∙ (ap (λ ps. so_far ++ ps) (sym step) ∙ c.loop-i.invariant.0)),
-      All-mapped (IsWithin g.I.OverlayInt.least g.I.OverlayInt.greatest) f points i c.index-points-i.result c.loop-i-test.true c.index-points-i.is c.requires,
+      All_at (IsWithin g.I.OverlayInt.least g.I.OverlayInt.greatest) points i c.index-points-i.result c.loop-i-test.true c.index-points-i.is c.requires,
     )
 
 pub returns-clause-is : goal.returns-clause-is
 returns-clause-is g c =
-    let value = g.I.OverlayInt.value in
-    let points = points_of value c.args.points.now in
-    let end = no_corners_left (point_of value c.loop-i.before) points c.loop-i.i (omega (arith, length-map c.args.points.now (point_of value), c.loop-i-test.false)) in
+    let points = c.args.points.now in
+    let end = no_corners_left c.loop-i.before points c.loop-i.i (omega (arith, c.loop-i-test.false)) in
     rw (end, append-nil) at c.loop-i.invariant.0
 
 pub returns-in_err-kept-clause-is : goal.returns-in_err-kept-clause-is

@@ -1,6 +1,5 @@
 use Rattle.std.proofs.Common.{◌≡◌, ◌++◌}
 use Rattle.plane_base.specs.Plane.{IsWithin}
-use Rattle.plane_base.specs.Views.{point_of, points_of}
 use Rattle.contour_walk.specs.Shapes.{without_straight}
 use Rattle.contour_walk.proofs.Facts.Contours.Shapes.{corners_left}
 use Rattle.contour_walk.proofs.contour.without_straight.Given as goal
@@ -8,6 +7,5 @@ use Rattle.contour_walk.proofs.contour.without_straight.Given as goal
 -- The points that are kept so far and those from this one on are all.
 abbrev pub invariant-loop-i : goal.invariant-loop-i
 invariant-loop-i g l =
-    let value = g.I.OverlayInt.value in
-    (points_of value l.kept.items ++ corners_left (point_of value l.before) (points_of value l.points) l.i ≡ without_straight (points_of value l.points))
-    × IsWithin g.I.OverlayInt.least g.I.OverlayInt.greatest (point_of value l.before)
+    (l.kept.items ++ corners_left l.before l.points l.i ≡ without_straight l.points)
+    × IsWithin g.I.OverlayInt.least g.I.OverlayInt.greatest l.before

@@ -1,11 +1,10 @@
-use Rattle.std.proofs.Common.{◌≡◌, ℤ, pos, ◌+◌, Bool, true, false, cond, [], ◌∷◌, ◌++◌, map, take, refl, sym, ap, ◌∙◌, append-nil, arith}
+use Rattle.std.proofs.Common.{◌≡◌, ℤ, pos, ◌+◌, Bool, true, false, cond, [], ◌∷◌, ◌++◌, take, refl, sym, ap, ◌∙◌, append-nil, arith}
 use Rattle.std.specs.Bool.{◌==◌}
 use Rattle.std.specs.Ordering.{int_cmp, int_eq, is_eq, ordering_index}
 use Rattle.std.specs.declared.cmp.Ordering.{Ordering}
 use Rattle.std.specs.declared.cmp.Ordering.TheVariants.{Less, Equal, Greater}
-use Rattle.std.proofs.lemmas.List.{map-append, length-set, take_more_set, drop-set-lt}
+use Rattle.std.proofs.lemmas.List.{length-set, take_more_set, drop-set-lt}
 use Rattle.plane_base.specs.Plane.{turn}
-use Rattle.plane_base.specs.Views.{point_of}
 use Rattle.contour_walk.proofs.corners.keep_corner.Goals as goal
 
 same_test : (o : Ordering) → is_eq o ≡ (ordering_index o == 1)
@@ -33,22 +32,20 @@ returns-then-eq-clause-len g c = refl
 
 pub returns-then-eq-clause-is : goal.returns-then-eq-clause-is
 returns-then-eq-clause-is g c =
-    let f = point_of g.I.OverlayInt.value in
-    let xs = map f (take c.args.kept c.args.points.now.items) in
-    let z = turn (f c.args.before) (f c.args.point) (f c.args.after) in
+    let xs = take c.args.kept c.args.points.now.items in
+    let z = turn c.args.before c.args.point c.args.after in
     let straight : int_eq z (pos 0) ≡ true = equal_tells z c.eq.result (c.eq.ensures ∙ ap (λ o. ordering_index o == 1) c.orientation.ensures) ∙ c.if-eq.true in
-    sym (append-nil xs) ∙ ap (λ b. xs ++ cond b [] (f c.args.point ∷ [])) (sym straight)
+    sym (append-nil xs) ∙ ap (λ b. xs ++ cond b [] (c.args.point ∷ [])) (sym straight)
 
 pub returns-then-eq-clause-next : goal.returns-then-eq-clause-next
 returns-then-eq-clause-next g c = omega arith
 
 pub returns-clause-is : goal.returns-clause-is
 returns-clause-is g c =
-    let f = point_of g.I.OverlayInt.value in
-    let xs = map f (take c.args.kept c.args.points.now.items) in
-    let z = turn (f c.args.before) (f c.args.point) (f c.args.after) in
+    let xs = take c.args.kept c.args.points.now.items in
+    let z = turn c.args.before c.args.point c.args.after in
     let straight : int_eq z (pos 0) ≡ false = equal_tells z c.eq.result (c.eq.ensures ∙ ap (λ o. ordering_index o == 1) c.orientation.ensures) ∙ c.if-eq.false in
-    ap (map f) (take_more_set c.args.points.now.items c.args.kept c.args.point c.requires.inside) ∙ (map-append f (take c.args.kept c.args.points.now.items) (c.args.point ∷ []) ∙ ap (λ b. xs ++ cond b [] (f c.args.point ∷ [])) (sym straight))
+    take_more_set c.args.points.now.items c.args.kept c.args.point c.requires.inside ∙ ap (λ b. xs ++ cond b [] (c.args.point ∷ [])) (sym straight)
 
 pub returns-clause-behind : goal.returns-clause-behind
 returns-clause-behind g c = drop-set-lt (c.args.kept + 1) c.args.points.now.items c.args.kept c.args.point (omega arith)

@@ -11,31 +11,28 @@ use Rattle.contour_walk.proofs.extract.answered.Goals as goal
 
 pub returns-then-options-eq0-clause-is : goal.returns-then-options-eq0-clause-is
 returns-then-options-eq0-clause-is g c =
-    let value = g.I.OverlayInt.value in
-    let links = graph_borders value (overlay_rule_of c.args.rule) c.args.links.now in
-    let cs = walks_of value c.args.contours.now in
+    let links = graph_borders (overlay_rule_of c.args.rule) c.args.links.now in
+    let cs = walks_of c.args.contours.now in
     let finish = map (finished c.args.options.preserve_output_collinear) in
     let zero : c.args.options.min_output_area ≡ 0 = c.if-options-eq0.true in
-    answered_same (λ shapes. shapes_of value shapes.shapes.items) c.bind_shapes.result (map finish (shapes_from links cs 0 cs)) (map finish (reaching c.args.options.min_output_area (shapes_from links cs 0 cs)))
+    answered_same (λ shapes. shapes_of shapes.shapes.items) c.bind_shapes.result (map finish (shapes_from links cs 0 cs)) (map finish (reaching c.args.options.min_output_area (shapes_from links cs 0 cs)))
     (ap (map finish) (sym (zero_keeps links cs cs)) ∙ ap (λ least. map finish (reaching least (shapes_from links cs 0 cs))) (sym zero))
     c.bind_shapes.ensures.is
 
 pub shapes_reaching-requires : goal.shapes_reaching-requires
 shapes_reaching-requires g c =
-    let value = g.I.OverlayInt.value in
-    let links = graph_borders value (overlay_rule_of c.args.rule) c.args.links.now in
-    let cs = walks_of value c.args.contours.now in
+    let links = graph_borders (overlay_rule_of c.args.rule) c.args.links.now in
+    let cs = walks_of c.args.contours.now in
     subst (ShapesAreWithin g.I.OverlayInt.least g.I.OverlayInt.greatest)
-    (sym (ap (shapes_of value) c.deref_mut.ensures.value ∙ (c.in_ok-shapes.ensures.is ∙ all_kept (shapes_from links cs 0 cs))))
+    (sym (ap shapes_of c.deref_mut.ensures.value ∙ (c.in_ok-shapes.ensures.is ∙ all_kept (shapes_from links cs 0 cs))))
     (shapes_within g.I.OverlayInt.least g.I.OverlayInt.greatest links cs 0 cs c.requires.in_range c.requires.in_range)
 
 pub returns-clause-is : goal.returns-clause-is
 returns-clause-is g c =
-    let value = g.I.OverlayInt.value in
-    let links = graph_borders value (overlay_rule_of c.args.rule) c.args.links.now in
-    let cs = walks_of value c.args.contours.now in
+    let links = graph_borders (overlay_rule_of c.args.rule) c.args.links.now in
+    let cs = walks_of c.args.contours.now in
     let finish = map (finished c.args.options.preserve_output_collinear) in
     let least = c.args.options.min_output_area in
-    answered_same (λ shapes. shapes_of value shapes.shapes.items) c.shapes_reaching.result (map finish (reaching least (shapes_of value c.deref_mut.result.now))) (map finish (reaching least (shapes_from links cs 0 cs)))
-    (ap (λ ss. map finish (reaching least ss)) (ap (shapes_of value) c.deref_mut.ensures.value ∙ (c.in_ok-shapes.ensures.is ∙ all_kept (shapes_from links cs 0 cs))))
+    answered_same (λ shapes. shapes_of shapes.shapes.items) c.shapes_reaching.result (map finish (reaching least (shapes_of c.deref_mut.result.now))) (map finish (reaching least (shapes_from links cs 0 cs)))
+    (ap (λ ss. map finish (reaching least ss)) (ap shapes_of c.deref_mut.ensures.value ∙ (c.in_ok-shapes.ensures.is ∙ all_kept (shapes_from links cs 0 cs))))
     c.shapes_reaching.ensures.is

@@ -31,34 +31,34 @@ use Rattle.contour_walk.proofs.extract.bound_shapes.Goals as goal
 
 pub answered-requires-clause-in_range : goal.answered-requires-clause-in_range
 answered-requires-clause-in_range g c =
-    subst (λ l. ContoursAreWithin g.I.OverlayInt.least g.I.OverlayInt.greatest (walks_of g.I.OverlayInt.value l)) (sym c.deref_mut.ensures.value) c.in_ok-contours.ensures.in_range
+    subst (λ l. ContoursAreWithin g.I.OverlayInt.least g.I.OverlayInt.greatest (walks_of l)) (sym c.deref_mut.ensures.value) c.in_ok-contours.ensures.in_range
 
 pub answered-requires-clause-along : goal.answered-requires-clause-along
 answered-requires-clause-along g c = by c.requires.graph
   where
     bounds : List Border
-    bounds = graph_borders g.I.OverlayInt.value (overlay_rule_of c.args.rule) c.links.result.now
+    bounds = graph_borders (overlay_rule_of c.args.rule) c.links.result.now
 
-    are : walks_of g.I.OverlayInt.value c.deref_mut.result.now ≡ contours_for c.args.options.ogc (is_clockwise c.args.options.output_direction) bounds
+    are : walks_of c.deref_mut.result.now ≡ contours_for c.args.options.ogc (is_clockwise c.args.options.output_direction) bounds
     are =
-        ap (walks_of g.I.OverlayInt.value) c.deref_mut.ensures.value
+        ap walks_of c.deref_mut.ensures.value
         ∙ (c.in_ok-contours.ensures.is
         ∙ same_contours_for c.args.options.ogc c.is_clockwise-output.result (is_clockwise c.args.options.output_direction)
-        (graph_borders g.I.OverlayInt.value (overlay_rule_of c.args.rule) c.args.graph.now.links.now) bounds c.is_clockwise-output.ensures
-        (sym (ap (graph_borders g.I.OverlayInt.value (overlay_rule_of c.args.rule)) c.links.ensures)))
+        (graph_borders (overlay_rule_of c.args.rule) c.args.graph.now.links.now) bounds c.is_clockwise-output.ensures
+        (sym (ap (graph_borders (overlay_rule_of c.args.rule)) c.links.ensures)))
 
-    is_boundary : (f : FillRule) × (fs : List (Entry Count)) × IsArrangement fs × AreLinksFor f (overlay_rule_of c.args.rule) fs (map (overlay_link_of g.I.OverlayInt.value) c.args.graph.now.links.now) → IsBoundary bounds
+    is_boundary : (f : FillRule) × (fs : List (Entry Count)) × IsArrangement fs × AreLinksFor f (overlay_rule_of c.args.rule) fs (map overlay_link_of c.args.graph.now.links.now) → IsBoundary bounds
     is_boundary (f, fs, arranged, given) = (
       f,
       overlay_rule_of c.args.rule,
       fs,
       arranged,
-      ap (graph_borders g.I.OverlayInt.value (overlay_rule_of c.args.rule)) c.links.ensures
-          ∙ links_tell c.fills_tell_borders.ensures f (overlay_rule_of c.args.rule) fs (map (overlay_link_of g.I.OverlayInt.value) c.args.graph.now.links.now) given,
+      ap (graph_borders (overlay_rule_of c.args.rule)) c.links.ensures
+          ∙ links_tell c.fills_tell_borders.ensures f (overlay_rule_of c.args.rule) fs (map overlay_link_of c.args.graph.now.links.now) given,
     )
 
-    by : (f : FillRule) × (fs : List (Entry Count)) × IsArrangement fs × AreLinksFor f (overlay_rule_of c.args.rule) fs (map (overlay_link_of g.I.OverlayInt.value) c.args.graph.now.links.now)
-        → RunAlong (is_clockwise c.args.options.output_direction) bounds (walks_of g.I.OverlayInt.value c.deref_mut.result.now)
+    by : (f : FillRule) × (fs : List (Entry Count)) × IsArrangement fs × AreLinksFor f (overlay_rule_of c.args.rule) fs (map overlay_link_of c.args.graph.now.links.now)
+        → RunAlong (is_clockwise c.args.options.output_direction) bounds (walks_of c.deref_mut.result.now)
     by given =
         subst (RunAlong (is_clockwise c.args.options.output_direction) bounds) (sym are)
         (contours_run_along c.args.options.ogc (is_clockwise c.args.options.output_direction) bounds (is_boundary given))
@@ -72,25 +72,24 @@ for_all (Err e) f h = tt
 
 module _ (g : Over) (c : After-drop-contours g) where
   abbrev links : List Link
-  links = map (overlay_link_of g.I.OverlayInt.value) c.args.graph.now.links.now
+  links = map overlay_link_of c.args.graph.now.links.now
 
   abbrev o : Answering
   o = answering_of c.args.options
 
-  told : (fill : FillRule) (es : List (Entry Count)) → AreLinksFor fill (overlay_rule_of c.args.rule) es links → IfOk c.answered.result (λ shapes. shapes_of g.I.OverlayInt.value shapes.shapes.items ≡ answer_with o (borders fill (overlay_rule_of c.args.rule) es))
+  told : (fill : FillRule) (es : List (Entry Count)) → AreLinksFor fill (overlay_rule_of c.args.rule) es links → IfOk c.answered.result (λ shapes. shapes_of shapes.shapes.items ≡ answer_with o (borders fill (overlay_rule_of c.args.rule) es))
   told fill es links_for =
-      let value = g.I.OverlayInt.value in
       let rule = overlay_rule_of c.args.rule in
-      let given = graph_borders value rule c.args.graph.now.links.now in
+      let given = graph_borders rule c.args.graph.now.links.now in
       let tell : given ≡ borders fill rule es = links_tell c.fills_tell_borders.ensures fill rule es links links_for in
-      let bounds : graph_borders value rule c.links.result.now ≡ borders fill rule es = ap (graph_borders value rule) c.links.ensures ∙ tell in
-      let walked : walks_of value c.deref_mut.result.now ≡ contours_for o.parted c.is_clockwise-output.result given =
-      ap (walks_of value) c.deref_mut.ensures.value ∙ c.in_ok-contours.ensures.is in
-      let are : walks_of value c.deref_mut.result.now ≡ contours_for o.parted o.clockwise (borders fill rule es) =
+      let bounds : graph_borders rule c.links.result.now ≡ borders fill rule es = ap (graph_borders rule) c.links.ensures ∙ tell in
+      let walked : walks_of c.deref_mut.result.now ≡ contours_for o.parted c.is_clockwise-output.result given =
+      ap walks_of c.deref_mut.ensures.value ∙ c.in_ok-contours.ensures.is in
+      let are : walks_of c.deref_mut.result.now ≡ contours_for o.parted o.clockwise (borders fill rule es) =
       walked ∙ same_contours_for o.parted c.is_clockwise-output.result o.clockwise given (borders fill rule es) c.is_clockwise-output.ensures tell in
-      answered_same (λ shapes. shapes_of value shapes.shapes.items) c.answered.result (answered o (graph_borders value rule c.links.result.now) (walks_of value c.deref_mut.result.now))
+      answered_same (λ shapes. shapes_of shapes.shapes.items) c.answered.result (answered o (graph_borders rule c.links.result.now) (walks_of c.deref_mut.result.now))
       (answer_with o (borders fill rule es))
-      (same_answer o (graph_borders value rule c.links.result.now) (borders fill rule es) (walks_of value c.deref_mut.result.now) (contours_for o.parted o.clockwise (borders fill rule es)) bounds are)
+      (same_answer o (graph_borders rule c.links.result.now) (borders fill rule es) (walks_of c.deref_mut.result.now) (contours_for o.parted o.clockwise (borders fill rule es)) bounds are)
       c.answered.ensures.is
 
 pub returns-clause-is : goal.returns-clause-is
@@ -99,22 +98,22 @@ returns-clause-is g c = for_all c.answered.result (λ shapes told fill es links_
 -- with all points they are the shapes that are left
 module _ (g : Over) (c : After-drop-contours g) (keep : c.args.options.preserve_output_collinear ≡ true) where
   abbrev bounds : List Border
-  bounds = graph_borders g.I.OverlayInt.value (overlay_rule_of c.args.rule) c.links.result.now
+  bounds = graph_borders (overlay_rule_of c.args.rule) c.links.result.now
 
   abbrev ws : List Contour
-  ws = walks_of g.I.OverlayInt.value c.deref_mut.result.now
+  ws = walks_of c.deref_mut.result.now
 
   abbrev left : List (List (List Point))
   left = reaching c.args.options.min_output_area (shapes_from bounds ws 0 ws)
 
-  kept_all : IfOk c.answered.result (λ shapes. shapes_of g.I.OverlayInt.value shapes.shapes.items ≡ left)
+  kept_all : IfOk c.answered.result (λ shapes. shapes_of shapes.shapes.items ≡ left)
   kept_all =
       if_answered c.answered.result
       (λ shapes is. is ∙ (ap (λ k. map (map (finished k)) left) keep ∙ all_kept left))
       c.answered.ensures.is
 
   ws_inside : ContoursAreWithin g.I.OverlayInt.least g.I.OverlayInt.greatest ws
-  ws_inside = subst (λ l. ContoursAreWithin g.I.OverlayInt.least g.I.OverlayInt.greatest (walks_of g.I.OverlayInt.value l)) (sym c.deref_mut.ensures.value) c.in_ok-contours.ensures.in_range
+  ws_inside = subst (λ l. ContoursAreWithin g.I.OverlayInt.least g.I.OverlayInt.greatest (walks_of l)) (sym c.deref_mut.ensures.value) c.in_ok-contours.ensures.in_range
 
   left_inside : ShapesAreWithin g.I.OverlayInt.least g.I.OverlayInt.greatest left
   left_inside =
@@ -123,20 +122,20 @@ module _ (g : Over) (c : After-drop-contours g) (keep : c.args.options.preserve_
 
   are : ws ≡ contours_for c.args.options.ogc (is_clockwise c.args.options.output_direction) bounds
   are =
-      ap (walks_of g.I.OverlayInt.value) c.deref_mut.ensures.value
+      ap walks_of c.deref_mut.ensures.value
       ∙ (c.in_ok-contours.ensures.is
       ∙ same_contours_for c.args.options.ogc c.is_clockwise-output.result (is_clockwise c.args.options.output_direction)
-      (graph_borders g.I.OverlayInt.value (overlay_rule_of c.args.rule) c.args.graph.now.links.now) bounds c.is_clockwise-output.ensures
-      (sym (ap (graph_borders g.I.OverlayInt.value (overlay_rule_of c.args.rule)) c.links.ensures)))
+      (graph_borders (overlay_rule_of c.args.rule) c.args.graph.now.links.now) bounds c.is_clockwise-output.ensures
+      (sym (ap (graph_borders (overlay_rule_of c.args.rule)) c.links.ensures)))
 
-  is_boundary : (f : FillRule) × (fs : List (Entry Count)) × IsArrangement fs × AreLinksFor f (overlay_rule_of c.args.rule) fs (map (overlay_link_of g.I.OverlayInt.value) c.args.graph.now.links.now) → IsBoundary bounds
+  is_boundary : (f : FillRule) × (fs : List (Entry Count)) × IsArrangement fs × AreLinksFor f (overlay_rule_of c.args.rule) fs (map overlay_link_of c.args.graph.now.links.now) → IsBoundary bounds
   is_boundary (f, fs, arranged, given) = (
     f,
     overlay_rule_of c.args.rule,
     fs,
     arranged,
-    ap (graph_borders g.I.OverlayInt.value (overlay_rule_of c.args.rule)) c.links.ensures
-        ∙ links_tell c.fills_tell_borders.ensures f (overlay_rule_of c.args.rule) fs (map (overlay_link_of g.I.OverlayInt.value) c.args.graph.now.links.now) given,
+    ap (graph_borders (overlay_rule_of c.args.rule)) c.links.ensures
+        ∙ links_tell c.fills_tell_borders.ensures f (overlay_rule_of c.args.rule) fs (map overlay_link_of c.args.graph.now.links.now) given,
   )
 
   runs : RunAlong (is_clockwise c.args.options.output_direction) bounds ws

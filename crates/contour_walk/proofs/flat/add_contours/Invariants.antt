@@ -6,5 +6,4 @@ use Rattle.contour_walk.proofs.flat.add_contours.Given as goal
 -- The contours before this one are laid.
 abbrev pub invariant-loop-contour : goal.invariant-loop-contour
 invariant-loop-contour g l =
-    let value = g.I.OverlayInt.value in
-    LaysBehind value (flat_contours (answering_of l.options) (take l.contour-index (walks_of value l.contours))) l.fn.output l.output
+    LaysBehind (flat_contours (answering_of l.options) (take l.contour-index (walks_of l.contours))) l.fn.output l.output

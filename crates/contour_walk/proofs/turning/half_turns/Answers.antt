@@ -2,7 +2,6 @@ use Rattle.std.proofs.Common.{◌≡◌, ℕ, ℤ, pos, int_lt, Bool, true, fals
 use Rattle.std.specs.Bool.{◌==◌}
 use Rattle.std.specs.Ordering.{int_cmp, ordering_index}
 use Rattle.std.proofs.lemmas.Int.{ints}
-use Rattle.plane_base.specs.Views.{point_of}
 use Rattle.contour_walk.specs.Turning.{turned, reach}
 use Rattle.contour_walk.proofs.turning.half_turns.Goals as goal
 
@@ -21,9 +20,8 @@ turned_back z opposite h = by (int_lt (pos 0) z) refl
 
 pub returns-then-eq-2 : goal.returns-then-eq-2
 returns-then-eq-2 g c =
-    let value = g.I.OverlayInt.value in
-    let center = point_of value c.args.center in
-    let from = point_of value c.args.from in
-    let point = point_of value c.args.point in
+    let center = c.args.center in
+    let from = c.args.from in
+    let point = c.args.point in
     let z = turned c.args.clockwise center from point in
     turned_back z (int_lt (reach center from point) (pos 0)) (less_tells z c.eq-2.result (c.eq-2.ensures ∙ ap (λ o. ordering_index o == 0) c.side-side.ensures) c.if-eq-2.true)

@@ -3,7 +3,6 @@ use Rattle.std.proofs.lemmas.Result.{err_from_is_err_and}
 use Rattle.contour_walk.proofs.Lives.{point_lives, within_point, within_vec, within_contour}
 use Rattle.std.proofs.Common.{◌≡◌, true, false, Some, All, length, get_or, sym, ap, ◌∙◌, subst, refl, inl, inr}
 use Rattle.plane_base.specs.Plane.{IsWithin}
-use Rattle.plane_base.specs.Views.{points_of}
 use Rattle.segment_arrangement.specs.LinkViews.{overlay_link_of}
 use Rattle.segment_arrangement.specs.RuleViews.{overlay_rule_of}
 use Rattle.contour_walk.specs.Extraction.{border_of_link}
@@ -17,7 +16,7 @@ use Rattle.contour_walk.proofs.walk.contour_from.Goals as goal
 
 pub walk-requires-clause-joined : goal.walk-requires-clause-joined
 walk-requires-clause-joined g c =
-    let value = g.I.OverlayInt.value in
+    let value = g.I.IntNumber.value in
     let links = c.args.graph.now.links.now in
     let top = c.top_link-top.result in
     let link = c.index-links-top.result in
@@ -26,7 +25,7 @@ walk-requires-clause-joined g c =
 
 pub walk-requires-clause-begin_numbered : goal.walk-requires-clause-begin_numbered
 walk-requires-clause-begin_numbered g c =
-    let value = g.I.OverlayInt.value in
+    let value = g.I.IntNumber.value in
     let links = c.args.graph.now.links.now in
     let top = c.top_link-top.result in
     let link = c.index-links-top.result in
@@ -35,7 +34,7 @@ walk-requires-clause-begin_numbered g c =
 
 pub walk-requires-clause-to_numbered : goal.walk-requires-clause-to_numbered
 walk-requires-clause-to_numbered g c =
-    let value = g.I.OverlayInt.value in
+    let value = g.I.IntNumber.value in
     let links = c.args.graph.now.links.now in
     let top = c.top_link-top.result in
     let link = c.index-links-top.result in
@@ -44,7 +43,7 @@ walk-requires-clause-to_numbered g c =
 
 pub walk-requires-clause-begin_in_range : goal.walk-requires-clause-begin_in_range
 walk-requires-clause-begin_in_range g c =
-    let value = g.I.OverlayInt.value in
+    let value = g.I.IntNumber.value in
     let links = c.args.graph.now.links.now in
     let top = c.top_link-top.result in
     let link = c.index-links-top.result in
@@ -53,7 +52,7 @@ walk-requires-clause-begin_in_range g c =
 
 pub walk-requires-clause-to_in_range : goal.walk-requires-clause-to_in_range
 walk-requires-clause-to_in_range g c =
-    let value = g.I.OverlayInt.value in
+    let value = g.I.IntNumber.value in
     let links = c.args.graph.now.links.now in
     let top = c.top_link-top.result in
     let link = c.index-links-top.result in
@@ -62,7 +61,7 @@ walk-requires-clause-to_in_range g c =
 
 pub walk-requires-2-clause-joined : goal.walk-requires-2-clause-joined
 walk-requires-2-clause-joined g c =
-    let value = g.I.OverlayInt.value in
+    let value = g.I.IntNumber.value in
     let links = c.args.graph.now.links.now in
     let top = c.top_link-top.result in
     let link = c.index-links-top.result in
@@ -71,7 +70,7 @@ walk-requires-2-clause-joined g c =
 
 pub walk-requires-2-clause-begin_numbered : goal.walk-requires-2-clause-begin_numbered
 walk-requires-2-clause-begin_numbered g c =
-    let value = g.I.OverlayInt.value in
+    let value = g.I.IntNumber.value in
     let links = c.args.graph.now.links.now in
     let top = c.top_link-top.result in
     let link = c.index-links-top.result in
@@ -80,7 +79,7 @@ walk-requires-2-clause-begin_numbered g c =
 
 pub walk-requires-2-clause-to_numbered : goal.walk-requires-2-clause-to_numbered
 walk-requires-2-clause-to_numbered g c =
-    let value = g.I.OverlayInt.value in
+    let value = g.I.IntNumber.value in
     let links = c.args.graph.now.links.now in
     let top = c.top_link-top.result in
     let link = c.index-links-top.result in
@@ -89,7 +88,7 @@ walk-requires-2-clause-to_numbered g c =
 
 pub walk-requires-2-clause-begin_in_range : goal.walk-requires-2-clause-begin_in_range
 walk-requires-2-clause-begin_in_range g c =
-    let value = g.I.OverlayInt.value in
+    let value = g.I.IntNumber.value in
     let links = c.args.graph.now.links.now in
     let top = c.top_link-top.result in
     let link = c.index-links-top.result in
@@ -98,7 +97,7 @@ walk-requires-2-clause-begin_in_range g c =
 
 pub walk-requires-2-clause-to_in_range : goal.walk-requires-2-clause-to_in_range
 walk-requires-2-clause-to_in_range g c =
-    let value = g.I.OverlayInt.value in
+    let value = g.I.IntNumber.value in
     let links = c.args.graph.now.links.now in
     let top = c.top_link-top.result in
     let link = c.index-links-top.result in
@@ -107,31 +106,29 @@ walk-requires-2-clause-to_in_range g c =
 
 pub returns-then-is_same-clause-is : goal.returns-then-is_same-clause-is
 returns-then-is_same-clause-is g c = λ d.
-    let value = g.I.OverlayInt.value in
     let links = c.args.graph.now.links.now in
     let top = c.top_link-top.result in
     let link = c.index-links-top.result in
     let here : link ≡ get_or links top link = c.index-links-top.is ∙ ap (λ ls. get_or ls top link) c.links.ensures in
     let rule = overlay_rule_of c.args.rule in
-    let left = left_of (link_borders value rule links) c.args.states.now.items in
-    let l = border_of_link rule (overlay_link_of value link) in
+    let left = left_of (link_borders rule links) c.args.states.now.items in
+    let l = border_of_link rule (overlay_link_of link) in
     let same : is_same l.above c.args.course.output ≡ true = ap (λ b. is_same b c.args.course.output) (sym c.holds_above-is_hole.ensures) ∙ (sym c.is_same.ensures ∙ c.if-is_same.true) in
-    let made = made_contour (length links) c.args.course left l true same _ _ _ c.holds_above-is_hole.ensures (ap (points_of value) (c.in_ok-points.ensures.items ∙ c.deref-then-is_same.ensures.value) ∙ c.in_ok-walk.ensures.is rule) (c.in_ok-walk.ensures.left rule) in
-    (l, (rw c.deref.ensures.value at (c.top_link-top.ensures.top rule d link)) ∙ ap (λ k. Some (border_of_link rule (overlay_link_of value k))) (sym here), made.is, made.leaves)
+    let made = made_contour (length links) c.args.course left l true same _ _ _ c.holds_above-is_hole.ensures ((c.in_ok-points.ensures.items ∙ c.deref-then-is_same.ensures.value) ∙ c.in_ok-walk.ensures.is rule) (c.in_ok-walk.ensures.left rule) in
+    (l, (rw c.deref.ensures.value at (c.top_link-top.ensures.top rule d link)) ∙ ap (λ k. Some (border_of_link rule (overlay_link_of k))) (sym here), made.is, made.leaves)
 
 pub returns-clause-is : goal.returns-clause-is
 returns-clause-is g c = λ d.
-    let value = g.I.OverlayInt.value in
     let links = c.args.graph.now.links.now in
     let top = c.top_link-top.result in
     let link = c.index-links-top.result in
     let here : link ≡ get_or links top link = c.index-links-top.is ∙ ap (λ ls. get_or ls top link) c.links.ensures in
     let rule = overlay_rule_of c.args.rule in
-    let left = left_of (link_borders value rule links) c.args.states.now.items in
-    let l = border_of_link rule (overlay_link_of value link) in
+    let left = left_of (link_borders rule links) c.args.states.now.items in
+    let l = border_of_link rule (overlay_link_of link) in
     let same : is_same l.above c.args.course.output ≡ false = ap (λ b. is_same b c.args.course.output) (sym c.holds_above-is_hole.ensures) ∙ (sym c.is_same.ensures ∙ c.if-is_same.false) in
-    let made = made_contour (length links) c.args.course left l false same _ _ _ c.holds_above-is_hole.ensures (ap (points_of value) (c.in_ok-points-2.ensures.items ∙ c.deref-2.ensures.value) ∙ c.in_ok-walk-2.ensures.is rule) (c.in_ok-walk-2.ensures.left rule) in
-    (l, (rw c.deref.ensures.value at (c.top_link-top.ensures.top rule d link)) ∙ ap (λ k. Some (border_of_link rule (overlay_link_of value k))) (sym here), made.is, made.leaves)
+    let made = made_contour (length links) c.args.course left l false same _ _ _ c.holds_above-is_hole.ensures ((c.in_ok-points-2.ensures.items ∙ c.deref-2.ensures.value) ∙ c.in_ok-walk-2.ensures.is rule) (c.in_ok-walk-2.ensures.left rule) in
+    (l, (rw c.deref.ensures.value at (c.top_link-top.ensures.top rule d link)) ∙ ap (λ k. Some (border_of_link rule (overlay_link_of k))) (sym here), made.is, made.leaves)
 
 pub deref-requires : goal.deref-requires
 deref-requires g c κs = (⊑_static κs.1.0, ⊑_static κs.1.1.0)
@@ -329,10 +326,10 @@ returns-clause-rings g c = c.in_ok-walk-2.ensures.rings
 
 pub returns-then-is_same-clause-in_range : goal.returns-then-is_same-clause-in_range
 returns-then-is_same-clause-in_range g c =
-    let same = ap (points_of g.I.OverlayInt.value) (c.in_ok-points.ensures.items ∙ c.deref-then-is_same.ensures.value) in
+    let same = c.in_ok-points.ensures.items ∙ c.deref-then-is_same.ensures.value in
     subst (All (IsWithin g.I.OverlayInt.least g.I.OverlayInt.greatest)) (sym same) c.in_ok-walk.ensures.in_range
 
 pub returns-clause-in_range : goal.returns-clause-in_range
 returns-clause-in_range g c =
-    let same = ap (points_of g.I.OverlayInt.value) (c.in_ok-points-2.ensures.items ∙ c.deref-2.ensures.value) in
+    let same = c.in_ok-points-2.ensures.items ∙ c.deref-2.ensures.value in
     subst (All (IsWithin g.I.OverlayInt.least g.I.OverlayInt.greatest)) (sym same) c.in_ok-walk-2.ensures.in_range

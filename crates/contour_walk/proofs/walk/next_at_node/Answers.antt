@@ -1,6 +1,5 @@
 use Rattle.std.proofs.Common.{◌≡◌, ◌<◌, All, Some, sym, subst, ◌∙◌}
 use Rattle.std.proofs.lemmas.List.{length-map}
-use Rattle.plane_base.specs.Views.{point_of}
 use Rattle.segment_arrangement.specs.LinkViews.{link_edge_of}
 use Rattle.contour_walk.specs.LinearViews.{link_edges, id_if_any}
 use Rattle.contour_walk.specs.LinearWalks.{spokes}
@@ -14,14 +13,14 @@ only_left-requires g c = subst (λ n. All (λ place. place < n) c.places_at.resu
 
 pub returns : goal.returns
 returns g c =
-    let value = g.I.OverlayInt.value in
+    let value = g.I.IntNumber.value in
     let links = c.args.graph.now.links.now in
-    let edges = link_edges value links in
+    let edges = link_edges links in
     let states = c.args.states.now in
-    let v = point_of value c.args.at.point in
-    let from = point_of value c.args.from in
+    let v = c.args.at.point in
+    let from = c.args.from in
     let is : Some c.in-Some.only ≡ id_if_any (nearest c.args.clockwise v from (spokes v edges states)) =
-    alone_is_next v edges states c.places_at.result.now c.places_at.ensures.is c.in-Some.only c.in-Some.ensures (c.requires.beside ∙ sym (length-map links (link_edge_of value))) (forward_edges value links c.requires.graph) c.args.clockwise from in
+    alone_is_next v edges states c.places_at.result.now c.places_at.ensures.is c.in-Some.only c.in-Some.ensures (c.requires.beside ∙ sym (length-map links link_edge_of)) (forward_edges value links c.requires.graph) c.args.clockwise from in
     record {
       is = is;
       inside = goes_inside value links c.requires.graph states c.requires.beside c.args.clockwise v from c.in-Some.only is;

@@ -1,7 +1,6 @@
 use Rattle.std.proofs.Common.{◌≡◌, ◌∙◌, ℕ, ℤ, List, ◌++◌, [], length, Some, true, false, flat_map, ap, sym, refl}
 use Rattle.std.proofs.lemmas.List.{length-map}
 use Rattle.plane_base.specs.Plane.{Point}
-use Rattle.plane_base.specs.Views.{point_of}
 use Rattle.segment_arrangement.specs.Graphs.{node_at}
 use Rattle.segment_arrangement.specs.declared.graph.VisitState.{VisitState}
 use Rattle.segment_arrangement.specs.declared.link.OverlayLink.{OverlayLink}
@@ -16,34 +15,34 @@ use Rattle.contour_walk.proofs.walk.next_by_search.Goals as goal
 
 -- the links that are seen are those at the point
 all_seen :
-    {I D : Type 0} (value : I → ℤ) {least greatest : ℤ} {nodes : List OverlayNode} (links ls : List (OverlayLink I D)) (walkable : IsWalkable value least greatest links nodes) (states : List VisitState) (v : Point) (places : List ℕ)
-    → length states ≡ length links → ls ≡ links → places ≡ (node_at (link_edges value links) v).starts ++ (node_at (link_edges value links) v).ends
-    → flat_map (spoke_at false v (link_edges value ls) states) places ++ (flat_map (spoke_at true v (link_edges value ls) states) places ++ []) ≡ spokes v (link_edges value links) states
+    {I D : Type 0} (value : I → ℤ) {least greatest : ℤ} {nodes : List OverlayNode} (links ls : List (OverlayLink I D)) (walkable : IsWalkable least greatest links nodes) (states : List VisitState) (v : Point) (places : List ℕ)
+    → length states ≡ length links → ls ≡ links → places ≡ (node_at (link_edges links) v).starts ++ (node_at (link_edges links) v).ends
+    → flat_map (spoke_at false v (link_edges ls) states) places ++ (flat_map (spoke_at true v (link_edges ls) states) places ++ []) ≡ spokes v (link_edges links) states
 all_seen value links ls walkable states v places beside same is =
-    ap (λ ls. flat_map (spoke_at false v (link_edges value ls) states) places ++ (flat_map (spoke_at true v (link_edges value ls) states) places ++ [])) same
-    ∙ all_spokes v (link_edges value links) states (beside ∙ sym (length-map links (link_edge_of value))) (forward_edges value links walkable) places is
+    ap (λ ls. flat_map (spoke_at false v (link_edges ls) states) places ++ (flat_map (spoke_at true v (link_edges ls) states) places ++ [])) same
+    ∙ all_spokes v (link_edges links) states (beside ∙ sym (length-map links link_edge_of)) (forward_edges value links walkable) places is
 
 pub returns-in-None : goal.returns-in-None
 returns-in-None g c =
-    let value = g.I.OverlayInt.value in
+    let value = g.I.IntNumber.value in
     let links = c.args.graph.now.links.now in
-    let v = point_of value c.args.at.point in
+    let v = c.args.at.point in
     let seen =
     all_seen value links c.links-links.result.now c.requires.graph c.args.states.now v c.places_at-places.result.now c.requires.beside c.links-links.ensures c.places_at-places.ensures.is in
     record {
-      is = sym (ap (λ l. id_if_any (nearest c.args.clockwise v (point_of value c.args.from) l)) (sym seen ∙ c.in-None.ensures.is _ (c.search-starts.ensures.is [] refl)));
+      is = sym (ap (λ l. id_if_any (nearest c.args.clockwise v c.args.from l)) (sym seen ∙ c.in-None.ensures.is _ (c.search-starts.ensures.is [] refl)));
       inside = tt;
     }
 
 pub returns-in-Some : goal.returns-in-Some
 returns-in-Some g c =
-    let value = g.I.OverlayInt.value in
+    let value = g.I.IntNumber.value in
     let links = c.args.graph.now.links.now in
-    let v = point_of value c.args.at.point in
-    let from = point_of value c.args.from in
+    let v = c.args.at.point in
+    let from = c.args.from in
     let seen =
     all_seen value links c.links-links.result.now c.requires.graph c.args.states.now v c.places_at-places.result.now c.requires.beside c.links-links.ensures c.places_at-places.ensures.is in
-    let is : Some c.in-Some.nearest.place ≡ id_if_any (nearest c.args.clockwise v from (spokes v (link_edges value links) c.args.states.now)) =
+    let is : Some c.in-Some.nearest.place ≡ id_if_any (nearest c.args.clockwise v from (spokes v (link_edges links) c.args.states.now)) =
     sym (ap id_if_any (ap (nearest c.args.clockwise v from) (sym seen) ∙ (c.in-Some.ensures.is _ (c.search-starts.ensures.is [] refl)).0)) in
     record {
       is = is;

@@ -1,7 +1,6 @@
 use Rattle.std.proofs.Common.{List, ◌++◌, length, flat_map, drop, ◌-◌}
 use Rattle.std.specs.Prelude.{IfSome}
 use Rattle.plane_base.specs.Plane.{IsWithin}
-use Rattle.plane_base.specs.Views.{point_of}
 use Rattle.contour_walk.specs.LinearViews.{link_edges, IfBegun}
 use Rattle.contour_walk.specs.LinearWalks.{spoke_at}
 use Rattle.contour_walk.specs.Nearest.{Numbered}
@@ -11,11 +10,10 @@ use Rattle.contour_walk.proofs.walk.search.Given as goal
 -- The links at the places behind are seen.
 abbrev pub invariant-loop-done : goal.invariant-loop-done
 invariant-loop-done g l =
-    let value = g.I.OverlayInt.value in
-    let v = point_of value l.fn.turning.v in
-    let f = spoke_at l.starts v (link_edges value l.links) l.states in
+    let v = l.fn.turning.v in
+    let f = spoke_at l.starts v (link_edges l.links) l.states in
     ((seen : List Numbered) →
-    IfBegun l.fn.behind seen (IsNearest value l.fn.turning.clockwise v (point_of value l.fn.turning.from) seen) →
+    IfBegun l.fn.behind seen (IsNearest l.fn.turning.clockwise v l.fn.turning.from seen) →
     IfBegun l.first (flat_map f (drop (length l.places - l.done) l.places) ++ seen)
-    (IsNearest value l.fn.turning.clockwise v (point_of value l.fn.turning.from) (flat_map f (drop (length l.places - l.done) l.places) ++ seen)))
-    × IfSome l.first (λ n. IsWithin g.I.OverlayInt.least g.I.OverlayInt.greatest (point_of value n.far))
+    (IsNearest l.fn.turning.clockwise v l.fn.turning.from (flat_map f (drop (length l.places - l.done) l.places) ++ seen)))
+    × IfSome l.first (λ n. IsWithin g.I.OverlayInt.least g.I.OverlayInt.greatest n.far)

@@ -2,7 +2,6 @@ use Rattle.std.proofs.Common.{◌≡◌, ◌<◌, ℕ, ℤ, List, ◌++◌, leng
 use Rattle.std.proofs.lemmas.List.{length-map}
 use Rattle.std.specs.Prelude.{IfSome}
 use Rattle.plane_base.specs.Plane.{Point, Edge}
-use Rattle.plane_base.specs.Views.{point_of}
 use Rattle.segment_arrangement.specs.Graphs.{node_at}
 use Rattle.segment_arrangement.specs.LinkViews.{link_edge_of}
 use Rattle.segment_arrangement.specs.declared.graph.VisitState.{VisitState}
@@ -17,21 +16,21 @@ use Rattle.contour_walk.proofs.walk.top_by_search.Goals as goal
 
 -- the topmost of those that are seen is that of the links that start where the first does
 top_seen :
-    {I D : Type 0} (value : I → ℤ) {least greatest : ℤ} {nodes : List OverlayNode} (links ls : List (OverlayLink I D)) (walkable : IsWalkable value least greatest links nodes) (states : List VisitState) (first : ℕ) (k : OverlayLink I D)
-    (v : Point) (places : List ℕ) → length states ≡ length links → ls ≡ links → first < length links → v ≡ point_of value (get_or ls first k).a.point
-    → places ≡ (node_at (link_edges value links) v).starts ++ (node_at (link_edges value links) v).ends → (d : Point)
-    → top_of v (flat_map (spoke_at true v (link_edges value ls) states) places)
-    ≡ top_of (get_or (link_edges value links) first (record { a = d; b = d })).a (spokes_from 0 true (get_or (link_edges value links) first (record { a = d; b = d })).a (link_edges value links) states)
+    {I D : Type 0} (value : I → ℤ) {least greatest : ℤ} {nodes : List OverlayNode} (links ls : List (OverlayLink I D)) (walkable : IsWalkable least greatest links nodes) (states : List VisitState) (first : ℕ) (k : OverlayLink I D)
+    (v : Point) (places : List ℕ) → length states ≡ length links → ls ≡ links → first < length links → v ≡ (get_or ls first k).a.point
+    → places ≡ (node_at (link_edges links) v).starts ++ (node_at (link_edges links) v).ends → (d : Point)
+    → top_of v (flat_map (spoke_at true v (link_edges ls) states) places)
+    ≡ top_of (get_or (link_edges links) first (record { a = d; b = d })).a (spokes_from 0 true (get_or (link_edges links) first (record { a = d; b = d })).a (link_edges links) states)
 top_seen value links ls walkable states first k v places beside same inside here is d =
-    let at : (get_or (link_edges value links) first (record { a = d; b = d })).a ≡ v =
-    ap (λ (s : Edge). s.a) (edge_at value links walkable first inside k (record { a = d; b = d })) ∙ (ap (λ ls. point_of value (get_or ls first k).a.point) (sym same) ∙ sym here) in
-    ap (λ ls. top_of v (flat_map (spoke_at true v (link_edges value ls) states) places)) same
-    ∙ (ap (top_of v) (start_spokes v (link_edges value links) states (beside ∙ sym (length-map links (link_edge_of value))) (forward_edges value links walkable) places is)
-    ∙ ap (λ p. top_of p (spokes_from 0 true p (link_edges value links) states)) (sym at))
+    let at : (get_or (link_edges links) first (record { a = d; b = d })).a ≡ v =
+    ap (λ (s : Edge). s.a) (edge_at value links walkable first inside k (record { a = d; b = d })) ∙ (ap (λ ls. (get_or ls first k).a.point) (sym same) ∙ sym here) in
+    ap (λ ls. top_of v (flat_map (spoke_at true v (link_edges ls) states) places)) same
+    ∙ (ap (top_of v) (start_spokes v (link_edges links) states (beside ∙ sym (length-map links link_edge_of)) (forward_edges value links walkable) places is)
+    ∙ ap (λ p. top_of p (spokes_from 0 true p (link_edges links) states)) (sym at))
 
 pub returns-in-None : goal.returns-in-None
 returns-in-None g c =
-    let value = g.I.OverlayInt.value in
+    let value = g.I.IntNumber.value in
     let links = c.args.graph.now.links.now in
     let top =
     is_topmost value links c.requires.graph c.args.states.now c.requires.beside c.args.first c.requires.within c.requires.left c.args.first
@@ -39,14 +38,14 @@ returns-in-None g c =
     subst (λ o. IfSome o (λ top. c.args.first ≡ top.id))
     (c.in-None.ensures
     ∙ top_seen value links c.links-links.result.now c.requires.graph c.args.states.now c.args.first c.index-links-first.result
-    (point_of value (get_or c.links-links.result.now c.args.first c.index-links-first.result).a.point) c.places_at-places.result.now c.requires.beside c.links-links.ensures c.requires.within refl
+    (get_or c.links-links.result.now c.args.first c.index-links-first.result).a.point c.places_at-places.result.now c.requires.beside c.links-links.ensures c.requires.within refl
     c.places_at-places.ensures.is d)
     tt) in
     record { inside = c.requires.within; left = c.requires.left; top = top.top }
 
 pub returns-in-Some : goal.returns-in-Some
 returns-in-Some g c =
-    let value = g.I.OverlayInt.value in
+    let value = g.I.IntNumber.value in
     let links = c.args.graph.now.links.now in
     let top =
     is_topmost value links c.requires.graph c.args.states.now c.requires.beside c.args.first c.requires.within c.requires.left c.in-Some.top.place
@@ -54,7 +53,7 @@ returns-in-Some g c =
     subst (λ o. IfSome o (λ top. c.in-Some.top.place ≡ top.id))
     (c.in-Some.ensures
     ∙ top_seen value links c.links-links.result.now c.requires.graph c.args.states.now c.args.first c.index-links-first.result
-    (point_of value (get_or c.links-links.result.now c.args.first c.index-links-first.result).a.point) c.places_at-places.result.now c.requires.beside c.links-links.ensures c.requires.within refl
+    (get_or c.links-links.result.now c.args.first c.index-links-first.result).a.point c.places_at-places.result.now c.requires.beside c.links-links.ensures c.requires.within refl
     c.places_at-places.ensures.is d)
     refl) in
     record { inside = top.inside; left = top.left; top = top.top }
@@ -79,7 +78,7 @@ bounds-links-first-2 g c = rw c.links-links.ensures c.requires.within
 
 pub places_at-places-requires-clause-numbered : goal.places_at-places-requires-clause-numbered
 places_at-places-requires-clause-numbered g c =
-    let value = g.I.OverlayInt.value in
+    let value = g.I.IntNumber.value in
     let links = c.args.graph.now.links.now in
     let link = c.index-links-first.result in
     let here : link ≡ get_or links c.args.first link = c.index-links-first.is ∙ ap (λ ls. get_or ls c.args.first link) c.links-links.ensures in
@@ -87,7 +86,7 @@ places_at-places-requires-clause-numbered g c =
 
 pub top_among-requires-clause-v_in_range : goal.top_among-requires-clause-v_in_range
 top_among-requires-clause-v_in_range g c =
-    let value = g.I.OverlayInt.value in
+    let value = g.I.IntNumber.value in
     let links = c.args.graph.now.links.now in
     let link = c.index-links-first.result in
     let here : link ≡ get_or links c.args.first link = c.index-links-first.is ∙ ap (λ ls. get_or ls c.args.first link) c.links-links.ensures in

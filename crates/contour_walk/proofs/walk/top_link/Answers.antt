@@ -3,7 +3,6 @@ use Rattle.std.specs.Prelude.{IfSome}
 use Rattle.std.proofs.lemmas.List.{length-map}
 use Rattle.std.proofs.lemmas.List.Elements.{All-set}
 use Rattle.plane_base.specs.Plane.{Point, Edge}
-use Rattle.plane_base.specs.Views.{point_of}
 use Rattle.segment_arrangement.specs.LinkViews.{link_edge_of}
 use Rattle.segment_arrangement.specs.declared.graph.VisitState.{VisitState}
 use Rattle.segment_arrangement.specs.declared.link.OverlayLink.{OverlayLink}
@@ -25,28 +24,28 @@ told_by i q None e h = tt
 told_by i q (Some n) e (inl f) = absurd (let same : None ≡ Some n.id = sym f ∙ e in cc)
 told_by i q (Some n) e (inr f) = let same : Some i ≡ Some n.id = sym f ∙ e in cc
 
-module _ {I D : Type 0} (value : I → ℤ) {least greatest : ℤ} {nodes : List OverlayNode} (links ls : List (OverlayLink I D)) (walkable : IsWalkable value least greatest links nodes) (states : List VisitState) (first : ℕ) (k : OverlayLink I D)
-    (inside : first < length links) (same : ls ≡ links) (r : Ring I) (center : point_of value r.center ≡ point_of value (get_or ls first k).a.point) where
+module _ {I D : Type 0} (value : I → ℤ) {least greatest : ℤ} {nodes : List OverlayNode} (links ls : List (OverlayLink I D)) (walkable : IsWalkable least greatest links nodes) (states : List VisitState) (first : ℕ) (k : OverlayLink I D)
+    (inside : first < length links) (same : ls ≡ links) (r : Ring I) (center : r.center ≡ (get_or ls first k).a.point) where
   -- where the first link starts
-  start_at : (d : Point) → (get_or (link_edges value links) first (record { a = d; b = d })).a ≡ point_of value r.center
+  start_at : (d : Point) → (get_or (link_edges links) first (record { a = d; b = d })).a ≡ r.center
   start_at d =
       ap (λ (s : Edge). s.a) (edge_at value links walkable first inside k (record { a = d; b = d }))
-      ∙ (ap (λ (ls : List (OverlayLink I D)). point_of value (get_or ls first k).a.point) (sym same) ∙ sym center)
+      ∙ (ap (λ (ls : List (OverlayLink I D)). (get_or ls first k).a.point) (sym same) ∙ sym center)
 
-  told_at : (i : ℕ) (q : Option ℕ) → q ≡ id_if_any (top_of (point_of value r.center) (spokes_from 0 true (point_of value r.center) (link_edges value links) states)) → (q ≡ None) ⊎ (q ≡ Some i) → (d : Point)
-      → IfSome (top_of (get_or (link_edges value links) first (record { a = d; b = d })).a (spokes_from 0 true (get_or (link_edges value links) first (record { a = d; b = d })).a (link_edges value links) states)) (λ top. i ≡ top.id)
-  told_at i q e h d = subst (λ p. IfSome (top_of p (spokes_from 0 true p (link_edges value links) states)) (λ top. i ≡ top.id)) (sym (start_at d)) (told_by i q _ e h)
+  told_at : (i : ℕ) (q : Option ℕ) → q ≡ id_if_any (top_of r.center (spokes_from 0 true r.center (link_edges links) states)) → (q ≡ None) ⊎ (q ≡ Some i) → (d : Point)
+      → IfSome (top_of (get_or (link_edges links) first (record { a = d; b = d })).a (spokes_from 0 true (get_or (link_edges links) first (record { a = d; b = d })).a (link_edges links) states)) (λ top. i ≡ top.id)
+  told_at i q e h d = subst (λ p. IfSome (top_of p (spokes_from 0 true p (link_edges links) states)) (λ top. i ≡ top.id)) (sym (start_at d)) (told_by i q _ e h)
 
 pub returns-in-None-clause-top : goal.returns-in-None-clause-top
 returns-in-None-clause-top g c =
-    let value = g.I.OverlayInt.value in
+    let value = g.I.IntNumber.value in
     let links = c.args.graph.now.links.now in
-    let edges = link_edges value links in
+    let edges = link_edges links in
     let states = c.args.states.now in
     let r = c.index_mut.result.now in
-    let beside : length states ≡ length edges = c.requires.beside ∙ sym (length-map links (link_edge_of value)) in
-    let ring : IsRing value edges states r = subst (IsRing value edges states) (sym c.index_mut.ensures.value) (c.requires.rings c.in-Some.number _ c.in-Some.ensures.inside) in
-    let center : point_of value r.center ≡ point_of value (get_or c.links.result.now c.args.first c.index-links-first.result).a.point = ap (λ k. point_of value k.center) c.index_mut.ensures.value ∙ c.in-Some.ensures.here _ in
+    let beside : length states ≡ length edges = c.requires.beside ∙ sym (length-map links link_edge_of) in
+    let ring : IsRing edges states r = subst (IsRing edges states) (sym c.index_mut.ensures.value) (c.requires.rings c.in-Some.number _ c.in-Some.ensures.inside) in
+    let center : r.center ≡ (get_or c.links.result.now c.args.first c.index-links-first.result).a.point = ap (λ k. k.center) c.index_mut.ensures.value ∙ c.in-Some.ensures.here _ in
     let found = c.top_in_ring.ensures in
     (is_topmost value links c.requires.graph states c.requires.beside c.args.first c.requires.within c.requires.left c.args.first
     (told_at value links c.links.result.now c.requires.graph states c.args.first c.index-links-first.result c.requires.within c.links.ensures r center c.args.first c.top_in_ring.result
@@ -54,28 +53,28 @@ returns-in-None-clause-top g c =
 
 pub returns-in-None-clause-rings : goal.returns-in-None-clause-rings
 returns-in-None-clause-rings g c =
-    let value = g.I.OverlayInt.value in
+    let value = g.I.IntNumber.value in
     let links = c.args.graph.now.links.now in
-    let edges = link_edges value links in
+    let edges = link_edges links in
     let states = c.args.states.now in
     let r = c.index_mut.result.now in
-    let beside : length states ≡ length edges = c.requires.beside ∙ sym (length-map links (link_edge_of value)) in
-    let ring : IsRing value edges states r = subst (IsRing value edges states) (sym c.index_mut.ensures.value) (c.requires.rings c.in-Some.number _ c.in-Some.ensures.inside) in
+    let beside : length states ≡ length edges = c.requires.beside ∙ sym (length-map links link_edge_of) in
+    let ring : IsRing edges states r = subst (IsRing edges states) (sym c.index_mut.ensures.value) (c.requires.rings c.in-Some.number _ c.in-Some.ensures.inside) in
     let found = c.top_in_ring.ensures in
-    All-set (IsRing value edges states) c.args.rings.now.rings.items c.in-Some.number c.top_in_ring.new.ring
+    All-set (IsRing edges states) c.args.rings.now.rings.items c.in-Some.number c.top_in_ring.new.ring
     (ring_kept value edges states beside (forward_edges value links c.requires.graph) r ring c.top_in_ring.new.ring found.center found.spokes found.starts
     (subst (LeadAhead (length r.spokes.items) (IsPassed states r.spokes.items)) (sym found.ahead) ring.ahead) found.back) c.requires.rings
 
 pub returns-in-Some-top_in_ring : goal.returns-in-Some-top_in_ring
 returns-in-Some-top_in_ring g c =
-    let value = g.I.OverlayInt.value in
+    let value = g.I.IntNumber.value in
     let links = c.args.graph.now.links.now in
-    let edges = link_edges value links in
+    let edges = link_edges links in
     let states = c.args.states.now in
     let r = c.index_mut.result.now in
-    let beside : length states ≡ length edges = c.requires.beside ∙ sym (length-map links (link_edge_of value)) in
-    let ring : IsRing value edges states r = subst (IsRing value edges states) (sym c.index_mut.ensures.value) (c.requires.rings c.in-Some.number _ c.in-Some.ensures.inside) in
-    let center : point_of value r.center ≡ point_of value (get_or c.links.result.now c.args.first c.index-links-first.result).a.point = ap (λ k. point_of value k.center) c.index_mut.ensures.value ∙ c.in-Some.ensures.here _ in
+    let beside : length states ≡ length edges = c.requires.beside ∙ sym (length-map links link_edge_of) in
+    let ring : IsRing edges states r = subst (IsRing edges states) (sym c.index_mut.ensures.value) (c.requires.rings c.in-Some.number _ c.in-Some.ensures.inside) in
+    let center : r.center ≡ (get_or c.links.result.now c.args.first c.index-links-first.result).a.point = ap (λ k. k.center) c.index_mut.ensures.value ∙ c.in-Some.ensures.here _ in
     let found = c.top_in_ring.ensures in
     let top =
     is_topmost value links c.requires.graph states c.requires.beside c.args.first c.requires.within c.requires.left c.in-Some-top_in_ring.top
@@ -86,7 +85,7 @@ returns-in-Some-top_in_ring g c =
       left = top.left;
       top = top.top;
       rings =
-          All-set (IsRing value edges states) c.args.rings.now.rings.items c.in-Some.number c.top_in_ring.new.ring
+          All-set (IsRing edges states) c.args.rings.now.rings.items c.in-Some.number c.top_in_ring.new.ring
           (ring_kept value edges states beside (forward_edges value links c.requires.graph) r ring c.top_in_ring.new.ring found.center found.spokes found.starts
           (subst (LeadAhead (length r.spokes.items) (IsPassed states r.spokes.items)) (sym found.ahead) ring.ahead) found.back) c.requires.rings;
     }
@@ -132,34 +131,32 @@ index_mut-requires g c = subst (λ n. c.in-Some.number < n) (sym c.args.rings.no
 
 pub top_in_ring-requires-clause-inside : goal.top_in_ring-requires-clause-inside
 top_in_ring-requires-clause-inside g c =
-    let value = g.I.OverlayInt.value in
     let links = c.args.graph.now.links.now in
     let states = c.args.states.now in
     let r = c.index_mut.result.now in
-    let ring : IsRing value (link_edges value links) states r =
-    subst (IsRing value (link_edges value links) states) (sym c.index_mut.ensures.value) (c.requires.rings c.in-Some.number _ c.in-Some.ensures.inside) in
-    let beside = c.requires.beside ∙ sym (length-map links (link_edge_of value)) in
+    let ring : IsRing (link_edges links) states r =
+    subst (IsRing (link_edges links) states) (sym c.index_mut.ensures.value) (c.requires.rings c.in-Some.number _ c.in-Some.ensures.inside) in
+    let beside = c.requires.beside ∙ sym (length-map links link_edge_of) in
     subst (λ n. All (λ (s : Spoke g.row.I.Denot). s.place < n) r.spokes.items) (sym beside) ring.inside
 
 pub top_in_ring-requires-clause-back : goal.top_in_ring-requires-clause-back
 top_in_ring-requires-clause-back g c =
-    let value = g.I.OverlayInt.value in
-    let edges = link_edges value c.args.graph.now.links.now in
+    let edges = link_edges c.args.graph.now.links.now in
     let states = c.args.states.now in
-    let ring : IsRing value edges states c.index_mut.result.now =
-    subst (IsRing value edges states) (sym c.index_mut.ensures.value) (c.requires.rings c.in-Some.number _ c.in-Some.ensures.inside) in
+    let ring : IsRing edges states c.index_mut.result.now =
+    subst (IsRing edges states) (sym c.index_mut.ensures.value) (c.requires.rings c.in-Some.number _ c.in-Some.ensures.inside) in
     ring.back
 
 pub top_in_ring-requires-clause-starts : goal.top_in_ring-requires-clause-starts
 top_in_ring-requires-clause-starts g c =
-    let value = g.I.OverlayInt.value in
+    let value = g.I.IntNumber.value in
     let links = c.args.graph.now.links.now in
     let states = c.args.states.now in
     let r = c.index_mut.result.now in
-    let ring : IsRing value (link_edges value links) states r =
-    subst (IsRing value (link_edges value links) states) (sym c.index_mut.ensures.value) (c.requires.rings c.in-Some.number _ c.in-Some.ensures.inside) in
-    let beside = c.requires.beside ∙ sym (length-map links (link_edge_of value)) in
-    starts_within value (link_edges value links) states beside (forward_edges value links c.requires.graph) r ring
+    let ring : IsRing (link_edges links) states r =
+    subst (IsRing (link_edges links) states) (sym c.index_mut.ensures.value) (c.requires.rings c.in-Some.number _ c.in-Some.ensures.inside) in
+    let beside = c.requires.beside ∙ sym (length-map links link_edge_of) in
+    starts_within value (link_edges links) states beside (forward_edges value links c.requires.graph) r ring
 
 pub links-requires : goal.links-requires
 links-requires g c κs = λ h. h

@@ -5,7 +5,6 @@ use Rattle.std.proofs.Common.{◌≡◌, not, [], ◌∷◌, ◌++◌, All, Some
 use Rattle.std.proofs.lemmas.List.{length-map}
 use Rattle.std.proofs.lemmas.List.Elements.{All-nil, All-push}
 use Rattle.plane_base.specs.Plane.{Edge, IsWithin}
-use Rattle.plane_base.specs.Views.{point_of, points_of}
 use Rattle.segment_arrangement.specs.LinkViews.{link_edge_of}
 use Rattle.contour_walk.specs.LinearViews.{link_edges, link_borders, id_if_any}
 use Rattle.contour_walk.specs.LinearWalks.{left_of, spokes}
@@ -20,73 +19,73 @@ use Rattle.contour_walk.proofs.walk.walk.Goals as goal
 
 pub next_link-requires-clause-rings : goal.next_link-requires-clause-rings
 next_link-requires-clause-rings g c =
-    let value = g.I.OverlayInt.value in
+    let value = g.I.IntNumber.value in
     let links = c.args.graph.now.links.now in
-    let edges = link_edges value links in
+    let edges = link_edges links in
     let states = c.args.states.now.items in
     let rings = c.args.rings.now.rings.items in
-    let long : length edges ≡ length links = length-map links (link_edge_of value) in
-    subst (λ ss. AreRings value edges ss rings) (sym c.deref.ensures.value)
+    let long : length edges ≡ length links = length-map links link_edge_of in
+    subst (λ ss. AreRings edges ss rings) (sym c.deref.ensures.value)
     (rings_stay value edges states (set states c.args.first.link c.args.manner.passed) rings (c.requires.beside ∙ sym long) (forward_edges value links c.requires.graph) (set_stays states c.args.first.link c.args.manner.passed c.requires.passed) c.requires.rings)
 
 pub returns-in_default-clause-is : goal.returns-in_default-clause-is
 returns-in_default-clause-is g c = λ rule.
-    let value = g.I.OverlayInt.value in
+    let value = g.I.IntNumber.value in
     let links = c.args.graph.now.links.now in
-    let first = point_of value c.args.first.begin.point in
-    let second = point_of value c.args.first.to.point in
+    let first = c.args.first.begin.point in
+    let second = c.args.first.to.point in
     let states = set c.args.states.now.items c.args.first.link c.args.manner.passed in
     let beside : length states ≡ length links = length-set c.args.states.now.items c.args.first.link c.args.manner.passed ∙ c.requires.beside in
     let gone = start_gone value links c.requires.graph c.args.first.link c.requires.within c.args.states.now.items c.args.manner.passed first second c.requires.beside c.requires.left c.requires.passed c.requires.joined rule in
     let none = stops value links c.requires.graph states beside (not c.args.manner.clockwise) first second (rw c.deref.ensures.value at c.in_default.ensures.is) rule in
-    ap (points_of value) (c.in_ok-push-2.ensures.items ∙ ap (λ xs. xs ++ c.args.first.to.point ∷ []) (c.in_ok-push.ensures.items ∙ ap (λ xs. xs ++ c.args.first.begin.point ∷ []) c.clear.ensures.items))
-    ∙ (walk_alone (length links) c.args.manner.clockwise (left_of (link_borders value rule links) c.args.states.now.items) (left_of (link_borders value rule links) states) first second gone none).points
+    c.in_ok-push-2.ensures.items ∙ ap (λ xs. xs ++ c.args.first.to.point ∷ []) (c.in_ok-push.ensures.items ∙ ap (λ xs. xs ++ c.args.first.begin.point ∷ []) c.clear.ensures.items)
+    ∙ (walk_alone (length links) c.args.manner.clockwise (left_of (link_borders rule links) c.args.states.now.items) (left_of (link_borders rule links) states) first second gone none).points
 
 pub returns-in_default-clause-left : goal.returns-in_default-clause-left
 returns-in_default-clause-left g c = λ rule.
-    let value = g.I.OverlayInt.value in
+    let value = g.I.IntNumber.value in
     let links = c.args.graph.now.links.now in
-    let first = point_of value c.args.first.begin.point in
-    let second = point_of value c.args.first.to.point in
+    let first = c.args.first.begin.point in
+    let second = c.args.first.to.point in
     let states = set c.args.states.now.items c.args.first.link c.args.manner.passed in
     let beside : length states ≡ length links = length-set c.args.states.now.items c.args.first.link c.args.manner.passed ∙ c.requires.beside in
     let gone = start_gone value links c.requires.graph c.args.first.link c.requires.within c.args.states.now.items c.args.manner.passed first second c.requires.beside c.requires.left c.requires.passed c.requires.joined rule in
     let none = stops value links c.requires.graph states beside (not c.args.manner.clockwise) first second (rw c.deref.ensures.value at c.in_default.ensures.is) rule in
-    (walk_alone (length links) c.args.manner.clockwise (left_of (link_borders value rule links) c.args.states.now.items) (left_of (link_borders value rule links) states) first second gone none).leaves
+    (walk_alone (length links) c.args.manner.clockwise (left_of (link_borders rule links) c.args.states.now.items) (left_of (link_borders rule links) states) first second gone none).leaves
 
 pub returns-clause-is : goal.returns-clause-is
 returns-clause-is g c = λ rule.
-    let value = g.I.OverlayInt.value in
+    let value = g.I.IntNumber.value in
     let links = c.args.graph.now.links.now in
-    let first = point_of value c.args.first.begin.point in
-    let second = point_of value c.args.first.to.point in
+    let first = c.args.first.begin.point in
+    let second = c.args.first.to.point in
     let states = set c.args.states.now.items c.args.first.link c.args.manner.passed in
     let last = c.in-Some.last in
     let d : Edge = record { a = first; b = second } in
     let beside : length states ≡ length links = length-set c.args.states.now.items c.args.first.link c.args.manner.passed ∙ c.requires.beside in
     let gone = start_gone value links c.requires.graph c.args.first.link c.requires.within c.args.states.now.items c.args.manner.passed first second c.requires.beside c.requires.left c.requires.passed c.requires.joined rule in
-    let told : Some last ≡ id_if_any (nearest (not c.args.manner.clockwise) first second (spokes first (link_edges value links) states)) = rw c.deref.ensures.value at c.in-Some.ensures.is in
+    let told : Some last ≡ id_if_any (nearest (not c.args.manner.clockwise) first second (spokes first (link_edges links) states)) = rw c.deref.ensures.value at c.in-Some.ensures.is in
     let on = goes value links c.requires.graph states beside (not c.args.manner.clockwise) first second last told in
-    let begun : points_of value c.push.new.self.items ≡ first ∷ [] = ap (points_of value) (c.in_ok-push.ensures.items ∙ ap (λ xs. xs ++ c.args.first.begin.point ∷ []) c.clear.ensures.items) in
+    let begun : c.push.new.self.items ≡ first ∷ [] = c.in_ok-push.ensures.items ∙ ap (λ xs. xs ++ c.args.first.begin.point ∷ []) c.clear.ensures.items in
     c.in_ok-walk_on.ensures.is rule d
-    ∙ (ap (λ ps. ps ++ walked c.args.manner.clockwise (get_or (link_edges value links) last d) (length links) (left_of (link_borders value rule links) states) second first) begun
-    ∙ (walk_to_end (length links) c.args.manner.clockwise (left_of (link_borders value rule links) c.args.states.now.items) (left_of (link_borders value rule links) states) first second gone on.to _ _ (on.next rule) ((on.met).back d)
+    ∙ (ap (λ ps. ps ++ walked c.args.manner.clockwise (get_or (link_edges links) last d) (length links) (left_of (link_borders rule links) states) second first) begun
+    ∙ (walk_to_end (length links) c.args.manner.clockwise (left_of (link_borders rule links) c.args.states.now.items) (left_of (link_borders rule links) states) first second gone on.to _ _ (on.next rule) ((on.met).back d)
     (c.in_ok-walk_on.ensures.left rule d)).points)
 
 pub returns-clause-left : goal.returns-clause-left
 returns-clause-left g c = λ rule.
-    let value = g.I.OverlayInt.value in
+    let value = g.I.IntNumber.value in
     let links = c.args.graph.now.links.now in
-    let first = point_of value c.args.first.begin.point in
-    let second = point_of value c.args.first.to.point in
+    let first = c.args.first.begin.point in
+    let second = c.args.first.to.point in
     let states = set c.args.states.now.items c.args.first.link c.args.manner.passed in
     let last = c.in-Some.last in
     let d : Edge = record { a = first; b = second } in
     let beside : length states ≡ length links = length-set c.args.states.now.items c.args.first.link c.args.manner.passed ∙ c.requires.beside in
     let gone = start_gone value links c.requires.graph c.args.first.link c.requires.within c.args.states.now.items c.args.manner.passed first second c.requires.beside c.requires.left c.requires.passed c.requires.joined rule in
-    let told : Some last ≡ id_if_any (nearest (not c.args.manner.clockwise) first second (spokes first (link_edges value links) states)) = rw c.deref.ensures.value at c.in-Some.ensures.is in
+    let told : Some last ≡ id_if_any (nearest (not c.args.manner.clockwise) first second (spokes first (link_edges links) states)) = rw c.deref.ensures.value at c.in-Some.ensures.is in
     let on = goes value links c.requires.graph states beside (not c.args.manner.clockwise) first second last told in
-    (walk_to_end (length links) c.args.manner.clockwise (left_of (link_borders value rule links) c.args.states.now.items) (left_of (link_borders value rule links) states) first second gone on.to _ _ (on.next rule) ((on.met).back d)
+    (walk_to_end (length links) c.args.manner.clockwise (left_of (link_borders rule links) c.args.states.now.items) (left_of (link_borders rule links) states) first second gone on.to _ _ (on.next rule) ((on.met).back d)
     (c.in_ok-walk_on.ensures.left rule d)).leaves
 
 pub clear-requires : goal.clear-requires
@@ -167,9 +166,9 @@ walk_on-requires-clause-from_in_range g c = c.requires.begin_in_range
 pub walk_on-requires-clause-points_in_range : goal.walk_on-requires-clause-points_in_range
 walk_on-requires-clause-points_in_range g c =
     let within = IsWithin g.I.OverlayInt.least g.I.OverlayInt.greatest in
-    let first = point_of g.I.OverlayInt.value c.args.first.begin.point in
-    let begun : points_of g.I.OverlayInt.value c.push.new.self.items ≡ first ∷ [] =
-    ap (points_of g.I.OverlayInt.value) (c.in_ok-push.ensures.items ∙ ap (λ xs. xs ++ c.args.first.begin.point ∷ []) c.clear.ensures.items) in
+    let first = c.args.first.begin.point in
+    let begun : c.push.new.self.items ≡ first ∷ [] =
+    c.in_ok-push.ensures.items ∙ ap (λ xs. xs ++ c.args.first.begin.point ∷ []) c.clear.ensures.items in
     subst (All within) (sym begun) (All-push within [] first (All-nil within) c.requires.begin_in_range)
 
 pub walk_on-requires-clause-rings : goal.walk_on-requires-clause-rings
@@ -201,14 +200,13 @@ returns-in_default-clause-stay g c = set_stays c.args.states.now.items c.args.fi
 
 pub returns-in_default-clause-in_range : goal.returns-in_default-clause-in_range
 returns-in_default-clause-in_range g c =
-    let value = g.I.OverlayInt.value in
     let within = IsWithin g.I.OverlayInt.least g.I.OverlayInt.greatest in
-    let first = point_of value c.args.first.begin.point in
-    let second = point_of value c.args.first.to.point in
+    let first = c.args.first.begin.point in
+    let second = c.args.first.to.point in
     let one = All-push within [] first (All-nil within) c.requires.begin_in_range in
     let pushed = c.in_ok-push.ensures.items ∙ ap (λ xs. xs ++ c.args.first.begin.point ∷ []) c.clear.ensures.items in
-    let both : points_of value c.push-in_default.new.self.items ≡ first ∷ (second ∷ []) =
-    ap (points_of value) (c.in_ok-push-2.ensures.items ∙ ap (λ xs. xs ++ c.args.first.to.point ∷ []) pushed) in
+    let both : c.push-in_default.new.self.items ≡ first ∷ (second ∷ []) =
+    c.in_ok-push-2.ensures.items ∙ ap (λ xs. xs ++ c.args.first.to.point ∷ []) pushed in
     subst (All within) (sym both) (All-push within (first ∷ []) second one c.requires.to_in_range)
 
 pub returns-in_default-clause-rings : goal.returns-in_default-clause-rings

@@ -19,7 +19,7 @@ use Rattle.contour_walk.proofs.walk.walk_boundary.Goals as goal
 
 pub rings_of-requires-clause-graph : goal.rings_of-requires-clause-graph
 rings_of-requires-clause-graph g c =
-    let value = g.I.OverlayInt.value in
+    let value = g.I.IntNumber.value in
     let given = c.requires.links in
     is_walkable value c.args.graph.now.links.now g.I.OverlayInt.least g.I.OverlayInt.greatest c.args.graph.now.nodes.now given.0 (overlay_rule_of c.args.rule) given.1 c.requires.in_range c.requires.nodes c.requires.numbers given.2 given.3
 
@@ -29,7 +29,7 @@ rings_of-requires-clause-beside g c =
 
 pub loop-first-init : goal.loop-first-init
 loop-first-init g c =
-    let value = g.I.OverlayInt.value in
+    let value = g.I.IntNumber.value in
     let rule = overlay_rule_of c.args.rule in
     let links = c.args.graph.now.links.now in
     let states = c.filter_by_overlay_into.new.states.items in
@@ -37,13 +37,13 @@ loop-first-init g c =
     let told : states ≡ map (λ l. state_of rule l.fill) links = c.in_ok-filter_by_overlay_into.ensures.ok in
     let beside : length states ≡ length links = ap length told ∙ length-map links (λ l. state_of rule l.fill) in
     let read : length c.deref-2.result.now ≡ length states = ap length c.deref-2.ensures.value in
-    let left = left_of (link_borders value rule links) states in
+    let left = left_of (link_borders rule links) states in
     record {
       walkable =
           is_walkable value links g.I.OverlayInt.least g.I.OverlayInt.greatest c.args.graph.now.nodes.now given.0 rule given.1 c.requires.in_range c.requires.nodes c.requires.numbers given.2 given.3;
       on =
-          subst (λ cs. GoOn c.args.course (length links) (walks_by c.args.course (borders_of_links rule (map (overlay_link_of value) links))) (walks_of value cs) left) (sym c.new-contours.ensures.items)
-          (go_on_first value links c.args.course given.0 rule given.1 given.2 given.3 left (ap (left_of (link_borders value rule links)) told ∙ boundary_left value links rule links));
+          subst (λ cs. GoOn c.args.course (length links) (walks_by c.args.course (borders_of_links rule (map overlay_link_of links))) (walks_of cs) left) (sym c.new-contours.ensures.items)
+          (go_on_first value links c.args.course given.0 rule given.1 given.2 given.3 left (ap (left_of (link_borders rule links)) told ∙ boundary_left value links rule links));
       beside = beside;
       ringed = rw c.deref.ensures.value at c.in_ok-rings.ensures.rings;
       within = omega (arith, c.first_left-first.ensures.within, read, beside);
@@ -54,22 +54,22 @@ loop-first-init g c =
 
 pub loop-first-preserved : goal.loop-first-preserved
 loop-first-preserved g c =
-    let value = g.I.OverlayInt.value in
+    let value = g.I.IntNumber.value in
     let rule = overlay_rule_of c.args.rule in
     let links = c.args.graph.now.links.now in
     let loop = c.loop-first in
     let states = c.contour_from.new.states.items in
-    let so_far = walks_of value loop.contours.items in
+    let so_far = walks_of loop.contours.items in
     let contour = c.in_ok-contour.contour in
-    let all = walks_by c.args.course (borders_of_links rule (map (overlay_link_of value) links)) in
+    let all = walks_by c.args.course (borders_of_links rule (map overlay_link_of links)) in
     let beside : length states ≡ length links = c.in_ok-contour.ensures.beside in
     let read : length c.deref-in-loop-first.result.now ≡ length states = ap length c.deref-in-loop-first.ensures.value in
     let inside : loop.first < length links = omega (arith, c.loop-first-test.true, loop.invariant.beside) in
-    let pushed : walks_of value c.push.new.self.items ≡ so_far ++ contour_of value contour ∷ [] = ap (walks_of value) c.in_ok-push.ensures.items ∙ map-append (contour_of value) loop.contours.items (contour ∷ []) in
-    let more = contour_more value rule links c.args.course all so_far loop.states.items states loop.first (contour_of value contour) loop.invariant.beside inside (loop.invariant.left inside) loop.invariant.passed loop.invariant.on c.in_ok-contour.ensures.is in
+    let pushed : walks_of c.push.new.self.items ≡ so_far ++ contour_of contour ∷ [] = ap walks_of c.in_ok-push.ensures.items ∙ map-append contour_of loop.contours.items (contour ∷ []) in
+    let more = contour_more value rule links c.args.course all so_far loop.states.items states loop.first (contour_of contour) loop.invariant.beside inside (loop.invariant.left inside) loop.invariant.passed loop.invariant.on c.in_ok-contour.ensures.is in
     record {
       walkable = loop.invariant.walkable;
-      on = subst (λ cs. GoOn c.args.course (length links) all cs (left_of (link_borders value rule links) states)) (sym pushed) more.on;
+      on = subst (λ cs. GoOn c.args.course (length links) all cs (left_of (link_borders rule links) states)) (sym pushed) more.on;
       beside = beside;
       ringed = c.in_ok-contour.ensures.rings;
       within = omega (arith, c.first_left-first-in-loop-first.ensures.within, read, beside);
@@ -77,31 +77,31 @@ loop-first-preserved g c =
       passed = λ j m. (rw c.deref-in-loop-first.ensures.value at c.first_left-first-in-loop-first.ensures.before) j (λ k. c.in_ok-contour.ensures.passed j (loop.invariant.passed j k)) m;
       in_range =
           subst (ContoursAreWithin g.I.OverlayInt.least g.I.OverlayInt.greatest) (sym pushed)
-          (All-push (λ (k : Contour). All (IsWithin g.I.OverlayInt.least g.I.OverlayInt.greatest) k.points) so_far (contour_of value contour) loop.invariant.in_range c.in_ok-contour.ensures.in_range);
+          (All-push (λ (k : Contour). All (IsWithin g.I.OverlayInt.least g.I.OverlayInt.greatest) k.points) so_far (contour_of contour) loop.invariant.in_range c.in_ok-contour.ensures.in_range);
     }
 
 pub loop-first-smaller : goal.loop-first-smaller
 loop-first-smaller g c =
-    let value = g.I.OverlayInt.value in
+    let value = g.I.IntNumber.value in
     let rule = overlay_rule_of c.args.rule in
     let links = c.args.graph.now.links.now in
     let loop = c.loop-first in
     let states = c.contour_from.new.states.items in
     let inside : loop.first < length links = omega (arith, c.loop-first-test.true, loop.invariant.beside) in
     let more =
-    contour_more value rule links c.args.course (walks_by c.args.course (borders_of_links rule (map (overlay_link_of value) links))) (walks_of value loop.contours.items) loop.states.items states loop.first
-    (contour_of value c.in_ok-contour.contour) loop.invariant.beside inside (loop.invariant.left inside) loop.invariant.passed loop.invariant.on c.in_ok-contour.ensures.is in
-    let fewer : length (left_of (link_borders value rule links) states) < length (left_of (link_borders value rule links) loop.states.items) = more.fewer in
+    contour_more value rule links c.args.course (walks_by c.args.course (borders_of_links rule (map overlay_link_of links))) (walks_of loop.contours.items) loop.states.items states loop.first
+    (contour_of c.in_ok-contour.contour) loop.invariant.beside inside (loop.invariant.left inside) loop.invariant.passed loop.invariant.on c.in_ok-contour.ensures.is in
+    let fewer : length (left_of (link_borders rule links) states) < length (left_of (link_borders rule links) loop.states.items) = more.fewer in
     fewer
 
 pub returns-clause-is : goal.returns-clause-is
 returns-clause-is g c =
-    let value = g.I.OverlayInt.value in
+    let value = g.I.IntNumber.value in
     let rule = overlay_rule_of c.args.rule in
     let links = c.args.graph.now.links.now in
     let loop = c.loop-first in
     let over : length links ≤ loop.first = omega (arith, c.loop-first-test.false, loop.invariant.beside) in
-    all_contours value rule links c.args.course (walks_by c.args.course (borders_of_links rule (map (overlay_link_of value) links))) (walks_of value loop.contours.items) loop.states.items loop.first over loop.invariant.passed loop.invariant.on
+    all_contours value rule links c.args.course (walks_by c.args.course (borders_of_links rule (map overlay_link_of links))) (walks_of loop.contours.items) loop.states.items loop.first over loop.invariant.passed loop.invariant.on
 
 pub returns-in_err-filter_by_overlay_into-clause-is : goal.returns-in_err-filter_by_overlay_into-clause-is
 returns-in_err-filter_by_overlay_into-clause-is g c = rw ((err_from_is_err_and c.from_residual.result c.from_residual.ensures.1).1) tt

@@ -2,10 +2,9 @@ use contract.BorrowLft.{⊑_static}
 use Rattle.contour_walk.proofs.Lives.{point_lives, within_push, within_point}
 use Rattle.std.proofs.lemmas.Result.{err_from_is_err_and}
 use Rattle.std.proofs.Common.{◌≡◌, ◌-◌, ◌+◌, ◌<◌, suc, [], ◌∷◌, ◌++◌, All, Some, true, false, length, get_or, set, subst, sym, ap, ◌∙◌, length-set, arith}
-use Rattle.std.proofs.lemmas.List.{map-append, length-map}
+use Rattle.std.proofs.lemmas.List.{length-map}
 use Rattle.std.proofs.lemmas.List.Elements.{All-push}
 use Rattle.plane_base.specs.Plane.{IsWithin}
-use Rattle.plane_base.specs.Views.{point_of, points_of}
 use Rattle.segment_arrangement.specs.LinkViews.{link_edge_of}
 use Rattle.contour_walk.specs.LinearViews.{link_edges, link_borders, id_if_any}
 use Rattle.contour_walk.specs.LinearWalks.{left_of, left_after, spokes}
@@ -19,16 +18,15 @@ use Rattle.contour_walk.proofs.walk.walk_on.Goals as goal
 
 pub loop-step-init : goal.loop-step-init
 loop-step-init g c =
-    let value = g.I.OverlayInt.value in
     let links = c.args.graph.now.links.now in
     let whole : length links - 0 ≡ length links = omega arith in
     record {
       leads = λ rule d. record {
         points =
-            ap (λ k. points_of value c.args.points.now.items ++ walked c.args.manner.clockwise (get_or (link_edges value links) c.args.last d) k (left_of (link_borders value rule links) c.args.states.now.items) (point_of value c.args.stand.at.point)
-            (point_of value c.args.stand.from)) whole;
+            ap (λ k. c.args.points.now.items ++ walked c.args.manner.clockwise (get_or (link_edges links) c.args.last d) k (left_of (link_borders rule links) c.args.states.now.items) c.args.stand.at.point
+            c.args.stand.from) whole;
         leaves =
-            ap (λ k. left_after c.args.manner.clockwise (get_or (link_edges value links) c.args.last d) k (left_of (link_borders value rule links) c.args.states.now.items) (point_of value c.args.stand.at.point) (point_of value c.args.stand.from)) whole;
+            ap (λ k. left_after c.args.manner.clockwise (get_or (link_edges links) c.args.last d) k (left_of (link_borders rule links) c.args.states.now.items) c.args.stand.at.point c.args.stand.from) whole;
       };
       beside = c.requires.beside;
       ringed = c.requires.rings;
@@ -41,35 +39,35 @@ loop-step-init g c =
 
 pub loop-step-preserved : goal.loop-step-preserved
 loop-step-preserved g c =
-    let value = g.I.OverlayInt.value in
+    let value = g.I.IntNumber.value in
     let within = IsWithin g.I.OverlayInt.least g.I.OverlayInt.greatest in
     let links = c.args.graph.now.links.now in
     let loop = c.loop-step in
     let states = loop.states.items in
-    let v = point_of value loop.at.point in
-    let from = point_of value loop.before in
+    let v = loop.at.point in
+    let from = loop.before in
     let next = c.in-Some.next in
-    let edges = link_edges value links in
-    let so_far = points_of value loop.points.items in
+    let edges = link_edges links in
+    let so_far = loop.points.items in
     let k = c.index-links-next.result in
     let inside : next < length links = c.in-Some.ensures.inside in
-    let long : length edges ≡ length links = length-map links (link_edge_of value) in
+    let long : length edges ≡ length links = length-map links link_edge_of in
     let steps : length c.links-step-end.result.now ≡ length links = ap length c.links-step-end.ensures in
     let more : length links - loop.step ≡ suc (length links - (loop.step + 1)) = omega (arith, c.loop-step-test.true, steps) in
-    let pushed : points_of value c.push.new.self.items ≡ so_far ++ v ∷ [] = ap (points_of value) c.in_ok-push.ensures.items ∙ map-append (point_of value) loop.points.items (loop.at.point ∷ []) in
+    let pushed : c.push.new.self.items ≡ so_far ++ v ∷ [] = c.in_ok-push.ensures.items in
     let step : Some next ≡ id_if_any (nearest c.args.manner.clockwise v from (spokes v edges states)) = rw c.deref.ensures.value at c.in-Some.ensures.is in
     let on = goes value links c.requires.graph states loop.invariant.beside c.args.manner.clockwise v from next step in
     let link : k ≡ get_or links next k = c.index-links-next.is ∙ ap (λ ls. get_or ls next k) c.links.ensures in
-    let here : point_of value c.far_end-at.result.point ≡ on.to =
+    let here : c.far_end-at.result.point ≡ on.to =
     c.far_end-at.ensures.is
-    ∙ (ap (λ l. far_end v (link_edge_of value l)) link ∙ (ap (far_end v) (sym (edge_at value links c.requires.graph next inside k (link_edge_of value k))) ∙ (on.met).far (link_edge_of value k))) in
+    ∙ (ap (λ l. far_end v (link_edge_of l)) link ∙ (ap (far_end v) (sym (edge_at value links c.requires.graph next inside k (link_edge_of k))) ∙ (on.met).far (link_edge_of k))) in
     let ends = end_at value links c.requires.graph next inside k link c.far_end-at.result c.far_end-at.ensures.one in
     record {
       leads = λ rule d.
-          let borders = link_borders value rule links in
+          let borders = link_borders rule links in
           let last = get_or edges c.args.last d in
-          let all = points_of value c.args.points.now.items ++ walked c.args.manner.clockwise last (length links) (left_of borders c.args.states.now.items) (point_of value c.args.stand.at.point) (point_of value c.args.stand.from) in
-          let left = left_after c.args.manner.clockwise last (length links) (left_of borders c.args.states.now.items) (point_of value c.args.stand.at.point) (point_of value c.args.stand.from) in
+          let all = c.args.points.now.items ++ walked c.args.manner.clockwise last (length links) (left_of borders c.args.states.now.items) c.args.stand.at.point c.args.stand.from in
+          let left = left_after c.args.manner.clockwise last (length links) (left_of borders c.args.states.now.items) c.args.stand.at.point c.args.stand.from in
           let other : same_edge (between v on.to) last ≡ false =
           not_at_last edges next c.args.last (apart_edges value links c.requires.graph) (omega (arith, long, inside)) (omega (arith, long, c.requires.within)) (between v on.to) d ((on.met).edge d) c.if-next-last.false in
           leads_as c.args.manner.clockwise last (length links - (loop.step + 1)) _ _ on.to _ v _ _ all left
@@ -86,32 +84,32 @@ loop-step-preserved g c =
 
 pub returns-in_default-clause-is : goal.returns-in_default-clause-is
 returns-in_default-clause-is g c = λ rule d.
-    let value = g.I.OverlayInt.value in
+    let value = g.I.IntNumber.value in
     let links = c.args.graph.now.links.now in
     let loop = c.loop-step in
     let states = loop.states.items in
-    let v = point_of value loop.at.point in
-    let from = point_of value loop.before in
-    let borders = link_borders value rule links in
-    let last = get_or (link_edges value links) c.args.last d in
-    let so_far = points_of value loop.points.items in
+    let v = loop.at.point in
+    let from = loop.before in
+    let borders = link_borders rule links in
+    let last = get_or (link_edges links) c.args.last d in
+    let so_far = loop.points.items in
     let steps : length c.links-step-end.result.now ≡ length links = ap length c.links-step-end.ensures in
     let more : length links - loop.step ≡ suc (length links - (loop.step + 1)) = omega (arith, c.loop-step-test.true, steps) in
-    let pushed : points_of value c.push.new.self.items ≡ so_far ++ v ∷ [] = ap (points_of value) c.in_ok-push.ensures.items ∙ map-append (point_of value) loop.points.items (loop.at.point ∷ []) in
+    let pushed : c.push.new.self.items ≡ so_far ++ v ∷ [] = c.in_ok-push.ensures.items in
     let none = stops value links c.requires.graph states loop.invariant.beside c.args.manner.clockwise v from (rw c.deref.ensures.value at c.in_default.ensures.is) rule in
     pushed ∙ (leads_nowhere c.args.manner.clockwise last (length links - loop.step) (length links - (loop.step + 1)) (left_of borders states) v from so_far _ _ (loop.invariant.leads rule d) more none).points
 
 pub returns-in_default-clause-left : goal.returns-in_default-clause-left
 returns-in_default-clause-left g c = λ rule d.
-    let value = g.I.OverlayInt.value in
+    let value = g.I.IntNumber.value in
     let links = c.args.graph.now.links.now in
     let loop = c.loop-step in
     let states = loop.states.items in
-    let v = point_of value loop.at.point in
-    let from = point_of value loop.before in
-    let borders = link_borders value rule links in
-    let last = get_or (link_edges value links) c.args.last d in
-    let so_far = points_of value loop.points.items in
+    let v = loop.at.point in
+    let from = loop.before in
+    let borders = link_borders rule links in
+    let last = get_or (link_edges links) c.args.last d in
+    let so_far = loop.points.items in
     let steps : length c.links-step-end.result.now ≡ length links = ap length c.links-step-end.ensures in
     let more : length links - loop.step ≡ suc (length links - (loop.step + 1)) = omega (arith, c.loop-step-test.true, steps) in
     let none = stops value links c.requires.graph states loop.invariant.beside c.args.manner.clockwise v from (rw c.deref.ensures.value at c.in_default.ensures.is) rule in
@@ -119,31 +117,30 @@ returns-in_default-clause-left g c = λ rule d.
 
 pub returns-in_default-clause-in_range : goal.returns-in_default-clause-in_range
 returns-in_default-clause-in_range g c =
-    let value = g.I.OverlayInt.value in
     let within = IsWithin g.I.OverlayInt.least g.I.OverlayInt.greatest in
     let loop = c.loop-step in
-    let pushed : points_of value c.push.new.self.items ≡ points_of value loop.points.items ++ point_of value loop.at.point ∷ [] =
-    ap (points_of value) c.in_ok-push.ensures.items ∙ map-append (point_of value) loop.points.items (loop.at.point ∷ []) in
-    subst (All within) (sym pushed) (All-push within (points_of value loop.points.items) (point_of value loop.at.point) loop.invariant.points_in_range loop.invariant.at_in_range)
+    let pushed : c.push.new.self.items ≡ loop.points.items ++ loop.at.point ∷ [] =
+    c.in_ok-push.ensures.items in
+    subst (All within) (sym pushed) (All-push within loop.points.items loop.at.point loop.invariant.points_in_range loop.invariant.at_in_range)
 
 pub returns-then-next-last-clause-is : goal.returns-then-next-last-clause-is
 returns-then-next-last-clause-is g c = λ rule d.
-    let value = g.I.OverlayInt.value in
+    let value = g.I.IntNumber.value in
     let links = c.args.graph.now.links.now in
     let loop = c.loop-step in
     let states = loop.states.items in
-    let v = point_of value loop.at.point in
-    let from = point_of value loop.before in
+    let v = loop.at.point in
+    let from = loop.before in
     let next = c.in-Some.next in
-    let edges = link_edges value links in
-    let borders = link_borders value rule links in
+    let edges = link_edges links in
+    let borders = link_borders rule links in
     let last = get_or edges c.args.last d in
-    let so_far = points_of value loop.points.items in
+    let so_far = loop.points.items in
     let inside : next < length links = c.in-Some.ensures.inside in
-    let long : length edges ≡ length links = length-map links (link_edge_of value) in
+    let long : length edges ≡ length links = length-map links link_edge_of in
     let steps : length c.links-step-end.result.now ≡ length links = ap length c.links-step-end.ensures in
     let more : length links - loop.step ≡ suc (length links - (loop.step + 1)) = omega (arith, c.loop-step-test.true, steps) in
-    let pushed : points_of value c.push.new.self.items ≡ so_far ++ v ∷ [] = ap (points_of value) c.in_ok-push.ensures.items ∙ map-append (point_of value) loop.points.items (loop.at.point ∷ []) in
+    let pushed : c.push.new.self.items ≡ so_far ++ v ∷ [] = c.in_ok-push.ensures.items in
     let step : Some next ≡ id_if_any (nearest c.args.manner.clockwise v from (spokes v edges states)) = rw c.deref.ensures.value at c.in-Some.ensures.is in
     let on = goes value links c.requires.graph states loop.invariant.beside c.args.manner.clockwise v from next step in
     let held : same_edge (between v on.to) last ≡ true =
@@ -152,19 +149,19 @@ returns-then-next-last-clause-is g c = λ rule d.
 
 pub returns-then-next-last-clause-left : goal.returns-then-next-last-clause-left
 returns-then-next-last-clause-left g c = λ rule d.
-    let value = g.I.OverlayInt.value in
+    let value = g.I.IntNumber.value in
     let links = c.args.graph.now.links.now in
     let loop = c.loop-step in
     let states = loop.states.items in
-    let v = point_of value loop.at.point in
-    let from = point_of value loop.before in
+    let v = loop.at.point in
+    let from = loop.before in
     let next = c.in-Some.next in
-    let edges = link_edges value links in
-    let borders = link_borders value rule links in
+    let edges = link_edges links in
+    let borders = link_borders rule links in
     let last = get_or edges c.args.last d in
-    let so_far = points_of value loop.points.items in
+    let so_far = loop.points.items in
     let inside : next < length links = c.in-Some.ensures.inside in
-    let long : length edges ≡ length links = length-map links (link_edge_of value) in
+    let long : length edges ≡ length links = length-map links link_edge_of in
     let steps : length c.links-step-end.result.now ≡ length links = ap length c.links-step-end.ensures in
     let more : length links - loop.step ≡ suc (length links - (loop.step + 1)) = omega (arith, c.loop-step-test.true, steps) in
     let step : Some next ≡ id_if_any (nearest c.args.manner.clockwise v from (spokes v edges states)) = rw c.deref.ensures.value at c.in-Some.ensures.is in
@@ -179,42 +176,39 @@ returns-then-next-last-clause-stay g c = λ i h. set_stays c.loop-step.states.it
 
 pub returns-then-next-last-clause-in_range : goal.returns-then-next-last-clause-in_range
 returns-then-next-last-clause-in_range g c =
-    let value = g.I.OverlayInt.value in
     let within = IsWithin g.I.OverlayInt.least g.I.OverlayInt.greatest in
     let loop = c.loop-step in
-    let pushed : points_of value c.push.new.self.items ≡ points_of value loop.points.items ++ point_of value loop.at.point ∷ [] =
-    ap (points_of value) c.in_ok-push.ensures.items ∙ map-append (point_of value) loop.points.items (loop.at.point ∷ []) in
-    subst (All within) (sym pushed) (All-push within (points_of value loop.points.items) (point_of value loop.at.point) loop.invariant.points_in_range loop.invariant.at_in_range)
+    let pushed : c.push.new.self.items ≡ loop.points.items ++ loop.at.point ∷ [] =
+    c.in_ok-push.ensures.items in
+    subst (All within) (sym pushed) (All-push within loop.points.items loop.at.point loop.invariant.points_in_range loop.invariant.at_in_range)
 
 pub returns-clause-is : goal.returns-clause-is
 returns-clause-is g c = λ rule d.
-    let value = g.I.OverlayInt.value in
     let links = c.args.graph.now.links.now in
     let loop = c.loop-step in
     let steps : length c.links-step-end.result.now ≡ length links = ap length c.links-step-end.ensures in
     let over : length links - loop.step ≡ 0 = omega (arith, c.loop-step-test.false, steps) in
-    (led c.args.manner.clockwise (get_or (link_edges value links) c.args.last d) (length links - loop.step) 0 (left_of (link_borders value rule links) loop.states.items) (point_of value loop.at.point) (point_of value loop.before)
-    (points_of value loop.points.items) _ _ (loop.invariant.leads rule d) over).points
+    (led c.args.manner.clockwise (get_or (link_edges links) c.args.last d) (length links - loop.step) 0 (left_of (link_borders rule links) loop.states.items) loop.at.point loop.before
+    loop.points.items _ _ (loop.invariant.leads rule d) over).points
 
 pub returns-clause-left : goal.returns-clause-left
 returns-clause-left g c = λ rule d.
-    let value = g.I.OverlayInt.value in
     let links = c.args.graph.now.links.now in
     let loop = c.loop-step in
     let steps : length c.links-step-end.result.now ≡ length links = ap length c.links-step-end.ensures in
     let over : length links - loop.step ≡ 0 = omega (arith, c.loop-step-test.false, steps) in
-    (led c.args.manner.clockwise (get_or (link_edges value links) c.args.last d) (length links - loop.step) 0 (left_of (link_borders value rule links) loop.states.items) (point_of value loop.at.point) (point_of value loop.before)
-    (points_of value loop.points.items) _ _ (loop.invariant.leads rule d) over).leaves
+    (led c.args.manner.clockwise (get_or (link_edges links) c.args.last d) (length links - loop.step) 0 (left_of (link_borders rule links) loop.states.items) loop.at.point loop.before
+    loop.points.items _ _ (loop.invariant.leads rule d) over).leaves
 
 pub returns-then-next-last-clause-rings : goal.returns-then-next-last-clause-rings
 returns-then-next-last-clause-rings g c =
-    let value = g.I.OverlayInt.value in
+    let value = g.I.IntNumber.value in
     let links = c.args.graph.now.links.now in
-    let edges = link_edges value links in
+    let edges = link_edges links in
     let loop = c.loop-step in
     let states = loop.states.items in
     let next = c.in-Some.next in
-    let long : length edges ≡ length links = length-map links (link_edge_of value) in
+    let long : length edges ≡ length links = length-map links link_edge_of in
     rings_stay value edges states (set states next c.args.manner.passed) _ (loop.invariant.beside ∙ sym long) (forward_edges value links c.requires.graph) (set_stays states next c.args.manner.passed c.requires.passed) (rw c.deref.ensures.value at c.in-Some.ensures.rings)
 
 pub returns-in_err-push-clause-in_range : goal.returns-in_err-push-clause-in_range

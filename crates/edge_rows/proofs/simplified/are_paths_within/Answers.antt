@@ -7,7 +7,7 @@ use Rattle.edge_rows.proofs.simplified.are_paths_within.Goals as goal
 
 pub loop-path-preserved : goal.loop-path-preserved
 loop-path-preserved g c =
-    let within = All (IsVectorWithin g.I.OverlayInt.value g.I.OverlayInt.least g.I.OverlayInt.greatest) in
+    let within = All (IsVectorWithin g.I.OverlayInt.least g.I.OverlayInt.greatest) in
     let own = rw c.deref.ensures.value at (c.are_edges_within.ensures c.if-not-are_edges_within.false) in
     All-taken_more (λ (path : DataVectorPath _ _). path.edges.items) c.args.paths.now c.loop-path.path-index c.path-item.result
     c.loop-path-test.true c.path-item.is within c.loop-path.invariant own

@@ -4,4 +4,4 @@ use Rattle.edge_rows.proofs.simplified.are_paths_within.Given as goal
 
 -- The paths before this one are in range.
 abbrev pub invariant-loop-path : goal.invariant-loop-path
-invariant-loop-path g l = All (All (IsVectorWithin g.I.OverlayInt.value g.I.OverlayInt.least g.I.OverlayInt.greatest)) (edges_of_paths (take l.path-index l.paths))
+invariant-loop-path g l = All (All (IsVectorWithin g.I.OverlayInt.least g.I.OverlayInt.greatest)) (edges_of_paths (take l.path-index l.paths))

@@ -13,7 +13,7 @@ use Rattle.plane_base.specs.Sides.{CrossesSquarely}
 use Rattle.plane_base.specs.declared.rounding.Rounding.{Rounding}
 use Rattle.plane_base.specs.declared.rounding.Rounding.TheVariants.{Near, Nearest}
 use Rattle.plane_base.specs.MarkingLaws.{both_at}
-use Rattle.plane_base.proofs.Facts.Numbers.Polynomials.{Expr, var, plus, minus, times, by_ring}
+use Rattle.plane_base.proofs.Facts.Numbers.Polynomials.{var, plus, minus, times, by_ring}
 use Rattle.plane_base.proofs.Facts.Numbers.Polynomials as ring
 use Rattle.plane_base.proofs.Facts.Numbers.Products.{product_positive, product_negative}
 use Rattle.plane_base.proofs.Facts.Points.Orders.{int_cmp_less}

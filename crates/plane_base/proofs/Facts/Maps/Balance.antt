@@ -1,14 +1,14 @@
 -- The maps that contours give are balanced, and what follows for functions of points.
-use Rattle.std.proofs.Common.{◌≡◌, ◌⊎◌, inl, inr, subst, Bool, true, false, cond, ◌&&◌, List, [], ◌∷◌, ◌++◌, flat_map, All, ℤ, pos, ◌+ℤ◌, ◌-ℤ◌, ◌*ℤ◌, neg_ℤ, ◌≤ℤ◌, int_lt, int_le, is_eq, refl, sym, ap, ap₂, ◌∙◌, arith}
+use Rattle.std.proofs.Common.{◌≡◌, Bool, true, false, cond, ◌&&◌, List, [], ◌∷◌, ◌++◌, flat_map, All, ℤ, pos, ◌+ℤ◌, ◌-ℤ◌, ◌*ℤ◌, neg_ℤ, ◌≤ℤ◌, int_lt, int_le, is_eq, refl, sym, ap, ap₂, ◌∙◌, arith}
 use Rattle.std.proofs.lemmas.Int.{ints}
 use Rattle.std.proofs.lemmas.List.Elements.{All-nil, All-cons, All-head, All-tail, All-weaker}
 use Rattle.std.proofs.Math.IntN.{*ℤ-zero}
-use Rattle.plane_base.specs.Plane.{Point, RationalPoint, point_order, is_before, spans}
+use Rattle.plane_base.specs.Plane.{Point, point_order, is_before}
 use Rattle.plane_base.specs.Totals.{total}
 use Rattle.plane_base.specs.Counts.{Count, Counting, Entry, boolean, one_subject, one_clip, lay, normal}
 use Rattle.plane_base.specs.Given.{laid_path, laid, given}
-use Rattle.plane_base.specs.Balance.{IsAdditive, mark, fall, BalancedAt, IsBalanced, IsBalancedForAll, IsBalancedMap}
-use Rattle.plane_base.proofs.Facts.Numbers.Products.{product_of_sum, product_of_difference, product_left_comm, product_monotone}
+use Rattle.plane_base.specs.Balance.{IsAdditive, mark, fall, IsBalanced, IsBalancedForAll, IsBalancedMap}
+use Rattle.plane_base.proofs.Facts.Numbers.Products.{product_of_sum, product_of_difference, product_left_comm}
 use Rattle.plane_base.proofs.Facts.Lists.Totals.{total_append, total_pointwise, total_pointwise_on, total_zero, total_sum, total_scaled, total_flat_map}
 use Rattle.plane_base.proofs.Facts.Points.Orders.{point_equal, point_itself, is_equal, point_less_x, before_is_less}
 use Rattle.plane_base.proofs.Facts.Maps.LinearSums.{linear_sum_normal, subject_additive, clip_additive}

@@ -1,7 +1,7 @@
 -- How points stand along a segment is an order.
 --
 -- Above, cite `along_is_order`; `along_first` and `along_horizontal` find which of two points comes first.
-use Rattle.std.proofs.Common.{◌≡◌, ◌≢◌, ◌+◌, true, ℤ, pos, ◌-ℤ◌, ◌*ℤ◌, ◌≤ℤ◌, ◌<ℤ◌, [], ◌∷◌, ◌⊎◌, inl, inr, ⊎_elim, refl, sym, ◌∙◌, arith}
+use Rattle.std.proofs.Common.{◌≡◌, ◌≢◌, ◌+◌, true, ℤ, pos, ◌-ℤ◌, ◌*ℤ◌, ◌≤ℤ◌, ◌<ℤ◌, [], ◌∷◌, ◌⊎◌, inl, inr, refl, sym, ◌∙◌, arith}
 use Rattle.std.specs.Prelude.{unsigned_abs}
 use Rattle.std.proofs.lemmas.Int.{ints, by_lt_z}
 use Rattle.plane_base.specs.Plane.{Point, Edge, turn, is_before}

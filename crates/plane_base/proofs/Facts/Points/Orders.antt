@@ -1,8 +1,9 @@
 -- The orders of points and of edges are total, and tell all of them apart.
-use Rattle.std.proofs.Common.{◌≡◌, ℤ, true, ◌<ℤ◌, ◌≤ℤ◌, ◌⊎◌, Ordering, Less, Equal, Greater, is_eq, is_lt, int_cmp, refl, sym, ap, ◌∙◌, inl, inr, arith}
+use Rattle.std.proofs.Common.{◌≡◌, ℤ, Bool, true, ◌&&◌, ◌<ℤ◌, ◌≤ℤ◌, ◌⊎◌, Ordering, Less, Equal, Greater, is_eq, is_lt, int_cmp, refl, sym, ap, ap₂, ◌∙◌, inl, inr, arith}
 use Rattle.std.specs.Ordering.{ordering_reverse, ordering_then, MatchOrdering}
 use Rattle.std.specs.Cmp.{IsTotalOrder}
 use Rattle.std.proofs.lemmas.Cmp.{int_ranked, int_cmp_total, on_total, then_total, tied_itself}
+use Rattle.std.proofs.lemmas.Bool.{and_parts}
 use Rattle.std.proofs.lemmas.Int.{ints}
 use Rattle.plane_base.specs.Plane.{Point, Edge, point_order, is_before, edge_order}
 
@@ -118,3 +119,27 @@ edge_equal s t e =
 
 pub edge_itself : (s : Edge) → edge_order s s ≡ Equal
 edge_itself s = tied_itself edge_total s
+
+-- ---- the orders of points and segments, made of that of coordinates
+
+module _ {D : Type 0} (value : D → ℤ) (of_value : ℤ → D) (reaches : (n : ℤ) → value (of_value n) ≡ n)
+    (cmp : D → D → Ordering) (ordered : (a b : D) → cmp a b ≡ int_cmp (value a) (value b)) where
+  pub numbers_ordered : (m n : ℤ) → cmp (of_value m) (of_value n) ≡ int_cmp m n
+  numbers_ordered m n = ordered (of_value m) (of_value n) ∙ ap₂ int_cmp (reaches m) (reaches n)
+
+  pub points_ordered : (a b : Point) → ordering_then (cmp (of_value a.x) (of_value b.x)) (cmp (of_value a.y) (of_value b.y)) ≡ point_order a b
+  points_ordered a b = ap₂ ordering_then (numbers_ordered a.x b.x) (numbers_ordered a.y b.y)
+
+  pub edges_ordered : (s t : Edge)
+      → ordering_then (ordering_then (cmp (of_value s.a.x) (of_value t.a.x)) (cmp (of_value s.a.y) (of_value t.a.y))) (ordering_then (cmp (of_value s.b.x) (of_value t.b.x)) (cmp (of_value s.b.y) (of_value t.b.y))) ≡ edge_order s t
+  edges_ordered s t = ap₂ ordering_then (points_ordered s.a t.a) (points_ordered s.b t.b)
+
+  -- what tells coordinates apart tells points apart
+  module _ (eq : D → D → Bool) (matches : (a b : D) → eq a b ≡ is_eq (cmp a b)) where
+    equal_numbers : (m n : ℤ) → eq (of_value m) (of_value n) ≡ true → m ≡ n
+    equal_numbers m n h = int_equal m n (sym (numbers_ordered m n) ∙ is_equal (cmp (of_value m) (of_value n)) (sym (matches (of_value m) (of_value n)) ∙ h))
+
+    pub equal_points : (p q : Point) → (eq (of_value p.x) (of_value q.x) && eq (of_value p.y) (of_value q.y)) ≡ true → p ≡ q
+    equal_points p q h =
+        let both = and_parts (eq (of_value p.x) (of_value q.x)) (eq (of_value p.y) (of_value q.y)) h in
+        ap₂ (λ (x y : ℤ). record { x = x; y = y }) (equal_numbers p.x q.x both.0) (equal_numbers p.y q.y both.1)

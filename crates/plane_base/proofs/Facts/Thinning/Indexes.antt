@@ -1,6 +1,6 @@
--- The steps of thinning by the indexes at which the code reads points: f sees a point of the code.
-use Rattle.std.proofs.Common.{◌≡◌, ℕ, suc, ◌+◌, ◌≤◌, List, [], ◌∷◌, ◌++◌, length, get_or, take, drop, map, pos, sym, ap, ◌∙◌, subst, append_assoc, arith}
-use Rattle.std.proofs.lemmas.List.{take_more, take_all, drop-append-le, map-append, length-take-le, get_or-take, take-append-drop}
+-- The steps of thinning by the indexes at which the code reads points.
+use Rattle.std.proofs.Common.{◌≡◌, ℕ, suc, ◌+◌, ◌≤◌, List, [], ◌∷◌, ◌++◌, length, get_or, take, drop, pos, sym, ap, ◌∙◌, subst, append_assoc, arith}
+use Rattle.std.proofs.lemmas.List.{take_more, take_all, drop-append-le, length-take-le, get_or-take, take-append-drop}
 use Rattle.std.proofs.Math.Seq.{drop-cons}
 use Rattle.plane_base.specs.Plane.{Point, turn}
 use Rattle.plane_base.specs.Thinning.{Reaches, IsBare}
@@ -32,69 +32,55 @@ begins_with xs m k n a e h l p =
     let t : length (take n xs) ≡ n = length-take-le n xs l in
     dropped_from (take n xs) m k a e (omega arith) (p ∙ sym (get_or-take n xs m a (omega arith)))
 
-module _ {X : Type 0} (f : X → Point) where
-  -- ---- the end of the list
+-- ---- the end of the list
 
-  pub none_straight_push_at : (xs : List X) (i j : ℕ) (a b p : X) → i + 2 ≡ length xs → j + 1 ≡ length xs → a ≡ get_or xs i a → b ≡ get_or xs j b → NoneStraight (map f xs) → (turn (f a) (f b) (f p) ≡ pos 0 → ⊥) → NoneStraight (map f (xs ++ p ∷ []))
-  none_straight_push_at xs i j a b p d e g h n k =
-      let two : xs ≡ take i xs ++ a ∷ b ∷ [] = whole_ends_in xs i j a b d e g h in
-      let before : map f xs ≡ map f (take i xs) ++ f a ∷ f b ∷ [] = ap (map f) two ∙ map-append f (take i xs) (a ∷ b ∷ []) in
-      let after : map f (xs ++ p ∷ []) ≡ map f (take i xs) ++ f a ∷ f b ∷ f p ∷ [] =
-      map-append f xs (p ∷ []) ∙ (ap (λ x. x ++ f p ∷ []) before ∙ append_assoc (map f (take i xs)) (f a ∷ f b ∷ []) (f p ∷ [])) in
-      subst NoneStraight (sym after) (none_straight_push (map f (take i xs)) (f a) (f b) (f p) (subst NoneStraight before n) k)
+pub none_straight_push_at : (xs : List Point) (i j : ℕ) (a b p : Point) → i + 2 ≡ length xs → j + 1 ≡ length xs → a ≡ get_or xs i a → b ≡ get_or xs j b → NoneStraight xs → (turn a b p ≡ pos 0 → ⊥) → NoneStraight (xs ++ p ∷ [])
+none_straight_push_at xs i j a b p d e g h n k =
+    let before : xs ≡ take i xs ++ a ∷ b ∷ [] = whole_ends_in xs i j a b d e g h in
+    let after : xs ++ p ∷ [] ≡ take i xs ++ a ∷ b ∷ p ∷ [] = ap (λ x. x ++ p ∷ []) before ∙ append_assoc (take i xs) (a ∷ b ∷ []) (p ∷ []) in
+    subst NoneStraight (sym after) (none_straight_push (take i xs) a b p (subst NoneStraight before n) k)
 
-  -- the last point p of the list stands between a and what follows
-  pub reached_inner_at : {c : List Point} (xs : List X) (i j : ℕ) (a p : X) (b : Point) (ys : List Point) → i + 2 ≡ length xs → j + 1 ≡ length xs → a ≡ get_or xs i a → p ≡ get_or xs j p → turn (f a) (f p) b ≡ pos 0 → Reaches c (map f xs ++ b ∷ ys) → Reaches c (map f (take j xs) ++ b ∷ ys)
-  reached_inner_at {c = c} xs i j a p b ys d e g h z r =
-      let two : xs ≡ take i xs ++ a ∷ p ∷ [] = whole_ends_in xs i j a p d e g h in
-      let one : take j xs ≡ take i xs ++ a ∷ [] = taken_to xs i j a (omega arith) (omega arith) g in
-      let before : map f xs ++ b ∷ ys ≡ map f (take i xs) ++ f a ∷ f p ∷ b ∷ ys =
-      ap (λ x. map f x ++ b ∷ ys) two ∙ (ap (λ x. x ++ b ∷ ys) (map-append f (take i xs) (a ∷ p ∷ [])) ∙ append_assoc (map f (take i xs)) (f a ∷ f p ∷ []) (b ∷ ys)) in
-      let after : map f (take j xs) ++ b ∷ ys ≡ map f (take i xs) ++ f a ∷ b ∷ ys =
-      ap (λ x. map f x ++ b ∷ ys) one ∙ (ap (λ x. x ++ b ∷ ys) (map-append f (take i xs) (a ∷ [])) ∙ append_assoc (map f (take i xs)) (f a ∷ []) (b ∷ ys)) in
-      subst (Reaches c) (sym after) (reached_inner (map f (take i xs)) (f a) (f p) b ys z (subst (Reaches c) before r))
+-- the last point p of the list stands between a and what follows
+pub reached_inner_at : {c : List Point} (xs : List Point) (i j : ℕ) (a p b : Point) (ys : List Point) → i + 2 ≡ length xs → j + 1 ≡ length xs → a ≡ get_or xs i a → p ≡ get_or xs j p → turn a p b ≡ pos 0 → Reaches c (xs ++ b ∷ ys) → Reaches c (take j xs ++ b ∷ ys)
+reached_inner_at {c = c} xs i j a p b ys d e g h z r =
+    let before : xs ++ b ∷ ys ≡ take i xs ++ a ∷ p ∷ b ∷ ys = ap (λ x. x ++ b ∷ ys) (whole_ends_in xs i j a p d e g h) ∙ append_assoc (take i xs) (a ∷ p ∷ []) (b ∷ ys) in
+    let after : take j xs ++ b ∷ ys ≡ take i xs ++ a ∷ b ∷ ys = ap (λ x. x ++ b ∷ ys) (taken_to xs i j a (omega arith) (omega arith) g) ∙ append_assoc (take i xs) (a ∷ []) (b ∷ ys) in
+    subst (Reaches c) (sym after) (reached_inner (take i xs) a p b ys z (subst (Reaches c) before r))
 
-  -- ---- the window from index m up to n
+-- ---- the window from index m up to n
 
-  pub reached_last_at : {c : List Point} (xs : List X) (m n i j : ℕ) (first a p : X) → m + 3 ≤ n → n ≤ length xs → i + 2 ≡ n → j + 1 ≡ n → first ≡ get_or xs m first → a ≡ get_or xs i a → p ≡ get_or xs j p → turn (f a) (f p) (f first) ≡ pos 0 → Reaches c (map f (drop m (take n xs))) → Reaches c (map f (drop m (take j xs)))
-  reached_last_at {c = c} xs m n i j first a p l h d e s g k z r =
-      let inner : List X = drop (suc m) (take i xs) in
-      let front : drop m (take i xs) ≡ first ∷ inner = begins_with xs m (suc m) i first (omega arith) (omega arith) (omega arith) s in
-      let t : length (take i xs) ≡ i = length-take-le i xs (omega arith) in
-      let before : drop m (take n xs) ≡ first ∷ (inner ++ a ∷ p ∷ []) =
-      ap (drop m) (ends_in xs i j n a p d e h g k) ∙ (drop-append-le m (take i xs) (a ∷ p ∷ []) (omega arith) ∙ ap (λ x. x ++ a ∷ p ∷ []) front) in
-      let after : drop m (take j xs) ≡ first ∷ (inner ++ a ∷ []) =
-      ap (drop m) (taken_to xs i j a (omega arith) (omega arith) g) ∙ (drop-append-le m (take i xs) (a ∷ []) (omega arith) ∙ ap (λ x. x ++ a ∷ []) front) in
-      let before_seen : map f (drop m (take n xs)) ≡ f first ∷ (map f inner ++ f a ∷ f p ∷ []) = ap (map f) before ∙ ap (λ x. f first ∷ x) (map-append f inner (a ∷ p ∷ [])) in
-      let after_seen : map f (drop m (take j xs)) ≡ f first ∷ (map f inner ++ f a ∷ []) = ap (map f) after ∙ ap (λ x. f first ∷ x) (map-append f inner (a ∷ [])) in
-      subst (Reaches c) (sym after_seen) (reached_last (f first) (map f inner) (f a) (f p) z (subst (Reaches c) before_seen r))
+pub reached_last_at : {c : List Point} (xs : List Point) (m n i j : ℕ) (first a p : Point) → m + 3 ≤ n → n ≤ length xs → i + 2 ≡ n → j + 1 ≡ n → first ≡ get_or xs m first → a ≡ get_or xs i a → p ≡ get_or xs j p → turn a p first ≡ pos 0 → Reaches c (drop m (take n xs)) → Reaches c (drop m (take j xs))
+reached_last_at {c = c} xs m n i j first a p l h d e s g k z r =
+    let inner : List Point = drop (suc m) (take i xs) in
+    let front : drop m (take i xs) ≡ first ∷ inner = begins_with xs m (suc m) i first (omega arith) (omega arith) (omega arith) s in
+    let t : length (take i xs) ≡ i = length-take-le i xs (omega arith) in
+    let before : drop m (take n xs) ≡ first ∷ (inner ++ a ∷ p ∷ []) =
+    ap (drop m) (ends_in xs i j n a p d e h g k) ∙ (drop-append-le m (take i xs) (a ∷ p ∷ []) (omega arith) ∙ ap (λ x. x ++ a ∷ p ∷ []) front) in
+    let after : drop m (take j xs) ≡ first ∷ (inner ++ a ∷ []) =
+    ap (drop m) (taken_to xs i j a (omega arith) (omega arith) g) ∙ (drop-append-le m (take i xs) (a ∷ []) (omega arith) ∙ ap (λ x. x ++ a ∷ []) front) in
+    subst (Reaches c) (sym after) (reached_last first inner a p z (subst (Reaches c) before r))
 
-  pub reached_first_at : {c : List Point} (xs : List X) (m k n j : ℕ) (p second last : X) → m + 3 ≤ n → n ≤ length xs → m + 1 ≡ k → j + 1 ≡ n → p ≡ get_or xs m p → second ≡ get_or xs k second → last ≡ get_or xs j last → turn (f last) (f p) (f second) ≡ pos 0 → Reaches c (map f (drop m (take n xs))) → Reaches c (map f (drop k (take n xs)))
-  reached_first_at {c = c} xs m k n j p second last l h d e s g q z r =
-      let inner : List X = drop (suc k) (take j xs) in
-      let t : length (take j xs) ≡ j = length-take-le j xs (omega arith) in
-      let end : take n xs ≡ take j xs ++ last ∷ [] = taken_to xs j n last e h q in
-      let rest : drop (suc k) (take n xs) ≡ inner ++ last ∷ [] = ap (drop (suc k)) end ∙ drop-append-le (suc k) (take j xs) (last ∷ []) (omega arith) in
-      let after : drop k (take n xs) ≡ second ∷ (inner ++ last ∷ []) =
-      begins_with xs k (suc k) n second (omega arith) (omega arith) h g ∙ ap (λ x. second ∷ x) rest in
-      let before : drop m (take n xs) ≡ p ∷ second ∷ (inner ++ last ∷ []) = begins_with xs m k n p d (omega arith) h s ∙ ap (λ x. p ∷ x) after in
-      let before_seen : map f (drop m (take n xs)) ≡ f p ∷ f second ∷ (map f inner ++ f last ∷ []) = ap (map f) before ∙ ap (λ x. f p ∷ f second ∷ x) (map-append f inner (last ∷ [])) in
-      let after_seen : map f (drop k (take n xs)) ≡ f second ∷ (map f inner ++ f last ∷ []) = ap (map f) after ∙ ap (λ x. f second ∷ x) (map-append f inner (last ∷ [])) in
-      subst (Reaches c) (sym after_seen) (reached_first (f p) (f second) (map f inner) (f last) z (subst (Reaches c) before_seen r))
+pub reached_first_at : {c : List Point} (xs : List Point) (m k n j : ℕ) (p second last : Point) → m + 3 ≤ n → n ≤ length xs → m + 1 ≡ k → j + 1 ≡ n → p ≡ get_or xs m p → second ≡ get_or xs k second → last ≡ get_or xs j last → turn last p second ≡ pos 0 → Reaches c (drop m (take n xs)) → Reaches c (drop k (take n xs))
+reached_first_at {c = c} xs m k n j p second last l h d e s g q z r =
+    let inner : List Point = drop (suc k) (take j xs) in
+    let t : length (take j xs) ≡ j = length-take-le j xs (omega arith) in
+    let end : take n xs ≡ take j xs ++ last ∷ [] = taken_to xs j n last e h q in
+    let rest : drop (suc k) (take n xs) ≡ inner ++ last ∷ [] = ap (drop (suc k)) end ∙ drop-append-le (suc k) (take j xs) (last ∷ []) (omega arith) in
+    let after : drop k (take n xs) ≡ second ∷ (inner ++ last ∷ []) =
+    begins_with xs k (suc k) n second (omega arith) (omega arith) h g ∙ ap (λ x. second ∷ x) rest in
+    let before : drop m (take n xs) ≡ p ∷ second ∷ (inner ++ last ∷ []) = begins_with xs m k n p d (omega arith) h s ∙ ap (λ x. p ∷ x) after in
+    subst (Reaches c) (sym after) (reached_first p second inner last z (subst (Reaches c) before r))
 
-  pub bare_at : (xs : List X) (m k n i j : ℕ) (first second before last : X) → m + 3 ≤ n → n ≤ length xs → m + 1 ≡ k → i + 2 ≡ n → j + 1 ≡ n → first ≡ get_or xs m first → second ≡ get_or xs k second → before ≡ get_or xs i before → last ≡ get_or xs j last → NoneStraight (map f (drop m (take n xs))) → (turn (f before) (f last) (f first) ≡ pos 0 → ⊥) → (turn (f last) (f first) (f second) ≡ pos 0 → ⊥) → IsBare (map f (drop m (take n xs)))
-  bare_at xs m k n i j first second before last l h d e g s p q r none u v =
-      let t : length (take i xs) ≡ i = length-take-le i xs (omega arith) in
-      let front : drop m (take n xs) ≡ first ∷ second ∷ drop (suc k) (take n xs) =
-      begins_with xs m k n first d (omega arith) h s ∙ ap (λ x. first ∷ x) (begins_with xs k (suc k) n second (omega arith) (omega arith) h p) in
-      let end : drop m (take n xs) ≡ drop m (take i xs) ++ before ∷ last ∷ [] =
-      ap (drop m) (ends_in xs i j n before last e g h q r) ∙ drop-append-le m (take i xs) (before ∷ last ∷ []) (omega arith) in
-      bare_from_corners (f first) (f second) (map f (drop (suc k) (take n xs))) (map f (drop m (take i xs))) (f before) (f last)
-      (ap (map f) front)
-      (ap (map f) end ∙ map-append f (drop m (take i xs)) (before ∷ last ∷ []))
-      none u v
+pub bare_at : (xs : List Point) (m k n i j : ℕ) (first second before last : Point) → m + 3 ≤ n → n ≤ length xs → m + 1 ≡ k → i + 2 ≡ n → j + 1 ≡ n → first ≡ get_or xs m first → second ≡ get_or xs k second → before ≡ get_or xs i before → last ≡ get_or xs j last → NoneStraight (drop m (take n xs)) → (turn before last first ≡ pos 0 → ⊥) → (turn last first second ≡ pos 0 → ⊥) → IsBare (drop m (take n xs))
+bare_at xs m k n i j first second before last l h d e g s p q r none u v =
+    let t : length (take i xs) ≡ i = length-take-le i xs (omega arith) in
+    let front : drop m (take n xs) ≡ first ∷ second ∷ drop (suc k) (take n xs) =
+    begins_with xs m k n first d (omega arith) h s ∙ ap (λ x. first ∷ x) (begins_with xs k (suc k) n second (omega arith) (omega arith) h p) in
+    let end : drop m (take n xs) ≡ drop m (take i xs) ++ before ∷ last ∷ [] =
+    ap (drop m) (ends_in xs i j n before last e g h q r) ∙ drop-append-le m (take i xs) (before ∷ last ∷ []) (omega arith) in
+    bare_from_corners first second (drop (suc k) (take n xs)) (drop m (take i xs)) before last front end none u v
 
-  -- ---- a front of the list
+-- ---- a front of the list
 
-  pub none_straight_taken : (xs : List X) (n : ℕ) → NoneStraight (map f xs) → NoneStraight (map f (take n xs))
-  none_straight_taken xs n h = none_straight_front (map f (take n xs)) (map f (drop n xs)) (rw (← map-append f (take n xs) (drop n xs), take-append-drop) h)
+pub none_straight_taken : (xs : List Point) (n : ℕ) → NoneStraight xs → NoneStraight (take n xs)
+none_straight_taken xs n h = none_straight_front (take n xs) (drop n xs) (rw (take-append-drop) h)

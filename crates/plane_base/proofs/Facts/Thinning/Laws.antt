@@ -1,7 +1,7 @@
 -- Each cycle has one thinned cycle at most. It has the same windings, and no points of its own.
-use Rattle.std.proofs.Common.{◌≡◌, suc, ◌<◌, ◌≤◌, List, [], ◌∷◌, length, ℤ, pos, ◌+ℤ◌, All, Contains, ◌⊎◌, inl, inr, refl, sym, ap, ◌∙◌, arith}
+use Rattle.std.proofs.Common.{◌≡◌, suc, ◌<◌, ◌≤◌, List, [], ◌∷◌, length, ℤ, pos, ◌+ℤ◌, All, refl, sym, ap, ◌∙◌, arith}
 use Rattle.std.proofs.lemmas.Int.{ints}
-use Rattle.std.proofs.lemmas.List.Elements.{All-nil, All-cons, All-head, All-tail, All-contains_itself}
+use Rattle.std.proofs.lemmas.List.Elements.{All-nil, All-cons, All-head, All-tail}
 use Rattle.plane_base.specs.Plane.{Point, RationalPoint, step_winding}
 use Rattle.plane_base.specs.Cycles.{SameCycle}
 use Rattle.plane_base.specs.Thinning.{TakesOut, Reaches, same, step, IsBare, IsThinned, bare, empty}
@@ -9,7 +9,7 @@ use Rattle.plane_base.specs.Windings.{cycle_winding}
 use Rattle.plane_base.proofs.Facts.Lists.Cycles.{cycle_refl, cycle_sym, cycle_length, cycle_All}
 use Rattle.plane_base.proofs.Facts.Points.OneLine.{on_one_line}
 use Rattle.plane_base.proofs.Facts.Windings.Paths.{cycle_winding_none, cycle_winding_one, cycle_winding_two, cycle_winding_same}
-use Rattle.plane_base.proofs.Facts.Thinning.Steps.{takes_out_rotated, reaches_from_rotated, reaches_trans, reaches_refl}
+use Rattle.plane_base.proofs.Facts.Thinning.Steps.{takes_out_rotated, reaches_from_rotated, reaches_refl}
 use Rattle.plane_base.proofs.Facts.Thinning.Forks.{Meets, at_once, in_one, both_short, fork_meets}
 
 -- ---- lengths

@@ -1,5 +1,5 @@
 -- What the code of a thinning cites: a point that is taken out of a list, and when no more can be.
-use Rattle.std.proofs.Common.{◌≡◌, ℕ, ◌<◌, List, [], ◌∷◌, ◌++◌, length, take, drop, pos, sym, ap, ◌∙◌, append_assoc, arith}
+use Rattle.std.proofs.Common.{◌≡◌, ℕ, List, [], ◌∷◌, ◌++◌, take, drop, pos, sym, ap, ◌∙◌, append_assoc}
 use Rattle.std.proofs.lemmas.List.{take-append-drop}
 use Rattle.plane_base.specs.Plane.{Point, turn}
 use Rattle.plane_base.specs.Cycles.{SameCycle}

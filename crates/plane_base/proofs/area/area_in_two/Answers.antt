@@ -1,23 +1,12 @@
 use Rattle.std.specs.Int.{w128}
 use Rattle.std.proofs.Common.{to_z, of_z, FitsSigned, ◌≡◌, ◌∙◌, ℕ, ℤ, pos, ◌-◌, ◌+◌, ◌*◌, ◌<◌, ◌^◌, ◌+ℤ◌, ◌*ℤ◌, ◌≤ℤ◌, ◌<ℤ◌, arith, length}
 use Rattle.std.proofs.lemmas.Int.{ints}
-use Rattle.std.proofs.lemmas.List.{length-map}
 use Rattle.plane_base.specs.Plane.{IsWithin, HasSize}
-use Rattle.plane_base.specs.Views.{point_of, points_of}
-use Rattle.plane_base.proofs.Facts.Lists.Views.{All-mapped, some_first}
+use Rattle.plane_base.specs.Views.{points_of}
+use Rattle.plane_base.proofs.Facts.Lists.Views.{All_at, some_first}
 use Rattle.plane_base.proofs.Facts.Windings.AreaRoom.{step_room_within, left_within}
 use Rattle.plane_base.proofs.Facts.Windings.Areas.{area_closed, path_area-next, path_area-all}
 use Rattle.plane_base.proofs.area.area_in_two.Goals as goal
-
-pub area_of_step-requires-clause-from_in_range : goal.area_of_step-requires-clause-from_in_range
-area_of_step-requires-clause-from_in_range g c =
-    let some = some_first (length c.args.points.now) c.is_empty.ensures c.if-is_empty.false in
-    All-mapped (IsWithin g.I.OverlayInt.least g.I.OverlayInt.greatest) (point_of g.I.OverlayInt.value) c.args.points.now _ _ (omega (arith, some)) c.index-points-points.is c.requires
-
-pub area_of_step-requires-clause-to_in_range : goal.area_of_step-requires-clause-to_in_range
-area_of_step-requires-clause-to_in_range g c =
-    let some = some_first (length c.args.points.now) c.is_empty.ensures c.if-is_empty.false in
-    All-mapped (IsWithin g.I.OverlayInt.least g.I.OverlayInt.greatest) (point_of g.I.OverlayInt.value) c.args.points.now _ _ some c.index-points-0.is c.requires
 
 held : (z : ℤ) → HasSize (pos (2 ^ 74)) z → to_z w128 (of_z w128 z) ≡ z
 held z h = omega (arith, ints, h.0, h.1)
@@ -40,18 +29,18 @@ loop-i-init g c =
     let parts = c.in_two-first.ensures in
     rw (held c.in_two-first.result.0 (small _ parts.high), held c.in_two-first.result.1 (rest _ parts.low)) record {
       exact = rw (parts.is, held c.area_of_step.result (step_room_within g.I.OverlayInt.IS_NARROW _ step.fits), step.is)
-          (area_closed (point_of g.I.OverlayInt.value) c.args.points.now _ _ some c.index-points-points.is c.index-points-0.is);
+          (area_closed c.args.points.now _ _ some c.index-points-points.is c.index-points-0.is);
       high = parts.high;
       low = parts.low;
     }
 
 pub area_of_step-requires-in-loop-i-clause-from_in_range : goal.area_of_step-requires-in-loop-i-clause-from_in_range
 area_of_step-requires-in-loop-i-clause-from_in_range g c =
-    All-mapped (IsWithin g.I.OverlayInt.least g.I.OverlayInt.greatest) (point_of g.I.OverlayInt.value) c.args.points.now _ _ (omega (arith, c.loop-i-test.true)) c.index-points-i.is c.requires
+    All_at (IsWithin g.I.OverlayInt.least g.I.OverlayInt.greatest) c.args.points.now _ _ (omega (arith, c.loop-i-test.true)) c.index-points-i.is c.requires
 
 pub area_of_step-requires-in-loop-i-clause-to_in_range : goal.area_of_step-requires-in-loop-i-clause-to_in_range
 area_of_step-requires-in-loop-i-clause-to_in_range g c =
-    All-mapped (IsWithin g.I.OverlayInt.least g.I.OverlayInt.greatest) (point_of g.I.OverlayInt.value) c.args.points.now _ _ c.loop-i-test.true c.index-points-i-in-loop-i.is c.requires
+    All_at (IsWithin g.I.OverlayInt.least g.I.OverlayInt.greatest) c.args.points.now _ _ c.loop-i-test.true c.index-points-i-in-loop-i.is c.requires
 
 sum_fits : (low s : ℤ) → (pos 0 ≤ℤ low) × (low <ℤ pos (2 ^ 64)) → HasSize (pos (2 ^ 74)) s → FitsSigned w128 (low +ℤ to_z w128 (of_z w128 s))
 sum_fits low s h k = omega (arith, ints, h.0, h.1, k.0, k.1)
@@ -90,7 +79,7 @@ loop-i-preserved g c =
     let high = to_z w128 c.loop-i.high-bits in
     let low = to_z w128 c.loop-i.low-bits in
     let sum = parts.is ∙ sum_is low c.area_of_step-in-loop-i.result kept.low (step_room_within g.I.OverlayInt.IS_NARROW _ step.fits) in
-    let next = path_area-next (point_of g.I.OverlayInt.value) c.args.points.now c.loop-i.i _ _ c.loop-i.auto.i c.loop-i-test.true c.index-points-i.is c.index-points-i-in-loop-i.is in
+    let next = path_area-next c.args.points.now c.loop-i.i _ _ c.loop-i.auto.i c.loop-i-test.true c.index-points-i.is c.index-points-i-in-loop-i.is in
     let same : c.loop-i.i + 1 - 1 ≡ c.loop-i.i = omega arith in
     rw (high_is high c.in_two-more.result.0 c.loop-i.i (omega arith) kept.high parts.high, held c.in_two-more.result.1 (rest _ parts.low), same) record {
       exact = moved high low c.in_two-more.result.0 c.in_two-more.result.1 c.area_of_step-in-loop-i.result _ _ _ kept.exact (rw (← step.is) at next) sum;
@@ -105,5 +94,5 @@ pub returns-clause-is : goal.returns-clause-is
 returns-clause-is g c =
     let kept = c.loop-i.invariant in
     let some = some_first (length c.args.points.now) c.is_empty.ensures c.if-is_empty.false in
-    let end : c.loop-i.i ≡ length (points_of g.I.OverlayInt.value c.args.points.now) = omega (arith, length-map c.args.points.now (point_of g.I.OverlayInt.value), c.loop-i-test.false, c.loop-i.auto.i-end) in
-    whole _ _ _ kept.exact (path_area-all (points_of g.I.OverlayInt.value c.args.points.now) c.loop-i.i end)
+    let end : c.loop-i.i ≡ length (points_of c.args.points.now) = omega (arith, c.loop-i-test.false, c.loop-i.auto.i-end) in
+    whole _ _ _ kept.exact (path_area-all (points_of c.args.points.now) c.loop-i.i end)

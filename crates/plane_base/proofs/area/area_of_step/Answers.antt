@@ -8,41 +8,14 @@ use Rattle.plane_base.proofs.area.area_of_step.Given.{Over}
 use Rattle.plane_base.proofs.area.area_of_step.Goals as goal
 use Rattle.plane_base.proofs.area.area_of_step.Goals.{After-to_i128}
 
-pub coordinate-requires : goal.coordinate-requires
-coordinate-requires g c = (c.requires.from_in_range.0, c.requires.from_in_range.1)
-
-pub coordinate-requires-2 : goal.coordinate-requires-2
-coordinate-requires-2 g c = (c.requires.from_in_range.2, c.requires.from_in_range.3)
-
-pub coordinate-requires-3 : goal.coordinate-requires-3
-coordinate-requires-3 g c = (c.requires.to_in_range.0, c.requires.to_in_range.1)
-
-pub coordinate-requires-4 : goal.coordinate-requires-4
-coordinate-requires-4 g c = (c.requires.to_in_range.2, c.requires.to_in_range.3)
-
-pub cross_product-product-requires-clause-x_fits : goal.cross_product-product-requires-clause-x_fits
-cross_product-product-requires-clause-x_fits g c = rw (to_z-of_z w64 c.coordinate.result (record { sfits = c.coordinate.type_inv })) c.coordinate.ensures.fits
-
-pub cross_product-product-requires-clause-y_fits : goal.cross_product-product-requires-clause-y_fits
-cross_product-product-requires-clause-y_fits g c = rw (to_z-of_z w64 c.coordinate-2.result (record { sfits = c.coordinate-2.type_inv })) c.coordinate-2.ensures.fits
-
-pub cross_product-product-requires-clause-other_x_fits : goal.cross_product-product-requires-clause-other_x_fits
-cross_product-product-requires-clause-other_x_fits g c = rw (to_z-of_z w64 c.coordinate-3.result (record { sfits = c.coordinate-3.type_inv })) c.coordinate-3.ensures.fits
-
-pub cross_product-product-requires-clause-other_y_fits : goal.cross_product-product-requires-clause-other_y_fits
-cross_product-product-requires-clause-other_y_fits g c = rw (to_z-of_z w64 c.coordinate-4.result (record { sfits = c.coordinate-4.type_inv })) c.coordinate-4.ensures.fits
-
-whole : (g : Over) (c : After-to_i128 g) → to_z w128 (of_z w128 c.to_i128.result) ≡ step_area (point_of g.I.OverlayInt.value c.args.from) (point_of g.I.OverlayInt.value c.args.to)
+whole : (g : Over) (c : After-to_i128 g) → to_z w128 (of_z w128 c.to_i128.result) ≡ step_area (point_of c.args.from) (point_of c.args.to)
 whole g c =
-    to_z-of_z w128 c.to_i128.result (record { sfits = c.to_i128.type_inv })
+    rw (← c.from.view_is, ← c.to.view_is) (to_z-of_z w128 c.to_i128.result (record { sfits = c.to_i128.type_inv })
     ∙ (c.to_i128.ensures
     ∙ (c.cross_product-product.ensures.is
-    ∙ rw (to_z-of_z w64 c.coordinate.result (record { sfits = c.coordinate.type_inv }), c.coordinate.ensures.is, to_z-of_z w64 c.coordinate-2.result (record { sfits = c.coordinate-2.type_inv }), c.coordinate-2.ensures.is, to_z-of_z w64 c.coordinate-3.result (record { sfits = c.coordinate-3.type_inv }), c.coordinate-3.ensures.is, to_z-of_z w64 c.coordinate-4.result (record { sfits = c.coordinate-4.type_inv }), c.coordinate-4.ensures.is) refl))
-
-pub returns-clause-is : goal.returns-clause-is
-returns-clause-is g c = whole g c
+    ∙ rw (to_z-of_z w64 c.coordinate.result (record { sfits = c.coordinate.type_inv }), c.coordinate.ensures.is, to_z-of_z w64 c.coordinate-2.result (record { sfits = c.coordinate-2.type_inv }), c.coordinate-2.ensures.is, to_z-of_z w64 c.coordinate-3.result (record { sfits = c.coordinate-3.type_inv }), c.coordinate-3.ensures.is, to_z-of_z w64 c.coordinate-4.result (record { sfits = c.coordinate-4.type_inv }), c.coordinate-4.ensures.is) refl)))
 
 pub returns-clause-fits : goal.returns-clause-fits
 returns-clause-fits g c =
     rw (whole g c)
-    (step_fits g.I.OverlayInt.IS_NARROW g.I.OverlayInt.least g.I.OverlayInt.greatest (point_of g.I.OverlayInt.value c.args.from) (point_of g.I.OverlayInt.value c.args.to) g.met.I.OverlayInt.narrow (omega (arith, ints, g.met.I.OverlayInt.least_holds)) (omega (arith, ints, g.met.I.OverlayInt.greatest_holds)) c.requires.from_in_range c.requires.to_in_range)
+    (step_fits g.I.OverlayInt.IS_NARROW g.I.OverlayInt.least g.I.OverlayInt.greatest (point_of c.args.from) (point_of c.args.to) g.met.I.OverlayInt.narrow (omega (arith, ints, g.met.I.OverlayInt.least_holds)) (omega (arith, ints, g.met.I.OverlayInt.greatest_holds)) c.requires.from_in_range c.requires.to_in_range)

@@ -1,41 +1,29 @@
 use Rattle.std.specs.Int.{w128}
 use Rattle.std.proofs.Common.{to_z, ◌≡◌, ℤ, pos, ◌-◌, ◌+◌, ◌+ℤ◌, arith, length}
 use Rattle.std.proofs.lemmas.Int.{ints, to_z-of_z}
-use Rattle.std.proofs.lemmas.List.{length-map}
 use Rattle.plane_base.specs.Plane.{IsWithin}
-use Rattle.plane_base.specs.Views.{point_of, points_of}
-use Rattle.plane_base.proofs.Facts.Lists.Views.{All-mapped, some_first}
+use Rattle.plane_base.proofs.Facts.Lists.Views.{All_at, some_first}
 use Rattle.plane_base.proofs.Facts.Windings.AreaRoom.{first_above, first_below, more_above, more_below, sum_fits, sum_is}
 use Rattle.plane_base.proofs.Facts.Windings.Areas.{area_closed, path_area-next, path_area-all}
 use Rattle.plane_base.proofs.area.doubled_area.Goals as goal
-
-pub area_of_step-sum-requires-clause-from_in_range : goal.area_of_step-sum-requires-clause-from_in_range
-area_of_step-sum-requires-clause-from_in_range g c =
-    let some = some_first (length c.args.points.now) c.is_empty.ensures c.if-is_empty.false in
-    All-mapped (IsWithin g.I.OverlayInt.least g.I.OverlayInt.greatest) (point_of g.I.OverlayInt.value) c.args.points.now _ _ (omega (arith, some)) c.index-points-points.is c.requires.in_range
-
-pub area_of_step-sum-requires-clause-to_in_range : goal.area_of_step-sum-requires-clause-to_in_range
-area_of_step-sum-requires-clause-to_in_range g c =
-    let some = some_first (length c.args.points.now) c.is_empty.ensures c.if-is_empty.false in
-    All-mapped (IsWithin g.I.OverlayInt.least g.I.OverlayInt.greatest) (point_of g.I.OverlayInt.value) c.args.points.now _ _ some c.index-points-0.is c.requires.in_range
 
 pub loop-i-init : goal.loop-i-init
 loop-i-init g c =
     let some = some_first (length c.args.points.now) c.is_empty.ensures c.if-is_empty.false in
     let step = c.area_of_step-sum.ensures in
     rw (to_z-of_z w128 c.area_of_step-sum.result (record { sfits = c.area_of_step-sum.type_inv })) record {
-      exact = rw step.is (area_closed (point_of g.I.OverlayInt.value) c.args.points.now _ _ some c.index-points-points.is c.index-points-0.is);
+      exact = rw step.is (area_closed c.args.points.now _ _ some c.index-points-points.is c.index-points-0.is);
       above = first_above g.I.OverlayInt.IS_NARROW c.area_of_step-sum.result step.fits.0;
       below = first_below g.I.OverlayInt.IS_NARROW c.area_of_step-sum.result step.fits.1;
     }
 
 pub area_of_step-sum-requires-in-loop-i-clause-from_in_range : goal.area_of_step-sum-requires-in-loop-i-clause-from_in_range
 area_of_step-sum-requires-in-loop-i-clause-from_in_range g c =
-    All-mapped (IsWithin g.I.OverlayInt.least g.I.OverlayInt.greatest) (point_of g.I.OverlayInt.value) c.args.points.now _ _ (omega (arith, c.loop-i-test.true)) c.index-points-i.is c.requires.in_range
+    All_at (IsWithin g.I.OverlayInt.least g.I.OverlayInt.greatest) c.args.points.now _ _ (omega (arith, c.loop-i-test.true)) c.index-points-i.is c.requires.in_range
 
 pub area_of_step-sum-requires-in-loop-i-clause-to_in_range : goal.area_of_step-sum-requires-in-loop-i-clause-to_in_range
 area_of_step-sum-requires-in-loop-i-clause-to_in_range g c =
-    All-mapped (IsWithin g.I.OverlayInt.least g.I.OverlayInt.greatest) (point_of g.I.OverlayInt.value) c.args.points.now _ _ c.loop-i-test.true c.index-points-i-in-loop-i.is c.requires.in_range
+    All_at (IsWithin g.I.OverlayInt.least g.I.OverlayInt.greatest) c.args.points.now _ _ c.loop-i-test.true c.index-points-i-in-loop-i.is c.requires.in_range
 
 pub overflow_add-sum : goal.overflow_add-sum
 overflow_add-sum g c =
@@ -51,7 +39,7 @@ loop-i-preserved g c =
     let step = c.area_of_step-sum-in-loop-i.ensures in
     let so_far = to_z w128 c.loop-i.sum-bits in
     let sum = sum_is g.I.OverlayInt.IS_NARROW so_far c.area_of_step-sum-in-loop-i.result c.loop-i.i (length c.args.points.now) (omega arith) (omega (arith, c.loop-i-test.true)) c.requires.few kept.above kept.below step.fits in
-    let next = path_area-next (point_of g.I.OverlayInt.value) c.args.points.now c.loop-i.i _ _ c.loop-i.auto.i c.loop-i-test.true c.index-points-i.is c.index-points-i-in-loop-i.is in
+    let next = path_area-next c.args.points.now c.loop-i.i _ _ c.loop-i.auto.i c.loop-i-test.true c.index-points-i.is c.index-points-i-in-loop-i.is in
     let same : c.loop-i.i + 1 - 1 ≡ c.loop-i.i = omega arith in
     rw (sum, same) record {
       exact = moved _ _ _ _ _ kept.exact (rw (← step.is) at next);
@@ -66,5 +54,5 @@ pub returns : goal.returns
 returns g c =
     let kept = c.loop-i.invariant in
     let some = some_first (length c.args.points.now) c.is_empty.ensures c.if-is_empty.false in
-    let end : c.loop-i.i ≡ length (points_of g.I.OverlayInt.value c.args.points.now) = omega (arith, length-map c.args.points.now (point_of g.I.OverlayInt.value), c.loop-i-test.false, c.loop-i.auto.i-end) in
-    whole _ _ _ kept.exact (path_area-all (points_of g.I.OverlayInt.value c.args.points.now) c.loop-i.i end)
+    let end : c.loop-i.i ≡ length c.args.points.now = omega (arith, c.loop-i-test.false, c.loop-i.auto.i-end) in
+    whole _ _ _ kept.exact (path_area-all c.args.points.now c.loop-i.i end)

@@ -3,7 +3,6 @@ use Rattle.plane_base.specs.Plane.{Edge}
 use Rattle.plane_base.specs.Segments.{parted}
 use Rattle.plane_base.specs.Crossing.{marks_by, no_marks}
 use Rattle.plane_base.specs.MarkOrder.{both_along}
-use Rattle.plane_base.specs.SegmentViews.{edge_of}
 use Rattle.plane_base.specs.declared.rounding.Rounding.{Rounding}
 use Rattle.plane_base.proofs.Facts.Crossings.Roundings.{unless_parted}
 use Rattle.plane_base.proofs.Facts.Crossings.Steps.{parted_on_grid}
@@ -14,13 +13,11 @@ none_laid rounding s t e = sym (ap (both_along s t) ((unless_parted rounding s t
 
 pub returns-in_default-clause-is : goal.returns-in_default-clause-is
 returns-in_default-clause-is g c =
-    let value = g.I.OverlayInt.value in
-    c.none.ensures.is ∙ none_laid c.args.rounding (edge_of value c.args.target) (edge_of value c.args.other) (rw c.in_default.is at c.sides_unless_apart.ensures.none)
+    c.none.ensures.is ∙ none_laid c.args.rounding c.args.target c.args.other (rw c.in_default.is at c.sides_unless_apart.ensures.none)
 
 pub returns-in_default-clause-off_grid : goal.returns-in_default-clause-off_grid
 returns-in_default-clause-off_grid g c =
-    let value = g.I.OverlayInt.value in
-    c.none.ensures.off_grid ∙ parted_on_grid (edge_of value c.args.target) (edge_of value c.args.other) (rw c.in_default.is at c.sides_unless_apart.ensures.none)
+    c.none.ensures.off_grid ∙ parted_on_grid c.args.target c.args.other (rw c.in_default.is at c.sides_unless_apart.ensures.none)
 
 pub meet_closely-requires-clause-sides : goal.meet_closely-requires-clause-sides
 meet_closely-requires-clause-sides g c = rw c.in-Some.is at c.sides_unless_apart.ensures.some

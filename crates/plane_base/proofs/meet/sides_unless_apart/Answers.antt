@@ -1,4 +1,3 @@
-use Rattle.plane_base.specs.SegmentViews.{edge_of}
 use Rattle.plane_base.proofs.Facts.Crossings.Roundings.{apart_parted}
 use Rattle.plane_base.proofs.meet.sides_unless_apart.Goals as goal
 
@@ -13,8 +12,7 @@ returns-then-join-clause-none g c = c.join.ensures c.if-join.true
 
 pub returns-then-not-share_rows-clause-none : goal.returns-then-not-share_rows-clause-none
 returns-then-not-share_rows-clause-none g c =
-    let value = g.I.OverlayInt.value in
-    apart_parted (edge_of value c.args.target) (edge_of value c.args.other) (c.share_rows.ensures c.if-not-share_rows.true)
+    apart_parted c.args.target c.args.other (c.share_rows.ensures c.if-not-share_rows.true)
 
 pub returns-then-is_beside-clause-none : goal.returns-then-is_beside-clause-none
 returns-then-is_beside-clause-none g c = c.is_beside.ensures c.if-is_beside.true

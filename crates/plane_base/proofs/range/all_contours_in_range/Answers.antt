@@ -12,13 +12,13 @@ pub returns-then-not-all_in_range : goal.returns-then-not-all_in_range
 returns-then-not-all_in_range g c =
     let own = rw c.deref.ensures.value at c.all_in_range.ensures.1 in (
       λ e. absurd (false≢true e),
-      λ all. sym c.if-not-all_in_range.true ∙ own (All-mapped (All (IsWithin g.I.OverlayInt.least g.I.OverlayInt.greatest)) (λ (contour : IntPath g.row.I.Denot). points_of g.I.OverlayInt.value contour.points.items) c.args.contours.now _ _ c.loop-contour-test.true c.contour-item.is all),
+      λ all. sym c.if-not-all_in_range.true ∙ own (All-mapped (All (IsWithin g.I.OverlayInt.least g.I.OverlayInt.greatest)) (λ (contour : IntPath g.row.I.Denot). points_of contour.points.items) c.args.contours.now _ _ c.loop-contour-test.true c.contour-item.is all),
     )
 
 pub loop-contour-preserved : goal.loop-contour-preserved
 loop-contour-preserved g c =
     let own = rw c.deref.ensures.value at (c.all_in_range.ensures.0 c.if-not-all_in_range.false) in
-    All-taken_more (λ (contour : IntPath g.row.I.Denot). points_of g.I.OverlayInt.value contour.points.items) c.args.contours.now c.loop-contour.contour-index c.contour-item.result c.loop-contour-test.true c.contour-item.is (All (IsWithin g.I.OverlayInt.least g.I.OverlayInt.greatest)) c.loop-contour.invariant own
+    All-taken_more (λ (contour : IntPath g.row.I.Denot). points_of contour.points.items) c.args.contours.now c.loop-contour.contour-index c.contour-item.result c.loop-contour-test.true c.contour-item.is (All (IsWithin g.I.OverlayInt.least g.I.OverlayInt.greatest)) c.loop-contour.invariant own
 
 pub returns : goal.returns
 returns g c =

@@ -1,10 +1,9 @@
-use Rattle.std.proofs.Common.{◌≡◌, ◌<◌, ◌+◌, ◌∙◌, refl, sym, subst, All, [], map, take, length, get_or, arith}
+use Rattle.std.proofs.Common.{◌≡◌, ◌<◌, ◌+◌, ◌∙◌, refl, sym, subst, All, [], take, length, get_or, arith}
 use Rattle.std.proofs.lemmas.Bool.{false≢true}
 use Rattle.std.proofs.lemmas.List.{take_all, get_or_default}
 use Rattle.plane_base.specs.Plane.{IsWithin}
-use Rattle.plane_base.specs.Views.{points_of}
-use Rattle.plane_base.proofs.Facts.Lists.Views.{All-mapped}
-use Rattle.plane_base.proofs.Facts.Lists.Taken.{All-taken_more}
+use Rattle.plane_base.proofs.Facts.Lists.Views.{All_at}
+use Rattle.plane_base.proofs.Facts.Lists.Taken.{All_more}
 use Rattle.plane_base.proofs.Facts.Lists.Placed.{before, all_before, list_more, placed}
 use Rattle.plane_base.proofs.range.source_in_range.Given.{Over}
 use Rattle.plane_base.proofs.range.source_in_range.Goals.{After-shape_path}
@@ -28,30 +27,28 @@ returns-then-not-all_in_range g c =
     let at = stands g (goal.at.returns-then-not-all_in_range g c).After-shape_path in
     let paths = g.R.IntShapeResource.paths c.args.source.now in (
       λ e. absurd (false≢true e),
-      λ all. sym c.if-not-all_in_range.true ∙ c.all_in_range.ensures.1 (All-mapped (All (IsWithin g.I.OverlayInt.least g.I.OverlayInt.greatest)) (points_of g.I.OverlayInt.value) paths _ _ at.0 at.1 all),
+      λ all. sym c.if-not-all_in_range.true ∙ c.all_in_range.ensures.1 (All_at (All (IsWithin g.I.OverlayInt.least g.I.OverlayInt.greatest)) paths _ _ at.0 at.1 all),
     )
 
 pub loop-index-init : goal.loop-index-init
 loop-index-init g c =
     let first = before (g.R.IntShapeResource.shapes c.args.source.now) c.loop-shape.shape in
     let same : first ≡ first + 0 = omega arith in
-    subst (λ n. All (All (IsWithin g.I.OverlayInt.least g.I.OverlayInt.greatest)) (map (points_of g.I.OverlayInt.value) (take n (g.R.IntShapeResource.paths c.args.source.now)))) same
+    subst (λ n. All (All (IsWithin g.I.OverlayInt.least g.I.OverlayInt.greatest)) (take n (g.R.IntShapeResource.paths c.args.source.now))) same
     c.loop-shape.invariant
 
 pub loop-index-preserved : goal.loop-index-preserved
 loop-index-preserved g c =
     let at = stands g (goal.at.loop-index-preserved g c).After-shape_path in
-    let f = points_of g.I.OverlayInt.value in
     let P = All (IsWithin g.I.OverlayInt.least g.I.OverlayInt.greatest) in
     let paths = g.R.IntShapeResource.paths c.args.source.now in
     let k = before (g.R.IntShapeResource.shapes c.args.source.now) c.loop-shape.shape + c.loop-index.index in
     let next : k + 1 ≡ before (g.R.IntShapeResource.shapes c.args.source.now) c.loop-shape.shape + (c.loop-index.index + 1) = omega arith in
-    subst (λ n. All P (map f (take n paths))) next
-    (All-taken_more f paths k c.shape_path.result.now at.0 at.1 P c.loop-index.invariant (c.all_in_range.ensures.0 c.if-not-all_in_range.false))
+    subst (λ n. All P (take n paths)) next
+    (All_more paths k c.shape_path.result.now at.0 at.1 P c.loop-index.invariant (c.all_in_range.ensures.0 c.if-not-all_in_range.false))
 
 pub loop-shape-preserved : goal.loop-shape-preserved
 loop-shape-preserved g c =
-    let f = points_of g.I.OverlayInt.value in
     let P = All (IsWithin g.I.OverlayInt.least g.I.OverlayInt.greatest) in
     let paths = g.R.IntShapeResource.paths c.args.source.now in
     let shapes = g.R.IntShapeResource.shapes c.args.source.now in
@@ -59,7 +56,7 @@ loop-shape-preserved g c =
     let more = list_more shapes paths (g.met.R.IntShapeResource.together c.args.source.now) c.loop-shape.shape inside in
     let next : before shapes c.loop-shape.shape + c.loop-index.index ≡ before shapes (c.loop-shape.shape + 1) =
     omega (arith, more, c.shape_len-index-end.ensures, c.loop-index-test.false, c.loop-index.auto.index-end) in
-    subst (λ n. All P (map f (take n paths))) next c.loop-index.invariant
+    subst (λ n. All P (take n paths)) next c.loop-index.invariant
 
 pub returns : goal.returns
 returns g c =

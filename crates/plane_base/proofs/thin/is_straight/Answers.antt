@@ -3,7 +3,6 @@ use Rattle.std.specs.Ordering.{ordering_index}
 use Rattle.std.proofs.lemmas.Bool.{false≢true}
 use Rattle.plane_base.proofs.Facts.Points.Orders.{int_equal}
 use Rattle.plane_base.specs.Plane.{turn}
-use Rattle.plane_base.specs.Views.{point_of}
 use Rattle.plane_base.proofs.thin.is_straight.Goals as goal
 
 equal_from_index : (o : Ordering) → IsTrue (ordering_index o == 1) → o ≡ Equal
@@ -17,5 +16,4 @@ straight t o b e f = (λ h. int_equal t (pos 0) (sym e ∙ equal_from_index o (r
 
 pub returns : goal.returns
 returns g c =
-    let value = g.I.OverlayInt.value in
-    straight (turn (point_of value c.args.a) (point_of value c.args.b) (point_of value c.args.c)) c.orientation.result c.eq.result c.orientation.ensures c.eq.ensures
+    straight (turn c.args.a c.args.b c.args.c) c.orientation.result c.eq.result c.orientation.ensures c.eq.ensures

@@ -7,9 +7,9 @@ use Rattle.plane_base.proofs.thin.step_back.Given as goal
 
 abbrev pub invariant-loop-kept : goal.invariant-loop-kept
 invariant-loop-kept g l = record {
-  reached : (c rest : List Point) → Reaches c (points_of g.I.OverlayInt.value l.fn.kept.items ++ point_of g.I.OverlayInt.value l.next ∷ rest) → Reaches c (points_of g.I.OverlayInt.value l.kept.items ++ point_of g.I.OverlayInt.value l.next ∷ rest);
-  none_straight : NoneStraight (points_of g.I.OverlayInt.value l.fn.kept.items) → NoneStraight (points_of g.I.OverlayInt.value l.kept.items);
-  in_range : All (IsWithin g.I.OverlayInt.least g.I.OverlayInt.greatest) (points_of g.I.OverlayInt.value l.kept.items);
+  reached : (c rest : List Point) → Reaches c (points_of l.fn.kept.items ++ point_of l.next ∷ rest) → Reaches c (points_of l.kept.items ++ point_of l.next ∷ rest);
+  none_straight : NoneStraight (points_of l.fn.kept.items) → NoneStraight (points_of l.kept.items);
+  in_range : All (IsWithin g.I.OverlayInt.least g.I.OverlayInt.greatest) (points_of l.kept.items);
 }
 
 abbrev pub decreases-loop-kept : goal.decreases-loop-kept

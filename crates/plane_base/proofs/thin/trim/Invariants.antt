@@ -9,9 +9,9 @@ use Rattle.plane_base.proofs.thin.trim.Given as goal
 abbrev pub invariant-loop-start : goal.invariant-loop-start
 invariant-loop-start g l = record {
   start : l.start ≤ length l.kept.items;
-  reached : (c : List Point) → Reaches c (points_of g.I.OverlayInt.value l.fn.kept.items) → Reaches c (drop l.start (points_of g.I.OverlayInt.value l.kept.items));
-  none_straight : NoneStraight (points_of g.I.OverlayInt.value l.fn.kept.items) → NoneStraight (points_of g.I.OverlayInt.value l.kept.items);
-  in_range : All (IsWithin g.I.OverlayInt.least g.I.OverlayInt.greatest) (points_of g.I.OverlayInt.value l.kept.items);
+  reached : (c : List Point) → Reaches c (points_of l.fn.kept.items) → Reaches c (drop l.start (points_of l.kept.items));
+  none_straight : NoneStraight (points_of l.fn.kept.items) → NoneStraight (points_of l.kept.items);
+  in_range : All (IsWithin g.I.OverlayInt.least g.I.OverlayInt.greatest) (points_of l.kept.items);
 }
 
 abbrev pub decreases-loop-start : goal.decreases-loop-start

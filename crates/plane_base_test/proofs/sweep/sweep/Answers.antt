@@ -10,6 +10,6 @@ loop-entry-preserved g c =
     let added = c.in_ok-add.ensures.ok in
     record {
       room = omega (arith, first.1, added.insertions, c.loop-entry.invariant.room);
-      can_sweep = can_sweep_on g.I.Ord.cmp (λ s. s.b.x) (λ s t. column_order (edge_of g.I.OverlayInt.value s) (edge_of g.I.OverlayInt.value t)) (λ s. s.a.x) (edge_of g.I.OverlayInt.value) g.I.OverlayInt.value c.in-Some.entry.now c.loop-entry.rest.now c.in-Some.later.now _ _ _ first.0 (ap (λ s. s.a.x) c.segment.view_is) added.entries _ _ added.latest_time c.loop-entry.invariant.can_sweep;
-      same = swept_on g.I.Ord.cmp (λ s. s.b.x) (λ s t. column_order (edge_of g.I.OverlayInt.value s) (edge_of g.I.OverlayInt.value t)) (λ s. s.a.x) (edge_of g.I.OverlayInt.value) g.I.OverlayInt.value c.in-Some.entry.now c.loop-entry.rest.now c.in-Some.later.now _ _ _ first.0 (ap (λ s. s.a.x) c.segment.view_is) added.entries _ c.loop-entry.invariant.same;
+      can_sweep = can_sweep_on g.I.Ord.cmp (λ s. s.b.x) (λ s t. column_order (edge_of s) (edge_of t)) (λ s. s.a.x) edge_of g.I.IntNumber.value c.in-Some.entry.now c.loop-entry.rest.now c.in-Some.later.now _ _ _ first.0 (ap (λ s. s.a.x) c.segment.view_is) added.entries _ _ added.latest_time c.loop-entry.invariant.can_sweep;
+      same = swept_on g.I.Ord.cmp (λ s. s.b.x) (λ s t. column_order (edge_of s) (edge_of t)) (λ s. s.a.x) edge_of g.I.IntNumber.value c.in-Some.entry.now c.loop-entry.rest.now c.in-Some.later.now _ _ _ first.0 (ap (λ s. s.a.x) c.segment.view_is) added.entries _ c.loop-entry.invariant.same;
     }

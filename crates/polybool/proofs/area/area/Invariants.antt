@@ -4,4 +4,4 @@ use Rattle.polybool.specs.AnswerAreas.{area_sum}
 use Rattle.polybool.proofs.area.area.Given as goal
 
 abbrev pub invariant-loop-shape : goal.invariant-loop-shape
-invariant-loop-shape g l = l.sum ≡ area_sum (flat_map (λ s. contours_of g.I.OverlayInt.value s.contours.items) (take l.shape-index l.shape-items))
+invariant-loop-shape g l = l.sum ≡ area_sum (flat_map (λ s. contours_of s.contours.items) (take l.shape-index l.shape-items))

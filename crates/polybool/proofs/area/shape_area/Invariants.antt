@@ -4,4 +4,4 @@ use Rattle.polybool.specs.AnswerAreas.{area_sum}
 use Rattle.polybool.proofs.area.shape_area.Given as goal
 
 abbrev pub invariant-loop-contour : goal.invariant-loop-contour
-invariant-loop-contour g l = l.sum ≡ area_sum (contours_of g.I.OverlayInt.value (take l.contour-index l.contour-items))
+invariant-loop-contour g l = l.sum ≡ area_sum (contours_of (take l.contour-index l.contour-items))

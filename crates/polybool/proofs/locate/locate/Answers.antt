@@ -6,4 +6,4 @@ use Rattle.polybool.proofs.locate.locate.Goals as goal
 
 pub returns-in-Ok-clause-placed : goal.returns-in-Ok-clause-placed
 returns-in-Ok-clause-placed g c =
-    (answer_of g.I.OverlayInt.value c.in-Some.answer, ap (option_map (answer_of g.I.OverlayInt.value)) c.in-Some.is, keeps_points c.in-Some.answer.keep c.in_default-keep.not-Corners, c.in-Ok.ensures.placed)
+    (answer_of c.in-Some.answer, ap (option_map answer_of) c.in-Some.is, keeps_points c.in-Some.answer.keep c.in_default-keep.not-Corners, c.in-Ok.ensures.placed)

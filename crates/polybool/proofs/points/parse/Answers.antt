@@ -11,7 +11,7 @@ pub loop-left-init : goal.loop-left-init
 loop-left-init g c = (
   [],
   omega arith,
-  subst (λ items. Gathers g.I.OverlayInt.value g.I.OverlayInt.least g.I.OverlayInt.greatest c.new-gathered.result items (vec_capacity c.args.points.now) []) (sym c.requires) (c.new-gathered.ensures _),
+  subst (λ items. Gathers g.I.OverlayInt.least g.I.OverlayInt.greatest c.new-gathered.result items (vec_capacity c.args.points.now) []) (sym c.requires) (c.new-gathered.ensures _),
   onto_nothing _,
 )
 

@@ -10,7 +10,7 @@ use Rattle.polybool.proofs.points.parse.Given as goal
 
 abbrev pub invariant-loop-left : goal.invariant-loop-left
 invariant-loop-left g l = (ps : List Point) × (vec_capacity l.fn.points ≤ vec_capacity l.points)
-    × Gathers g.I.OverlayInt.value g.I.OverlayInt.least g.I.OverlayInt.greatest l.gathered l.points.items (vec_capacity l.fn.points) ps
+    × Gathers g.I.OverlayInt.least g.I.OverlayInt.greatest l.gathered l.points.items (vec_capacity l.fn.points) ps
     × (points_spelled (words_after (option_copied l.fn.rest)) ≡ onto ps (points_spelled (words_after (option_copied l.left))))
 
 abbrev pub decreases-loop-left : goal.decreases-loop-left

@@ -14,7 +14,7 @@ returns-in-Err g c =
       record {
         lines = inv.stands.lines;
         rest = inv.stands.rest;
-        kept = store_of g.I.OverlayInt.value c.loop-round.session.kept;
+        kept = store_of c.loop-round.session.kept;
         splits = inv.stands.splits;
         replies = inv.stands.replies;
         count = omega (arith, inv.stands.count);
@@ -87,7 +87,7 @@ returns g c =
       record {
         lines = inv.stands.lines;
         rest = inv.stands.rest;
-        kept = store_of g.I.OverlayInt.value c.loop-round.session.kept;
+        kept = store_of c.loop-round.session.kept;
         splits = inv.stands.splits;
         replies = inv.stands.replies;
         count = omega (arith, inv.stands.count);

@@ -11,5 +11,5 @@ invariant-loop-round g l = record {
   output : List ℕ;
   consumed : Consumes (g.R.Read.remaining l.fn.reader) (g.R.Read.remaining l.reader) input;
   appended : Appends (g.W.Write.contents l.fn.writer) (g.W.Write.contents l.writer) output;
-  stands : Stands g.I.OverlayInt.value g.I.OverlayInt.least g.I.OverlayInt.greatest l.session input output;
+  stands : Stands g.I.OverlayInt.least g.I.OverlayInt.greatest l.session input output;
 }

@@ -9,4 +9,4 @@ returns-in-Err-fulfil g c number =
     rw why.1 (refused c.in-Err-fulfil.refusal why.0)
 
 pub returns-in-Err : goal.returns-in-Err
-returns-in-Err g c number = let why = c.in-Err.ensures in refused c.in-Err.refusal (why (store_of g.I.OverlayInt.value c.args.kept.now))
+returns-in-Err g c number = let why = c.in-Err.ensures in refused c.in-Err.refusal (why (store_of c.args.kept.now))

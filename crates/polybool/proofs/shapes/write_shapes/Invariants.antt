@@ -9,4 +9,4 @@ abbrev pub invariant-loop-shape : goal.invariant-loop-shape
 invariant-loop-shape g l =
     Laid (g.W.Write.contents l.fn.writer) (g.W.Write.contents l.writer) [] (text_of_piece l.piece)
     (codes "shapes " ++ decimal (length l.shapes.shapes.items) ++ end
-    ++ flat_map (λ s. shape_text (contours_of g.I.OverlayInt.value s.contours.items)) (take l.shape-index l.shape-items))
+    ++ flat_map (λ s. shape_text (contours_of s.contours.items)) (take l.shape-index l.shape-items))

@@ -2,13 +2,12 @@ use Rattle.std.proofs.Common.{◌≡◌, length, All, ap, subst, sym, arith}
 use Rattle.std.specs.Int.{w128}
 use Rattle.std.proofs.lemmas.Int.{to_z-of_z}
 use Rattle.std.proofs.lemmas.List.{length-map}
-use Rattle.plane_base.specs.Views.{points_of}
 use Rattle.plane_base.specs.Plane.{IsWithin}
 use Rattle.polygon_c.proofs.area.measure.Goals as goal
 
 pub doubled_area-requires-clause-in_range : goal.doubled_area-requires-clause-in_range
 doubled_area-requires-clause-in_range g c =
-    subst (λ points. All (IsWithin g.I.OverlayInt.least g.I.OverlayInt.greatest) (points_of g.I.OverlayInt.value points)) (sym c.deref.ensures.value)
+    subst (λ points. All (IsWithin g.I.OverlayInt.least g.I.OverlayInt.greatest) points) (sym c.deref.ensures.value)
     (subst (All (IsWithin g.I.OverlayInt.least g.I.OverlayInt.greatest)) (sym c.in_ok-contour.ensures.points) (c.are_in_range.ensures.0 c.if-not-are_in_range.false))
 
 pub doubled_area-requires-clause-few : goal.doubled_area-requires-clause-few

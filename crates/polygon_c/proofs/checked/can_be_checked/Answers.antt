@@ -10,7 +10,7 @@ returns-then-not-is_side g c = (λ up. absurd (false≢true up), λ can. sym c.i
 
 pub returns : goal.returns
 returns g c =
-    let fit = λ (by : Amounts). Fits g.I.OverlayInt.least g.I.OverlayInt.greatest by (flat_contours g.I.OverlayInt.value c.args.contours.now) in (
+    let fit = λ (by : Amounts). Fits g.I.OverlayInt.least g.I.OverlayInt.greatest by (flat_contours c.args.contours.now) in (
       λ up. record { is_side = c.is_side.ensures.0 c.if-not-is_side.false; room = subst fit c.evenly.ensures (c.fits.ensures.0 up) },
       λ can. c.fits.ensures.1 (subst fit (sym c.evenly.ensures) can.room),
     )

@@ -16,7 +16,7 @@ returns-in_err-paths-clause-refused g c =
     let asked = c.in_ok-asked.asked in
     let is = c.in_ok-asked.ensures in
     let both = given c.args.shape.now c.args.shape_lengths.now c.args.lines.now c.args.line_lengths.now in
-    rw p.1 (refused_by g.P.CPointOf.plane g.I.OverlayInt.least g.I.OverlayInt.greatest IsNotClipped c.args.query.now both asked.request (flat_contours g.I.OverlayInt.value asked.subjects) (flat_contours g.I.OverlayInt.value asked.clips) c.in_err-paths.field-0.0 p.0
+    rw p.1 (refused_by g.P.CPointOf.plane g.I.OverlayInt.least g.I.OverlayInt.greatest IsNotClipped c.args.query.now both asked.request (flat_contours asked.subjects) (flat_contours asked.clips) c.in_err-paths.field-0.0 p.0
     is.passes is.subjects.are is.clips.are c.in_err-paths.ensures.refused p.2)
 
 pub returns-in_err-lay_paths-clause-refused : goal.returns-in_err-lay_paths-clause-refused
@@ -30,15 +30,15 @@ returns-clause-answered g c =
     let asked = c.in_ok-asked.asked in
     let is = c.in_ok-asked.ensures in
     let both = given c.args.shape.now c.args.shape_lengths.now c.args.lines.now c.args.line_lengths.now in
-    let subjects = flat_contours g.I.OverlayInt.value asked.subjects in
-    let clips = flat_contours g.I.OverlayInt.value asked.clips in
-    let paths = contours_of g.I.OverlayInt.value c.in_ok-paths.paths.items in (
+    let subjects = flat_contours asked.subjects in
+    let clips = flat_contours asked.clips in
+    let paths = contours_of c.in_ok-paths.paths.items in (
       asked.request,
       is.passes,
       (
         paths,
         of_given (λ r. IsClipOf g.I.OverlayInt.least g.I.OverlayInt.greatest (fill_rule_of r.fill_rule) r.clip_rule) g.P.CPointOf.plane both asked.request subjects clips paths is.subjects.are
             is.clips.are c.in_ok-paths.ensures.clip,
-        c.in_ok-lay_paths.ensures ∙ ap (λ those. flat_paths g.P.CPointOf.at (contours_of g.I.OverlayInt.value those)) c.deref.ensures.value,
+        c.in_ok-lay_paths.ensures ∙ ap (λ those. flat_paths g.P.CPointOf.at (contours_of those)) c.deref.ensures.value,
       ),
     )

@@ -28,12 +28,12 @@ returns-clause-cut g c =
     let points = c.in_ok-corners.corners.items in
     let contours = c.args.contours.now in
     let shapes = c.args.shapes.now in
-    shapes-paths g.I.OverlayInt.value c.in_ok-found.found.shapes.items
-    ∙ (ap (map (map (points_of g.I.OverlayInt.value)))
+    shapes-paths g.I.IntNumber.value c.in_ok-found.found.shapes.items
+    ∙ (ap (map (map points_of))
     (c.in_ok-found.ensures.shapes
     ∙ (ap₂ (λ rs groups. parts_of_parts points rs groups) c.in_ok-contour_ranges.ensures c.in_ok-shape_ranges.ensures
     ∙ parts_of_parts-ranges_of points contours shapes))
-    ∙ (map-cut_twice (point_of g.I.OverlayInt.value) points contours shapes ∙ ap (λ ps. cut shapes (cut contours ps)) c.in_ok-corners.ensures.points))
+    ∙ (map-cut_twice point_of points contours shapes ∙ ap (λ ps. cut shapes (cut contours ps)) c.in_ok-corners.ensures.points))
 
 pub returns-clause-in_range : goal.returns-clause-in_range
 returns-clause-in_range g c =

@@ -1,7 +1,6 @@
 use Rattle.std.proofs.Common.{◌≡◌, ◌+◌, ◌++◌, ap, ap₂, subst, sym, length, ◌∙◌}
 use Rattle.plane_base.specs.Counts.{boolean, lay}
 use Rattle.plane_base.specs.Plane.{IsWithin}
-use Rattle.plane_base.specs.Views.{point_of}
 use Rattle.segment_split.specs.Data.{carried}
 use Rattle.segment_split.proofs.Facts.Adding.Laws.{on_answer, if_refused}
 use Rattle.polygon_overlay.specs.Builders.{count_of_type}
@@ -17,7 +16,6 @@ add_edge-requires g c =
 
 pub returns : goal.returns
 returns g c =
-    let value = g.I.OverlayInt.value in
     let plane = g.P.CPointOf.plane in
     let kind = carried boolean g.D.OverlayEdgeData.join in
     let count = count_of_type c.args.shape_type in
@@ -25,9 +23,9 @@ returns g c =
     let adds = c.add_edge.ensures.adds in
     let new = c.add_edge.new.self in
     let r = c.add_edge.result in
-    let from : point_of value c.engine_point.result ≡ plane c.args.from = c.engine_point.ensures in
-    let to : point_of value c.engine_point-2.result ≡ plane c.args.to = c.engine_point-2.ensures in
-    let more = length (lay boolean (point_of value c.engine_point.result) (point_of value c.engine_point-2.result) count) in
+    let from : c.engine_point.result ≡ plane c.args.from = c.engine_point.ensures in
+    let to : c.engine_point-2.result ≡ plane c.args.to = c.engine_point-2.ensures in
+    let more = length (lay boolean c.engine_point.result c.engine_point-2.result count) in
     record {
       held = on_answer r (λ is. is ∙ ap₂ (λ u v. old.edges ++ lay boolean u v count) from to) adds.added;
       held_with_data = on_answer r

@@ -9,10 +9,9 @@ abbrev pub invariant-loop-path : goal.invariant-loop-path
 invariant-loop-path g l =
     let all = edges_of_paths l.shape.paths.items in
     let rest = edges_of_paths (drop l.path-index l.shape.paths.items) in
-    let value = g.I.OverlayInt.value in
     record {
-      points : l.found.laid.points.items ++ flat_points g.P.CPointOf.at (starts_in value rest) ≡ l.fn.found.laid.points.items ++ flat_points g.P.CPointOf.at (starts_in value all);
-      contours : l.found.laid.contours.items ++ map length (starts_in value rest) ≡ l.fn.found.laid.contours.items ++ map length (starts_in value all);
+      points : l.found.laid.points.items ++ flat_points g.P.CPointOf.at (starts_in rest) ≡ l.fn.found.laid.points.items ++ flat_points g.P.CPointOf.at (starts_in all);
+      contours : l.found.laid.contours.items ++ map length (starts_in rest) ≡ l.fn.found.laid.contours.items ++ map length (starts_in all);
       shapes : l.found.laid.shapes.items ≡ l.fn.found.laid.shapes.items;
       told : l.found.told.items ++ told_by g.D.Datum.told rest ≡ l.fn.found.told.items ++ told_by g.D.Datum.told all;
     }

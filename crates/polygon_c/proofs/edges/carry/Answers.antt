@@ -25,7 +25,7 @@ pub returns-clause-answered : goal.returns-clause-answered
 returns-clause-answered g c = (
   edges_of_shapes c.in_ok-shapes.shapes.items,
   c.in_ok-shapes.ensures.answered,
-  c.in_ok-edges.ensures.laid ∙ ap (λ ss. flat g.P.CPointOf.at (starts_of g.I.OverlayInt.value (edges_of_shapes ss))) c.deref.ensures.value,
+  c.in_ok-edges.ensures.laid ∙ ap (λ ss. flat g.P.CPointOf.at (starts_of (edges_of_shapes ss))) c.deref.ensures.value,
   subst (λ found. MatchOption found (Contains c.deref-2.result.now None) (λ numbers. map Some numbers.items ≡ c.deref-2.result.now)) c.in-Some.is c.in_ok-numbers.ensures
       ∙ (c.deref-2.ensures.value ∙ (c.in_ok-edges.ensures.told ∙ ap (λ ss. numbers_of g.D.Datum.told (edges_of_shapes ss)) c.deref.ensures.value)),
 )

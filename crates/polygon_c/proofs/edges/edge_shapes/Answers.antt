@@ -101,7 +101,7 @@ returns-clause-answered g c =
     let options_are : new.options ≡ r.options = other.options ∙ one.options in
     let solver_is : new.solver ≡ r.solver = other.solver ∙ one.solver in
     if_both c.build_vector_shapes.result
-    (λ shapes are redrawn. carried_overlay g.I.OverlayInt.value join r (given_with join datum g.P.CPointOf.plane contours numbers) g.D.PartialEq.eq
+    (λ shapes are redrawn. carried_overlay g.I.IntNumber.value join r (given_with join datum g.P.CPointOf.plane contours numbers) g.D.PartialEq.eq
     (MayBeTurned g.D.OverlayEdgeData.JOINS g.D.OverlayEdgeData.turns_to) g.met.D.Datum.telling (λ d e t. t.0 g.met.D.Datum.joining) new.options new.solver new.with_data after
     (edges_of_shapes shapes.items) options_are solver_is all redrawn are)
     c.build_vector_shapes.ensures.answered (c.build_vector_shapes.ensures.«data» g.met.D.Datum.joining)

@@ -1,8 +1,8 @@
-use Rattle.std.proofs.Common.{◌≡◌, map, ap, subst, sym, inl, ◌∙◌}
+use Rattle.std.proofs.Common.{◌≡◌, ap, subst, sym, inl, ◌∙◌}
 use Rattle.std.specs.declared.result.Result.TheVariants.{Err}
 use Rattle.std.proofs.lemmas.Result.{err_from_is_err_and}
 use Rattle.plane_base.specs.Flat.{parts}
-use Rattle.plane_base.specs.Views.{point_of, points_of}
+use Rattle.plane_base.specs.Views.{point_of}
 use Rattle.contour_walk.specs.HierarchyViews.{flat_shapes_of}
 use Rattle.contour_walk.specs.ShapeViews.{shapes_of}
 use Rattle.contour_walk.specs.declared.hierarchy.FlatShapeHierarchy.{FlatShapeHierarchy}
@@ -18,8 +18,8 @@ returns-in_err-found-clause-refused g c =
     let r = c.args.request in
     let made = c.in_ok-overlay.overlay in
     let new = c.in_ok-overlay.ensures.made in
-    let subjects = flat_contours g.I.OverlayInt.value c.args.subjects.now in
-    let clips = flat_contours g.I.OverlayInt.value c.args.clips.now in
+    let subjects = flat_contours c.args.subjects.now in
+    let clips = flat_contours c.args.clips.now in
     let why : IsNotAsked r.options.preserve_input_collinear r.solver.precision subjects clips c.in_err-found.field-0.0 =
     not_asked {T = FlatShapeHierarchy g.row.I.Denot} r.options.preserve_input_collinear r.solver.precision subjects clips made.solver made.held.edges new.held made.held.has_failed
     (Err c.in_err-found.field-0.0) (ap (λ s. s.precision) new.solver) new.ready c.in_err-found.ensures.asked.refused in
@@ -37,9 +37,9 @@ returns-clause-answered g c =
     let buffer = c.in_ok-found.found.shapes in
     let points = buffer.points.items in
     let shapes = c.in_ok-shapes.shapes.shapes.items in
-    let same : shapes_of g.I.OverlayInt.value shapes ≡ flat_shapes_of g.I.OverlayInt.value buffer =
-    shapes-paths g.I.OverlayInt.value shapes
-    ∙ (ap (map (map (points_of g.I.OverlayInt.value))) c.in_ok-shapes.ensures.shapes
-    ∙ map-groups (point_of g.I.OverlayInt.value) points (parts buffer.contour_ranges.items buffer.shape_ranges.items)) in
-    nested g.I.OverlayInt.least g.I.OverlayInt.greatest c.args.request (flat_contours g.I.OverlayInt.value c.args.subjects.now) (flat_contours g.I.OverlayInt.value c.args.clips.now) made.options made.solver made.held.edges new.held
-    (flat_shapes_of g.I.OverlayInt.value buffer) (shapes_of g.I.OverlayInt.value shapes) c.in_ok-found.found.links.items new.options new.solver same c.in_ok-found.ensures.answered
+    let same : shapes_of shapes ≡ flat_shapes_of buffer =
+    shapes-paths g.I.IntNumber.value shapes
+    ∙ (c.in_ok-shapes.ensures.shapes
+    ∙ map-groups point_of points (parts buffer.contour_ranges.items buffer.shape_ranges.items)) in
+    nested g.I.OverlayInt.least g.I.OverlayInt.greatest c.args.request (flat_contours c.args.subjects.now) (flat_contours c.args.clips.now) made.options made.solver made.held.edges new.held
+    (flat_shapes_of buffer) (shapes_of shapes) c.in_ok-found.found.links.items new.options new.solver same c.in_ok-found.ensures.answered

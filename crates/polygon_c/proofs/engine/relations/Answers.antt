@@ -13,8 +13,8 @@ use Rattle.polygon_c.proofs.engine.relations.Goals as goal
 pub returns-then-lie_apart-clause-answered : goal.returns-then-lie_apart-clause-answered
 returns-then-lie_apart-clause-answered g c =
     let r = c.args.request in
-    let subjects = flat_contours g.I.OverlayInt.value c.args.subjects.now in
-    let clips = flat_contours g.I.OverlayInt.value c.args.clips.now in
+    let subjects = flat_contours c.args.subjects.now in
+    let clips = flat_contours c.args.clips.now in
     let apart : AreRelated (fill_rule_of r.fill_rule) r.solver.precision only_disjoint subjects clips =
     c.lie_apart.ensures c.if-lie_apart.true (fill_rule_of r.fill_rule) r.solver.precision in
     record { held = apart.held; holds = apart.holds; are = apart.are }
@@ -25,8 +25,8 @@ returns-in_err-relations-clause-refused g c =
     let r = c.args.request in
     let made = c.in_ok-overlay.overlay in
     let new = c.in_ok-overlay.ensures.made in
-    let subjects = flat_contours g.I.OverlayInt.value c.args.subjects.now in
-    let clips = flat_contours g.I.OverlayInt.value c.args.clips.now in
+    let subjects = flat_contours c.args.subjects.now in
+    let clips = flat_contours c.args.clips.now in
     let why : IsNotAsked false r.solver.precision subjects clips c.in_err-relations.field-0.0 =
     not_asked {T = Relations} false r.solver.precision subjects clips made.solver made.held.edges new.held made.held.has_failed
     (Err c.in_err-relations.field-0.0) (ap (λ s. s.precision) new.solver) new.ready c.in_err-relations.ensures.asked.refused in
@@ -36,5 +36,5 @@ pub returns-clause-answered : goal.returns-clause-answered
 returns-clause-answered g c =
     let made = c.in_ok-overlay.overlay in
     let new = c.in_ok-overlay.ensures.made in
-    related c.args.request (flat_contours g.I.OverlayInt.value c.args.subjects.now) (flat_contours g.I.OverlayInt.value c.args.clips.now) made.fill_rule made.solver made.held.edges new.held
+    related c.args.request (flat_contours c.args.subjects.now) (flat_contours c.args.clips.now) made.fill_rule made.solver made.held.edges new.held
     c.in_ok-relations.relations new.fill_rule new.solver c.in_ok-relations.ensures.is

@@ -14,8 +14,8 @@ returns-in_err-shapes-clause-refused g c =
     let r = c.args.request in
     let made = c.in_ok-overlay.overlay in
     let new = c.in_ok-overlay.ensures.made in
-    let subjects = flat_contours g.I.OverlayInt.value c.args.subjects.now in
-    let clips = flat_contours g.I.OverlayInt.value c.args.clips.now in
+    let subjects = flat_contours c.args.subjects.now in
+    let clips = flat_contours c.args.clips.now in
     let why : IsNotAsked r.options.preserve_input_collinear r.solver.precision subjects clips c.in_err-shapes.field-0.0 =
     not_asked {T = IntShapes g.row.I.Denot} r.options.preserve_input_collinear r.solver.precision subjects clips made.solver made.held.edges new.held made.held.has_failed
     (Err c.in_err-shapes.field-0.0) (ap (λ s. s.precision) new.solver) new.ready c.in_err-shapes.ensures.asked.refused in
@@ -25,5 +25,5 @@ pub returns-clause-answered : goal.returns-clause-answered
 returns-clause-answered g c =
     let made = c.in_ok-overlay.overlay in
     let new = c.in_ok-overlay.ensures.made in
-    overlaid g.I.OverlayInt.least g.I.OverlayInt.greatest c.args.request (flat_contours g.I.OverlayInt.value c.args.subjects.now) (flat_contours g.I.OverlayInt.value c.args.clips.now) made.options made.solver made.held.edges new.held
-    (shapes_of g.I.OverlayInt.value c.in_ok-shapes.shapes.shapes.items) new.options new.solver c.in_ok-shapes.ensures.answered c.in_ok-shapes.ensures.alone
+    overlaid g.I.OverlayInt.least g.I.OverlayInt.greatest c.args.request (flat_contours c.args.subjects.now) (flat_contours c.args.clips.now) made.options made.solver made.held.edges new.held
+    (shapes_of c.in_ok-shapes.shapes.shapes.items) new.options new.solver c.in_ok-shapes.ensures.answered c.in_ok-shapes.ensures.alone

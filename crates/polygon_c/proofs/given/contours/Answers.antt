@@ -1,7 +1,7 @@
-use Rattle.std.proofs.Common.{◌≡◌, length, map, All, subst, sym, ap, ◌∙◌, arith}
+use Rattle.std.proofs.Common.{◌≡◌, length, All, subst, sym, ap, ◌∙◌, arith}
 use Rattle.std.proofs.lemmas.List.{length-map}
 use Rattle.plane_base.specs.Flat.{AreRangesOf, parts}
-use Rattle.plane_base.specs.Views.{point_of, points_of}
+use Rattle.plane_base.specs.Views.{point_of}
 use Rattle.plane_base.specs.Plane.{IsWithin}
 use Rattle.polygon_c.specs.Cuts.{cut}
 use Rattle.polygon_c.specs.Given.{plane_points}
@@ -18,9 +18,9 @@ pub returns-clause-cut : goal.returns-clause-cut
 returns-clause-cut g c =
     let points = c.in_ok-engine_points.field-0.items in
     let lengths = c.args.lengths.now in
-    ap (λ rs. map (points_of g.I.OverlayInt.value) (parts points rs)) c.in_ok-ranges.ensures
-    ∙ (ap (map (points_of g.I.OverlayInt.value)) (parts-ranges_of lengths 0 points)
-    ∙ (map-cut (point_of g.I.OverlayInt.value) lengths points ∙ ap (cut lengths) c.in_ok-engine_points.ensures.points))
+    ap (λ rs. (parts points rs)) c.in_ok-ranges.ensures
+    ∙ ((parts-ranges_of lengths 0 points)
+    ∙ (map-cut point_of lengths points ∙ ap (cut lengths) c.in_ok-engine_points.ensures.points))
 
 pub returns-clause-in_range : goal.returns-clause-in_range
 returns-clause-in_range g c =

@@ -13,7 +13,7 @@ returns-in_err-found-clause-refused g c =
     let asked = c.in_ok-asked.asked in
     let is = c.in_ok-asked.ensures in
     let both = given c.args.subject.now c.args.subject_lengths.now c.args.clip.now c.args.clip_lengths.now in
-    rw p.1 (refused_by g.P.CPointOf.plane g.I.OverlayInt.least g.I.OverlayInt.greatest IsNotOverlaid c.args.query.now both asked.request (flat_contours g.I.OverlayInt.value asked.subjects) (flat_contours g.I.OverlayInt.value asked.clips) c.in_err-found.field-0.0 p.0
+    rw p.1 (refused_by g.P.CPointOf.plane g.I.OverlayInt.least g.I.OverlayInt.greatest IsNotOverlaid c.args.query.now both asked.request (flat_contours asked.subjects) (flat_contours asked.clips) c.in_err-found.field-0.0 p.0
     is.passes is.subjects.are is.clips.are c.in_err-found.ensures.refused p.2)
 
 pub returns-in_err-laid-clause-refused : goal.returns-in_err-laid-clause-refused
@@ -33,9 +33,9 @@ returns-clause-answered g c =
     let asked = c.in_ok-asked.asked in
     let is = c.in_ok-asked.ensures in
     let both = given c.args.subject.now c.args.subject_lengths.now c.args.clip.now c.args.clip_lengths.now in
-    let subjects = flat_contours g.I.OverlayInt.value asked.subjects in
-    let clips = flat_contours g.I.OverlayInt.value asked.clips in
-    let shapes = shapes_of g.I.OverlayInt.value c.in_ok-found.found.shapes.shapes.items in
+    let subjects = flat_contours asked.subjects in
+    let clips = flat_contours asked.clips in
+    let shapes = shapes_of c.in_ok-found.found.shapes.shapes.items in
     let links = c.in_ok-found.found.links.items in
     let nested = of_given (λ r ss cs found. IsHierarchyOf g.I.OverlayInt.least g.I.OverlayInt.greatest r ss cs found links) g.P.CPointOf.plane both asked.request subjects clips shapes is.subjects.are is.clips.are
     c.in_ok-found.ensures.answered in

@@ -9,7 +9,7 @@ invariant-loop-contour g l =
     let all = l.shape.contours.items in
     let rest = drop l.contour-index all in
     record {
-      points : l.laid.points.items ++ flat_points g.P.CPointOf.at (contours_of g.I.OverlayInt.value rest) ≡ l.fn.laid.points.items ++ flat_points g.P.CPointOf.at (contours_of g.I.OverlayInt.value all);
-      contours : l.laid.contours.items ++ map length (contours_of g.I.OverlayInt.value rest) ≡ l.fn.laid.contours.items ++ map length (contours_of g.I.OverlayInt.value all);
+      points : l.laid.points.items ++ flat_points g.P.CPointOf.at (contours_of rest) ≡ l.fn.laid.points.items ++ flat_points g.P.CPointOf.at (contours_of all);
+      contours : l.laid.contours.items ++ map length (contours_of rest) ≡ l.fn.laid.contours.items ++ map length (contours_of all);
       shapes : l.laid.shapes.items ≡ l.fn.laid.shapes.items;
     }

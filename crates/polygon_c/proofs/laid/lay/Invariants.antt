@@ -10,7 +10,7 @@ invariant-loop-shape g l =
     let all = l.shapes.shapes.items in
     let rest = drop l.shape-index all in
     record {
-      points : l.laid.points.items ++ flat_points g.P.CPointOf.at (all_contours (shapes_of g.I.OverlayInt.value rest)) ≡ flat_points g.P.CPointOf.at (all_contours (shapes_of g.I.OverlayInt.value all));
-      contours : l.laid.contours.items ++ map length (all_contours (shapes_of g.I.OverlayInt.value rest)) ≡ map length (all_contours (shapes_of g.I.OverlayInt.value all));
-      shapes : l.laid.shapes.items ++ map length (shapes_of g.I.OverlayInt.value rest) ≡ map length (shapes_of g.I.OverlayInt.value all);
+      points : l.laid.points.items ++ flat_points g.P.CPointOf.at (all_contours (shapes_of rest)) ≡ flat_points g.P.CPointOf.at (all_contours (shapes_of all));
+      contours : l.laid.contours.items ++ map length (all_contours (shapes_of rest)) ≡ map length (all_contours (shapes_of all));
+      shapes : l.laid.shapes.items ++ map length (shapes_of rest) ≡ map length (shapes_of all);
     }

@@ -9,7 +9,7 @@ invariant-loop-path g l =
     let all = l.paths in
     let rest = drop l.path-index all in
     record {
-      points : l.laid.points.items ++ flat_points g.P.CPointOf.at (contours_of g.I.OverlayInt.value rest) ≡ flat_points g.P.CPointOf.at (contours_of g.I.OverlayInt.value all);
-      contours : l.laid.contours.items ++ map length (contours_of g.I.OverlayInt.value rest) ≡ map length (contours_of g.I.OverlayInt.value all);
+      points : l.laid.points.items ++ flat_points g.P.CPointOf.at (contours_of rest) ≡ flat_points g.P.CPointOf.at (contours_of all);
+      contours : l.laid.contours.items ++ map length (contours_of rest) ≡ map length (contours_of all);
       shapes : l.laid.shapes.items ≡ [];
     }

@@ -11,6 +11,6 @@ abbrev pub invariant-loop-group : goal.invariant-loop-group
 invariant-loop-group g l = record {
   options : l.builder.options ≡ l.request.options;
   solver : l.builder.solver ≡ l.request.solver;
-  answered : (all : List (List (List (List Point)))) × AreOverlaysOf g.I.OverlayInt.least g.I.OverlayInt.greatest l.request (flat_contours g.I.OverlayInt.value l.subjects) (shapes_of g.I.OverlayInt.value (take l.group-index l.groups)) all
-      × (shapes_of g.I.OverlayInt.value l.shapes.items ≡ flat_map (λ shapes. shapes) all) × (l.overlays.items ≡ map length all);
+  answered : (all : List (List (List (List Point)))) × AreOverlaysOf g.I.OverlayInt.least g.I.OverlayInt.greatest l.request (flat_contours l.subjects) (shapes_of (take l.group-index l.groups)) all
+      × (shapes_of l.shapes.items ≡ flat_map (λ shapes. shapes) all) × (l.overlays.items ≡ map length all);
 }

@@ -12,7 +12,7 @@ returns-in_err-shapes-clause-refused g c =
     let asked = c.in_ok-asked.asked in
     let is = c.in_ok-asked.ensures in
     let both = given c.args.subject.now c.args.subject_lengths.now c.args.clip.now c.args.clip_lengths.now in
-    rw p.1 (refused_by g.P.CPointOf.plane g.I.OverlayInt.least g.I.OverlayInt.greatest IsNotOverlaid c.args.query.now both asked.request (flat_contours g.I.OverlayInt.value asked.subjects) (flat_contours g.I.OverlayInt.value asked.clips) c.in_err-shapes.field-0.0 p.0
+    rw p.1 (refused_by g.P.CPointOf.plane g.I.OverlayInt.least g.I.OverlayInt.greatest IsNotOverlaid c.args.query.now both asked.request (flat_contours asked.subjects) (flat_contours asked.clips) c.in_err-shapes.field-0.0 p.0
     is.passes is.subjects.are is.clips.are c.in_err-shapes.ensures.refused p.2)
 
 pub returns-in_err-lay-clause-refused : goal.returns-in_err-lay-clause-refused
@@ -26,9 +26,9 @@ returns-clause-answered g c =
     let asked = c.in_ok-asked.asked in
     let is = c.in_ok-asked.ensures in
     let both = given c.args.subject.now c.args.subject_lengths.now c.args.clip.now c.args.clip_lengths.now in
-    let subjects = flat_contours g.I.OverlayInt.value asked.subjects in
-    let clips = flat_contours g.I.OverlayInt.value asked.clips in
-    let shapes = shapes_of g.I.OverlayInt.value c.in_ok-shapes.shapes.shapes.items in (
+    let subjects = flat_contours asked.subjects in
+    let clips = flat_contours asked.clips in
+    let shapes = shapes_of c.in_ok-shapes.shapes.shapes.items in (
       asked.request,
       is.passes,
       (

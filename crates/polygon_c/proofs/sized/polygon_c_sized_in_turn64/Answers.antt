@@ -1,4 +1,4 @@
-use Rattle.std.proofs.Common.{[], refl, subst, inl, inr}
+use Rattle.std.proofs.Common.{[], refl, inl, inr}
 use Rattle.std.specs.Int.{w64}
 use Rattle.std.specs.Prelude.{pos, negsuc}
 use Rattle.std.proofs.lemmas.Int.{to_z-of_z}

@@ -16,9 +16,9 @@ returns-then-not-are_rectilinear-clause-refused g c =
     let is = c.in_ok-asked.ensures in
     let alone = given c.args.subject.now c.args.subject_lengths.now [] [] in
     is_slanted g.P.CPointOf.plane g.I.OverlayInt.least g.I.OverlayInt.greatest (Fits g.I.OverlayInt.least g.I.OverlayInt.greatest
-    (amounts_of g.I.OverlayInt.value c.args.by)) (IsSizingRefused g.I.OverlayInt.least g.I.OverlayInt.greatest (amounts_of g.I.OverlayInt.value c.args.by))
+    (amounts_of g.I.IntNumber.value c.args.by)) (IsSizingRefused g.I.OverlayInt.least g.I.OverlayInt.greatest (amounts_of g.I.IntNumber.value c.args.by))
     c.args.query.now alone asked.request
-    (flat_contours g.I.OverlayInt.value asked.subjects) is.passes is.subjects.are
+    (flat_contours asked.subjects) is.passes is.subjects.are
     (λ straight. false≢true (sym c.if-not-are_rectilinear.true ∙ c.are_rectilinear.ensures.1 straight))
 
 pub returns-then-not-fits-clause-refused : goal.returns-then-not-fits-clause-refused
@@ -27,9 +27,9 @@ returns-then-not-fits-clause-refused g c =
     let is = c.in_ok-asked.ensures in
     let alone = given c.args.subject.now c.args.subject_lengths.now [] [] in
     fits_not g.P.CPointOf.plane g.I.OverlayInt.least g.I.OverlayInt.greatest (Fits g.I.OverlayInt.least g.I.OverlayInt.greatest
-    (amounts_of g.I.OverlayInt.value c.args.by)) (IsSizingRefused g.I.OverlayInt.least g.I.OverlayInt.greatest (amounts_of g.I.OverlayInt.value c.args.by))
+    (amounts_of g.I.IntNumber.value c.args.by)) (IsSizingRefused g.I.OverlayInt.least g.I.OverlayInt.greatest (amounts_of g.I.IntNumber.value c.args.by))
     c.args.query.now alone asked.request
-    (flat_contours g.I.OverlayInt.value asked.subjects) is.passes is.subjects.are (c.are_rectilinear.ensures.0 c.if-not-are_rectilinear.false)
+    (flat_contours asked.subjects) is.passes is.subjects.are (c.are_rectilinear.ensures.0 c.if-not-are_rectilinear.false)
     (λ fit. false≢true (sym c.if-not-fits.true ∙ c.fits.ensures.1 fit))
 
 pub returns-in_err-shapes-clause-refused : goal.returns-in_err-shapes-clause-refused
@@ -39,9 +39,9 @@ returns-in_err-shapes-clause-refused g c =
     let is = c.in_ok-asked.ensures in
     let alone = given c.args.subject.now c.args.subject_lengths.now [] [] in
     rw p.1 (untold g.P.CPointOf.plane g.I.OverlayInt.least g.I.OverlayInt.greatest
-    (Fits g.I.OverlayInt.least g.I.OverlayInt.greatest (amounts_of g.I.OverlayInt.value c.args.by))
-    (IsSizingRefused g.I.OverlayInt.least g.I.OverlayInt.greatest (amounts_of g.I.OverlayInt.value c.args.by)) c.args.query.now alone
-    asked.request (flat_contours g.I.OverlayInt.value asked.subjects) is.passes is.subjects.are
+    (Fits g.I.OverlayInt.least g.I.OverlayInt.greatest (amounts_of g.I.IntNumber.value c.args.by))
+    (IsSizingRefused g.I.OverlayInt.least g.I.OverlayInt.greatest (amounts_of g.I.IntNumber.value c.args.by)) c.args.query.now alone
+    asked.request (flat_contours asked.subjects) is.passes is.subjects.are
     (c.are_rectilinear.ensures.0 c.if-not-are_rectilinear.false) (c.fits.ensures.0 c.if-not-fits.false)
     c.in_err-shapes.field-0.0 p.0 c.in_err-shapes.ensures.refused p.2)
 
@@ -49,7 +49,7 @@ pub returns-in_err-lay-clause-refused : goal.returns-in_err-lay-clause-refused
 returns-in_err-lay-clause-refused g c =
     let p = err_from_is_err_and c.from_residual-in_err-lay.result c.from_residual-in_err-lay.ensures.1 in
     let alone = given c.args.subject.now c.args.subject_lengths.now [] [] in
-    rw p.1 (subst (IsNotResized g.P.CPointOf.plane g.I.OverlayInt.least g.I.OverlayInt.greatest (amounts_of g.I.OverlayInt.value c.args.by) c.args.query.now
+    rw p.1 (subst (IsNotResized g.P.CPointOf.plane g.I.OverlayInt.least g.I.OverlayInt.greatest (amounts_of g.I.IntNumber.value c.args.by) c.args.query.now
     alone)
     (sym p.2) (inl (c.in_ok-asked.asked.request, c.in_ok-asked.ensures.passes)))
 
@@ -59,9 +59,9 @@ returns-clause-answered g c =
     let is = c.in_ok-asked.ensures in
     let alone = given c.args.subject.now c.args.subject_lengths.now [] [] in
     told g.P.CPointOf.plane g.I.OverlayInt.least g.I.OverlayInt.greatest (Fits g.I.OverlayInt.least g.I.OverlayInt.greatest
-    (amounts_of g.I.OverlayInt.value c.args.by)) (IsSizingRefused g.I.OverlayInt.least g.I.OverlayInt.greatest (amounts_of g.I.OverlayInt.value c.args.by))
+    (amounts_of g.I.IntNumber.value c.args.by)) (IsSizingRefused g.I.OverlayInt.least g.I.OverlayInt.greatest (amounts_of g.I.IntNumber.value c.args.by))
     c.args.query.now alone asked.request
-    (flat_contours g.I.OverlayInt.value asked.subjects) is.passes is.subjects.are g.P.CPointOf.at
-    (IsSizingOf g.I.OverlayInt.least g.I.OverlayInt.greatest (amounts_of g.I.OverlayInt.value c.args.by))
+    (flat_contours asked.subjects) is.passes is.subjects.are g.P.CPointOf.at
+    (IsSizingOf g.I.OverlayInt.least g.I.OverlayInt.greatest (amounts_of g.I.IntNumber.value c.args.by))
     (c.are_rectilinear.ensures.0 c.if-not-are_rectilinear.false) (c.fits.ensures.0 c.if-not-fits.false)
-    (shapes_of g.I.OverlayInt.value c.in_ok-shapes.shapes.shapes.items) c.in_ok-shapes.ensures.answered (lists_of c.in_ok-lay.field-0) c.in_ok-lay.ensures
+    (shapes_of c.in_ok-shapes.shapes.shapes.items) c.in_ok-shapes.ensures.answered (lists_of c.in_ok-lay.field-0) c.in_ok-lay.ensures

@@ -16,10 +16,10 @@ returns-then-not-are_rectilinear-clause-refused g c =
     let is = c.in_ok-asked.ensures in
     let alone = given c.args.subject.now c.args.subject_lengths.now [] [] in
     is_slanted g.P.CPointOf.plane g.I.OverlayInt.least g.I.OverlayInt.greatest (FitsInTurn g.I.OverlayInt.least g.I.OverlayInt.greatest
-    (amounts_of g.I.OverlayInt.value c.args.first) (amounts_of g.I.OverlayInt.value c.args.second))
-    (IsSizingInTurnRefused g.I.OverlayInt.least g.I.OverlayInt.greatest (amounts_of g.I.OverlayInt.value c.args.first)
-    (amounts_of g.I.OverlayInt.value c.args.second)) c.args.query.now alone asked.request
-    (flat_contours g.I.OverlayInt.value asked.subjects) is.passes is.subjects.are
+    (amounts_of g.I.IntNumber.value c.args.first) (amounts_of g.I.IntNumber.value c.args.second))
+    (IsSizingInTurnRefused g.I.OverlayInt.least g.I.OverlayInt.greatest (amounts_of g.I.IntNumber.value c.args.first)
+    (amounts_of g.I.IntNumber.value c.args.second)) c.args.query.now alone asked.request
+    (flat_contours asked.subjects) is.passes is.subjects.are
     (λ straight. false≢true (sym c.if-not-are_rectilinear.true ∙ c.are_rectilinear.ensures.1 straight))
 
 pub returns-then-not-fits_in_turn-clause-refused : goal.returns-then-not-fits_in_turn-clause-refused
@@ -28,10 +28,10 @@ returns-then-not-fits_in_turn-clause-refused g c =
     let is = c.in_ok-asked.ensures in
     let alone = given c.args.subject.now c.args.subject_lengths.now [] [] in
     fits_not g.P.CPointOf.plane g.I.OverlayInt.least g.I.OverlayInt.greatest (FitsInTurn g.I.OverlayInt.least g.I.OverlayInt.greatest
-    (amounts_of g.I.OverlayInt.value c.args.first) (amounts_of g.I.OverlayInt.value c.args.second))
-    (IsSizingInTurnRefused g.I.OverlayInt.least g.I.OverlayInt.greatest (amounts_of g.I.OverlayInt.value c.args.first)
-    (amounts_of g.I.OverlayInt.value c.args.second)) c.args.query.now alone asked.request
-    (flat_contours g.I.OverlayInt.value asked.subjects) is.passes is.subjects.are (c.are_rectilinear.ensures.0 c.if-not-are_rectilinear.false)
+    (amounts_of g.I.IntNumber.value c.args.first) (amounts_of g.I.IntNumber.value c.args.second))
+    (IsSizingInTurnRefused g.I.OverlayInt.least g.I.OverlayInt.greatest (amounts_of g.I.IntNumber.value c.args.first)
+    (amounts_of g.I.IntNumber.value c.args.second)) c.args.query.now alone asked.request
+    (flat_contours asked.subjects) is.passes is.subjects.are (c.are_rectilinear.ensures.0 c.if-not-are_rectilinear.false)
     (λ fit. false≢true (sym c.if-not-fits_in_turn.true ∙ c.fits_in_turn.ensures.1 fit))
 
 pub returns-in_err-shapes-clause-refused : goal.returns-in_err-shapes-clause-refused
@@ -41,10 +41,10 @@ returns-in_err-shapes-clause-refused g c =
     let is = c.in_ok-asked.ensures in
     let alone = given c.args.subject.now c.args.subject_lengths.now [] [] in
     rw p.1 (untold g.P.CPointOf.plane g.I.OverlayInt.least g.I.OverlayInt.greatest
-    (FitsInTurn g.I.OverlayInt.least g.I.OverlayInt.greatest (amounts_of g.I.OverlayInt.value c.args.first) (amounts_of g.I.OverlayInt.value c.args.second))
-    (IsSizingInTurnRefused g.I.OverlayInt.least g.I.OverlayInt.greatest (amounts_of g.I.OverlayInt.value c.args.first)
-    (amounts_of g.I.OverlayInt.value c.args.second)) c.args.query.now alone
-    asked.request (flat_contours g.I.OverlayInt.value asked.subjects) is.passes is.subjects.are
+    (FitsInTurn g.I.OverlayInt.least g.I.OverlayInt.greatest (amounts_of g.I.IntNumber.value c.args.first) (amounts_of g.I.IntNumber.value c.args.second))
+    (IsSizingInTurnRefused g.I.OverlayInt.least g.I.OverlayInt.greatest (amounts_of g.I.IntNumber.value c.args.first)
+    (amounts_of g.I.IntNumber.value c.args.second)) c.args.query.now alone
+    asked.request (flat_contours asked.subjects) is.passes is.subjects.are
     (c.are_rectilinear.ensures.0 c.if-not-are_rectilinear.false) (c.fits_in_turn.ensures.0 c.if-not-fits_in_turn.false)
     c.in_err-shapes.field-0.0 p.0 c.in_err-shapes.ensures.refused p.2)
 
@@ -52,8 +52,8 @@ pub returns-in_err-lay-clause-refused : goal.returns-in_err-lay-clause-refused
 returns-in_err-lay-clause-refused g c =
     let p = err_from_is_err_and c.from_residual-in_err-lay.result c.from_residual-in_err-lay.ensures.1 in
     let alone = given c.args.subject.now c.args.subject_lengths.now [] [] in
-    rw p.1 (subst (IsNotResizedInTurn g.P.CPointOf.plane g.I.OverlayInt.least g.I.OverlayInt.greatest (amounts_of g.I.OverlayInt.value c.args.first)
-    (amounts_of g.I.OverlayInt.value c.args.second) c.args.query.now alone)
+    rw p.1 (subst (IsNotResizedInTurn g.P.CPointOf.plane g.I.OverlayInt.least g.I.OverlayInt.greatest (amounts_of g.I.IntNumber.value c.args.first)
+    (amounts_of g.I.IntNumber.value c.args.second) c.args.query.now alone)
     (sym p.2) (inl (c.in_ok-asked.asked.request, c.in_ok-asked.ensures.passes)))
 
 pub returns-clause-answered : goal.returns-clause-answered
@@ -62,11 +62,11 @@ returns-clause-answered g c =
     let is = c.in_ok-asked.ensures in
     let alone = given c.args.subject.now c.args.subject_lengths.now [] [] in
     told g.P.CPointOf.plane g.I.OverlayInt.least g.I.OverlayInt.greatest (FitsInTurn g.I.OverlayInt.least g.I.OverlayInt.greatest
-    (amounts_of g.I.OverlayInt.value c.args.first) (amounts_of g.I.OverlayInt.value c.args.second))
-    (IsSizingInTurnRefused g.I.OverlayInt.least g.I.OverlayInt.greatest (amounts_of g.I.OverlayInt.value c.args.first)
-    (amounts_of g.I.OverlayInt.value c.args.second)) c.args.query.now alone asked.request
-    (flat_contours g.I.OverlayInt.value asked.subjects) is.passes is.subjects.are g.P.CPointOf.at
-    (IsSizingInTurnOf g.I.OverlayInt.least g.I.OverlayInt.greatest (amounts_of g.I.OverlayInt.value c.args.first)
-    (amounts_of g.I.OverlayInt.value c.args.second))
+    (amounts_of g.I.IntNumber.value c.args.first) (amounts_of g.I.IntNumber.value c.args.second))
+    (IsSizingInTurnRefused g.I.OverlayInt.least g.I.OverlayInt.greatest (amounts_of g.I.IntNumber.value c.args.first)
+    (amounts_of g.I.IntNumber.value c.args.second)) c.args.query.now alone asked.request
+    (flat_contours asked.subjects) is.passes is.subjects.are g.P.CPointOf.at
+    (IsSizingInTurnOf g.I.OverlayInt.least g.I.OverlayInt.greatest (amounts_of g.I.IntNumber.value c.args.first)
+    (amounts_of g.I.IntNumber.value c.args.second))
     (c.are_rectilinear.ensures.0 c.if-not-are_rectilinear.false) (c.fits_in_turn.ensures.0 c.if-not-fits_in_turn.false)
-    (shapes_of g.I.OverlayInt.value c.in_ok-shapes.shapes.shapes.items) c.in_ok-shapes.ensures.answered (lists_of c.in_ok-lay.field-0) c.in_ok-lay.ensures
+    (shapes_of c.in_ok-shapes.shapes.shapes.items) c.in_ok-shapes.ensures.answered (lists_of c.in_ok-lay.field-0) c.in_ok-lay.ensures

@@ -15,7 +15,7 @@ returns-in_err-pieces-clause-refused g c =
     let asked = c.in_ok-asked.asked in
     let is = c.in_ok-asked.ensures in
     let both = given c.args.shape.now c.args.shape_lengths.now c.args.lines.now c.args.line_lengths.now in
-    rw p.1 (refused_by g.P.CPointOf.plane g.I.OverlayInt.least g.I.OverlayInt.greatest IsNotSliced c.args.query.now both asked.request (flat_contours g.I.OverlayInt.value asked.subjects) (flat_contours g.I.OverlayInt.value asked.clips) c.in_err-pieces.field-0.0 p.0
+    rw p.1 (refused_by g.P.CPointOf.plane g.I.OverlayInt.least g.I.OverlayInt.greatest IsNotSliced c.args.query.now both asked.request (flat_contours asked.subjects) (flat_contours asked.clips) c.in_err-pieces.field-0.0 p.0
     is.passes is.subjects.are is.clips.are c.in_err-pieces.ensures.refused p.2)
 
 pub returns-in_err-lay-clause-refused : goal.returns-in_err-lay-clause-refused
@@ -29,9 +29,9 @@ returns-clause-answered g c =
     let asked = c.in_ok-asked.asked in
     let is = c.in_ok-asked.ensures in
     let both = given c.args.shape.now c.args.shape_lengths.now c.args.lines.now c.args.line_lengths.now in
-    let subjects = flat_contours g.I.OverlayInt.value asked.subjects in
-    let clips = flat_contours g.I.OverlayInt.value asked.clips in
-    let shapes = shapes_of g.I.OverlayInt.value c.in_ok-pieces.pieces.shapes.items in (
+    let subjects = flat_contours asked.subjects in
+    let clips = flat_contours asked.clips in
+    let shapes = shapes_of c.in_ok-pieces.pieces.shapes.items in (
       asked.request,
       is.passes,
       (

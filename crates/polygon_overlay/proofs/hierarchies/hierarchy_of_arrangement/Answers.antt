@@ -6,18 +6,18 @@ use Rattle.polygon_overlay.proofs.hierarchies.hierarchy_of_arrangement.Goals as 
 
 pub extract_shape_hierarchy-requires : goal.extract_shape_hierarchy-requires
 extract_shape_hierarchy-requires g c =
-    record { graph = (fill_rule_of c.args.query.fill_rule, entries_of g.I.OverlayInt.value c.args.segments.now, c.requires.arrangement, inr c.in_ok-graph.ensures.links) }
+    record { graph = (fill_rule_of c.args.query.fill_rule, entries_of c.args.segments.now, c.requires.arrangement, inr c.in_ok-graph.ensures.links) }
 
 pub returns-clause-answer : goal.returns-clause-answer
 returns-clause-answer g c =
     if_answered c.extract_shape_hierarchy.result
-    (λ shapes is. is (fill_rule_of c.args.query.fill_rule) (entries_of g.I.OverlayInt.value c.args.segments.now) (inr c.in_ok-graph.ensures.links))
+    (λ shapes is. is (fill_rule_of c.args.query.fill_rule) (entries_of c.args.segments.now) (inr c.in_ok-graph.ensures.links))
     c.extract_shape_hierarchy.ensures.shapes
 
 pub returns-clause-links : goal.returns-clause-links
 returns-clause-links g c =
     if_answered c.extract_shape_hierarchy.result
-    (λ found is. is (fill_rule_of c.args.query.fill_rule) (entries_of g.I.OverlayInt.value c.args.segments.now) (inr c.in_ok-graph.ensures.links))
+    (λ found is. is (fill_rule_of c.args.query.fill_rule) (entries_of c.args.segments.now) (inr c.in_ok-graph.ensures.links))
     c.extract_shape_hierarchy.ensures.links
 
 pub returns-clause-refused : goal.returns-clause-refused

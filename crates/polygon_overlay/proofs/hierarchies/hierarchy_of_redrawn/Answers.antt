@@ -22,14 +22,13 @@ hierarchy_of_arrangement-found-requires-clause-arrangement g c = subst IsArrange
 -- the map that was swept is the redrawn one
 pub returns-in-Ok-clause-answered : goal.returns-in-Ok-clause-answered
 returns-in-Ok-clause-answered g c before was same_map =
-    let value = g.I.OverlayInt.value in
     let precision = c.args.query.solver.precision in
     let fill = fill_rule_of c.args.query.fill_rule in
     let rule = overlay_rule_of c.args.query.overlay_rule in
     let o = answering_of c.args.query.options in
-    let shapes = flat_shapes_of value c.in-Ok.hierarchy.shapes in
-    let same : entries_of value c.segments.result.now ≡ redrawn_of precision before = c.segments.ensures.is ∙ same_map in
-    let few : length (redrawn_of precision before) < 2 ^ 31 = omega (arith, ap length same, length-map c.segments.result.now (entry_of value), c.segments.ensures.few) in
+    let shapes = flat_shapes_of c.in-Ok.hierarchy.shapes in
+    let same : entries_of c.segments.result.now ≡ redrawn_of precision before = c.segments.ensures.is ∙ same_map in
+    let few : length (redrawn_of precision before) < 2 ^ 31 = omega (arith, ap length same, length-map c.segments.result.now entry_of, c.segments.ensures.few) in
     record {
       answered = c.answers_are_overlays.ensures g.I.OverlayInt.least g.I.OverlayInt.greatest o fill rule precision before shapes was few
           (c.in-Ok.ensures.answer ∙ ap (λ es. answer_with o (borders fill rule es)) same);

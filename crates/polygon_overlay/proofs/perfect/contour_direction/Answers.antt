@@ -1,6 +1,5 @@
-use Rattle.std.proofs.Common.{◌≡◌, Bool, not, cond, refl, sym, ap, ap₂, ◌∙◌}
+use Rattle.std.proofs.Common.{not, cond, refl, sym, ap, ap₂, ◌∙◌}
 use Rattle.plane_base.specs.Areas.{area}
-use Rattle.plane_base.specs.Views.{points_of}
 use Rattle.segment_arrangement.specs.RuleViews.{fill_rule_of}
 use Rattle.contour_walk.specs.ShapeViews.{is_clockwise}
 use Rattle.polygon_overlay.specs.declared.perfect.ContourFillDirection.TheVariants.{Reverse, Correct, Empty}
@@ -9,7 +8,7 @@ use Rattle.polygon_overlay.proofs.perfect.contour_direction.Goals as goal
 
 pub returns-then-not-fills_inside : goal.returns-then-not-fills_inside
 returns-then-not-fills_inside g c =
-    let points = points_of g.I.OverlayInt.value c.args.points.now in
+    let points = c.args.points.now in
     let b = c.is_clockwise_ordered-runs_clockwise.result in
     let so = cond (is_clockwise c.args.output_direction) b (not b) in
     ap (λ f. cond f (cond so Correct Reverse) Empty) (sym c.if-not-fills_inside.true)
@@ -19,7 +18,7 @@ returns-then-not-fills_inside g c =
 
 pub returns-then-runs_in : goal.returns-then-runs_in
 returns-then-runs_in g c =
-    let points = points_of g.I.OverlayInt.value c.args.points.now in
+    let points = c.args.points.now in
     let b = c.is_clockwise_ordered-runs_clockwise.result in
     ap₂ (λ f s. cond f (cond s Correct Reverse) Empty) (sym c.if-not-fills_inside.false) (sym c.if-runs_in.true)
     ∙ direction_by (is_clockwise c.args.output_direction) (fill_rule_of c.args.fill_rule) points b c.fills_inside.result c.runs_in.result
@@ -28,7 +27,7 @@ returns-then-runs_in g c =
 
 pub returns : goal.returns
 returns g c =
-    let points = points_of g.I.OverlayInt.value c.args.points.now in
+    let points = c.args.points.now in
     let b = c.is_clockwise_ordered-runs_clockwise.result in
     ap₂ (λ f s. cond f (cond s Correct Reverse) Empty) (sym c.if-not-fills_inside.false) (sym c.if-runs_in.false)
     ∙ direction_by (is_clockwise c.args.output_direction) (fill_rule_of c.args.fill_rule) points b c.fills_inside.result c.runs_in.result

@@ -5,14 +5,14 @@ use Rattle.polygon_overlay.proofs.point_box.greater.Goals as goal
 
 pub returns-then-is_less-clause-first : goal.returns-then-is_less-clause-first
 returns-then-is_less-clause-first g c =
-    less_is_at_most (g.I.OverlayInt.value c.args.a) (g.I.OverlayInt.value c.args.b) (sym c.is_less.ensures ∙ c.if-is_less.true)
+    less_is_at_most (g.I.IntNumber.value c.args.a) (g.I.IntNumber.value c.args.b) (sym c.is_less.ensures ∙ c.if-is_less.true)
 
 pub returns-then-is_less-clause-second : goal.returns-then-is_less-clause-second
-returns-then-is_less-clause-second g c = at_most_itself (g.I.OverlayInt.value c.args.b)
+returns-then-is_less-clause-second g c = at_most_itself (g.I.IntNumber.value c.args.b)
 
 pub returns-clause-first : goal.returns-clause-first
-returns-clause-first g c = at_most_itself (g.I.OverlayInt.value c.args.a)
+returns-clause-first g c = at_most_itself (g.I.IntNumber.value c.args.a)
 
 pub returns-clause-second : goal.returns-clause-second
 returns-clause-second g c =
-    lt_tells_not (g.I.OverlayInt.value c.args.a) (g.I.OverlayInt.value c.args.b) (sym c.is_less.ensures ∙ c.if-is_less.false)
+    lt_tells_not (g.I.IntNumber.value c.args.a) (g.I.IntNumber.value c.args.b) (sym c.is_less.ensures ∙ c.if-is_less.false)

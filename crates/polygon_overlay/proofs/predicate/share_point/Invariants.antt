@@ -1,12 +1,11 @@
 use Rattle.std.proofs.Common.{◌≡◌, ◌+◌, ◌-◌, ◌≤◌, length, drop}
-use Rattle.plane_base.specs.Views.{points_of}
 use Rattle.polygon_overlay.specs.Predicates.{share_point}
 use Rattle.polygon_overlay.proofs.predicate.share_point.Given as goal
 
 abbrev pub invariant-loop-i : goal.invariant-loop-i
 invariant-loop-i g l =
-    let value = g.I.OverlayInt.value in record {
-      same : share_point (points_of value l.ps) (points_of value l.qs) ≡ share_point (drop l.i (points_of value l.ps)) (drop l.j (points_of value l.qs));
+    let value = g.I.IntNumber.value in record {
+      same : share_point l.ps l.qs ≡ share_point (drop l.i l.ps) (drop l.j l.qs);
       first : l.i ≤ length l.ps;
       second : l.j ≤ length l.qs;
     }

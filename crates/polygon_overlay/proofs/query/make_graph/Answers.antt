@@ -61,5 +61,5 @@ returns-in-Ok-clause-arrangement g c = subst IsArrangement (ap (λ h. h.edges) c
 pub returns-in-Ok-clause-empty : goal.returns-in-Ok-clause-empty
 returns-in-Ok-clause-empty g c =
     let after = c.segments-in-Ok.result.now in
-    none_left (entry_of g.I.OverlayInt.value) after (redrawn_of c.args.solver.now.precision c.args.held.now.edges) (length after) c.is_empty.result
+    none_left entry_of after (redrawn_of c.args.solver.now.precision c.args.held.now.edges) (length after) c.is_empty.result
     c.is_empty.ensures refl (c.segments-in-Ok.ensures.is ∙ ap (λ h. h.edges) c.in_ok-redraw.ensures.redrawn)

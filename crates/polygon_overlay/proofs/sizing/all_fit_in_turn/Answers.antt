@@ -1,36 +1,35 @@
 use Rattle.std.proofs.Common.{◌∙◌, refl, sym, subst, All, arith}
 use Rattle.std.proofs.lemmas.Bool.{false≢true}
 use Rattle.std.proofs.lemmas.List.{take_all}
-use Rattle.plane_base.specs.Views.{point_of, points_of}
-use Rattle.plane_base.proofs.Facts.Lists.Taken.{All-taken_more}
-use Rattle.plane_base.proofs.Facts.Lists.Views.{All-mapped}
+use Rattle.plane_base.proofs.Facts.Lists.Taken.{All_more}
+use Rattle.plane_base.proofs.Facts.Lists.Views.{All_at}
 use Rattle.polygon_overlay.specs.SizingCalls.{StaysInTurn}
 use Rattle.polygon_overlay.specs.SizingViews.{amounts_of}
 use Rattle.polygon_overlay.proofs.sizing.all_fit_in_turn.Goals as goal
 
 pub returns-then-not-stays_in_turn : goal.returns-then-not-stays_in_turn
 returns-then-not-stays_in_turn g c =
-    let Stays = StaysInTurn g.I.OverlayInt.least g.I.OverlayInt.greatest (amounts_of g.I.OverlayInt.value c.args.first)
-    (amounts_of g.I.OverlayInt.value c.args.second) in (
+    let Stays = StaysInTurn g.I.OverlayInt.least g.I.OverlayInt.greatest (amounts_of g.I.IntNumber.value c.args.first)
+    (amounts_of g.I.IntNumber.value c.args.second) in (
       λ up. absurd (false≢true up),
       λ all. sym c.if-not-stays_in_turn.true
           ∙ c.stays_in_turn.ensures.1
-          (All-mapped Stays (point_of g.I.OverlayInt.value) c.args.points.now c.loop-point.point-index c.point-item.result c.loop-point-test.true
+          (All_at Stays c.args.points.now c.loop-point.point-index c.point-item.result c.loop-point-test.true
           c.point-item.is all),
     )
 
 pub loop-point-preserved : goal.loop-point-preserved
 loop-point-preserved g c =
-    All-taken_more (point_of g.I.OverlayInt.value) c.args.points.now c.loop-point.point-index c.point-item.result c.loop-point-test.true c.point-item.is
-    (StaysInTurn g.I.OverlayInt.least g.I.OverlayInt.greatest (amounts_of g.I.OverlayInt.value c.args.first) (amounts_of g.I.OverlayInt.value c.args.second))
+    All_more c.args.points.now c.loop-point.point-index c.point-item.result c.loop-point-test.true c.point-item.is
+    (StaysInTurn g.I.OverlayInt.least g.I.OverlayInt.greatest (amounts_of g.I.IntNumber.value c.args.first) (amounts_of g.I.IntNumber.value c.args.second))
     c.loop-point.invariant
     (c.stays_in_turn.ensures.0 c.if-not-stays_in_turn.false)
 
 pub returns : goal.returns
 returns g c =
-    let Stays = StaysInTurn g.I.OverlayInt.least g.I.OverlayInt.greatest (amounts_of g.I.OverlayInt.value c.args.first)
-    (amounts_of g.I.OverlayInt.value c.args.second) in (
-      λ up. subst (λ ps. All Stays (points_of g.I.OverlayInt.value ps)) (take_all c.loop-point.point-index c.args.points.now
+    let Stays = StaysInTurn g.I.OverlayInt.least g.I.OverlayInt.greatest (amounts_of g.I.IntNumber.value c.args.first)
+    (amounts_of g.I.IntNumber.value c.args.second) in (
+      λ up. subst (λ ps. All Stays ps) (take_all c.loop-point.point-index c.args.points.now
           (omega (arith, c.loop-point-test.false)))
           c.loop-point.invariant,
       λ all. refl,

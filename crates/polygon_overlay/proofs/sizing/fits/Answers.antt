@@ -1,6 +1,5 @@
 use Rattle.std.proofs.Common.{◌∙◌, All, refl, sym, arith}
 use Rattle.std.proofs.lemmas.Bool.{false≢true}
-use Rattle.plane_base.specs.Views.{points_of}
 use Rattle.polygon_overlay.specs.SizingCalls.{StaysInRange}
 use Rattle.polygon_overlay.specs.SizingViews.{amounts_of}
 use Rattle.polygon_overlay.proofs.Sized.Walking.{none_more, holds_here, one_path_more, one_shape_more, all_paths}
@@ -11,33 +10,33 @@ returns-then-not-all_fit g c = (
   λ up. absurd (false≢true up),
   λ all. sym c.if-not-all_fit.true
       ∙ c.all_fit.ensures.1
-      (holds_here (All (StaysInRange g.I.OverlayInt.least g.I.OverlayInt.greatest (amounts_of g.I.OverlayInt.value c.args.by))) (points_of g.I.OverlayInt.value) (g.R.IntShapeResource.shapes c.args.source.now)
+      (holds_here (All (StaysInRange g.I.OverlayInt.least g.I.OverlayInt.greatest (amounts_of g.I.IntNumber.value c.args.by))) (g.R.IntShapeResource.shapes c.args.source.now)
       (g.R.IntShapeResource.paths c.args.source.now) (g.met.R.IntShapeResource.together c.args.source.now) c.loop-shape.shape c.loop-index.index c.shape_path.result.now
       (omega (arith, c.shape_count-shape-end.ensures, c.loop-shape-test.true)) (omega (arith, c.shape_len-index-end.ensures, c.loop-index-test.true)) c.shape_path.ensures all),
 )
 
 pub loop-index-init : goal.loop-index-init
 loop-index-init g c =
-    none_more (All (StaysInRange g.I.OverlayInt.least g.I.OverlayInt.greatest (amounts_of g.I.OverlayInt.value c.args.by))) (points_of g.I.OverlayInt.value) (g.R.IntShapeResource.shapes c.args.source.now)
+    none_more (All (StaysInRange g.I.OverlayInt.least g.I.OverlayInt.greatest (amounts_of g.I.IntNumber.value c.args.by))) (g.R.IntShapeResource.shapes c.args.source.now)
     (g.R.IntShapeResource.paths c.args.source.now) (g.met.R.IntShapeResource.together c.args.source.now) c.loop-shape.shape c.loop-shape.invariant
 
 pub loop-index-preserved : goal.loop-index-preserved
 loop-index-preserved g c =
-    one_path_more (All (StaysInRange g.I.OverlayInt.least g.I.OverlayInt.greatest (amounts_of g.I.OverlayInt.value c.args.by))) (points_of g.I.OverlayInt.value) (g.R.IntShapeResource.shapes c.args.source.now)
+    one_path_more (All (StaysInRange g.I.OverlayInt.least g.I.OverlayInt.greatest (amounts_of g.I.IntNumber.value c.args.by))) (g.R.IntShapeResource.shapes c.args.source.now)
     (g.R.IntShapeResource.paths c.args.source.now) (g.met.R.IntShapeResource.together c.args.source.now) c.loop-shape.shape c.loop-index.index c.shape_path.result.now
     (omega (arith, c.shape_count-shape-end.ensures, c.loop-shape-test.true)) (omega (arith, c.shape_len-index-end.ensures, c.loop-index-test.true)) c.shape_path.ensures
     c.loop-index.invariant (c.all_fit.ensures.0 c.if-not-all_fit.false)
 
 pub loop-shape-preserved : goal.loop-shape-preserved
 loop-shape-preserved g c =
-    one_shape_more (All (StaysInRange g.I.OverlayInt.least g.I.OverlayInt.greatest (amounts_of g.I.OverlayInt.value c.args.by))) (points_of g.I.OverlayInt.value) (g.R.IntShapeResource.shapes c.args.source.now)
+    one_shape_more (All (StaysInRange g.I.OverlayInt.least g.I.OverlayInt.greatest (amounts_of g.I.IntNumber.value c.args.by))) (g.R.IntShapeResource.shapes c.args.source.now)
     (g.R.IntShapeResource.paths c.args.source.now) (g.met.R.IntShapeResource.together c.args.source.now) c.loop-shape.shape c.loop-index.index
     (omega (arith, c.shape_count-shape-end.ensures, c.loop-shape-test.true)) (omega (arith, c.shape_len-index-end.ensures, c.loop-index-test.false, c.loop-index.auto.index-end))
     c.loop-index.invariant
 
 pub returns : goal.returns
 returns g c = (
-  λ up. all_paths (All (StaysInRange g.I.OverlayInt.least g.I.OverlayInt.greatest (amounts_of g.I.OverlayInt.value c.args.by))) (points_of g.I.OverlayInt.value) (g.R.IntShapeResource.shapes c.args.source.now)
+  λ up. all_paths (All (StaysInRange g.I.OverlayInt.least g.I.OverlayInt.greatest (amounts_of g.I.IntNumber.value c.args.by))) (g.R.IntShapeResource.shapes c.args.source.now)
       (g.R.IntShapeResource.paths c.args.source.now) (g.met.R.IntShapeResource.together c.args.source.now) c.loop-shape.shape
       (omega (arith, c.shape_count-shape-end.ensures, c.loop-shape-test.false)) c.loop-shape.invariant,
   λ all. refl,

@@ -1,5 +1,4 @@
-use Rattle.std.proofs.Common.{◌+◌, take, map}
-use Rattle.plane_base.specs.Views.{points_of}
+use Rattle.std.proofs.Common.{◌+◌, take}
 use Rattle.plane_base.proofs.Facts.Lists.Placed.{before}
 use Rattle.polygon_overlay.specs.SizingCalls.{FitsInTurn}
 use Rattle.polygon_overlay.specs.SizingViews.{amounts_of}
@@ -8,11 +7,11 @@ use Rattle.polygon_overlay.proofs.sizing.fits_in_turn.Given as goal
 -- The paths of the shapes before this one stay in range.
 abbrev pub invariant-loop-shape : goal.invariant-loop-shape
 invariant-loop-shape g l =
-    FitsInTurn g.I.OverlayInt.least g.I.OverlayInt.greatest (amounts_of g.I.OverlayInt.value l.first) (amounts_of g.I.OverlayInt.value l.second)
-    (map (points_of g.I.OverlayInt.value) (take (before (g.R.IntShapeResource.shapes l.source) l.shape) (g.R.IntShapeResource.paths l.source)))
+    FitsInTurn g.I.OverlayInt.least g.I.OverlayInt.greatest (amounts_of g.I.IntNumber.value l.first) (amounts_of g.I.IntNumber.value l.second)
+    (take (before (g.R.IntShapeResource.shapes l.source) l.shape) (g.R.IntShapeResource.paths l.source))
 
 -- And those before this place in it.
 abbrev pub invariant-loop-index : goal.invariant-loop-index
 invariant-loop-index g l =
-    FitsInTurn g.I.OverlayInt.least g.I.OverlayInt.greatest (amounts_of g.I.OverlayInt.value l.first) (amounts_of g.I.OverlayInt.value l.second)
-    (map (points_of g.I.OverlayInt.value) (take (before (g.R.IntShapeResource.shapes l.source) l.shape + l.index) (g.R.IntShapeResource.paths l.source)))
+    FitsInTurn g.I.OverlayInt.least g.I.OverlayInt.greatest (amounts_of g.I.IntNumber.value l.first) (amounts_of g.I.IntNumber.value l.second)
+    (take (before (g.R.IntShapeResource.shapes l.source) l.shape + l.index) (g.R.IntShapeResource.paths l.source))

@@ -1,5 +1,4 @@
 use Rattle.segment_split.specs.LineLaws.{AllRectilinear}
-use Rattle.plane_base.specs.Views.{points_of}
 use Rattle.contour_walk.specs.WalkLaws.{contour_steps}
 use Rattle.polygon_overlay.proofs.Sized.Walking.{steps_left}
 use Rattle.polygon_overlay.proofs.sizing.is_rectilinear_contour.Given as goal
@@ -7,6 +6,6 @@ use Rattle.polygon_overlay.proofs.sizing.is_rectilinear_contour.Given as goal
 -- The steps are horizontal or vertical just where those are that are left.
 abbrev pub invariant-loop-place : goal.invariant-loop-place
 invariant-loop-place g l =
-    let points = points_of g.I.OverlayInt.value l.points in
+    let points = l.points in
     (AllRectilinear (contour_steps points) → AllRectilinear (steps_left points l.place))
     × (AllRectilinear (steps_left points l.place) → AllRectilinear (contour_steps points))

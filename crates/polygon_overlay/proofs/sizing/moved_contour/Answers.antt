@@ -1,10 +1,8 @@
 use Rattle.std.proofs.Common.{◌≡◌, ◌+◌, ◌++◌, ◌∷◌, ap, ◌∙◌, arith}
 use Rattle.std.specs.Prelude.{flat_map}
-use Rattle.std.proofs.lemmas.List.{length-map}
 use Rattle.std.proofs.lemmas.Result.{err_from_is_err_and}
 use Rattle.plane_base.specs.Plane.{Edge}
-use Rattle.plane_base.specs.Views.{point_of, points_of}
-use Rattle.plane_base.proofs.Facts.Lists.Views.{All-mapped}
+use Rattle.plane_base.proofs.Facts.Lists.Views.{All_at}
 use Rattle.polygon_overlay.specs.Sizing.{moved}
 use Rattle.polygon_overlay.specs.SizingCalls.{HasRoomAlong, moved_along}
 use Rattle.polygon_overlay.specs.SizingViews.{amounts_of}
@@ -13,42 +11,41 @@ use Rattle.polygon_overlay.proofs.sizing.moved_contour.Goals as goal
 
 pub loop-place-init : goal.loop-place-init
 loop-place-init g c =
-    let value = g.I.OverlayInt.value in
+    let value = g.I.IntNumber.value in
     let move = moved_along c.args.is_across (amounts_of value c.args.by) in
-    ap (λ ps. points_of value ps ++ flat_map move (steps_left (points_of value c.args.points.now) 0)) c.in_ok-kept.ensures.items
-    ∙ ap (flat_map move) (all_steps_left (points_of value c.args.points.now))
+    ap (λ ps. ps ++ flat_map move (steps_left c.args.points.now 0)) c.in_ok-kept.ensures.items
+    ∙ ap (flat_map move) (all_steps_left c.args.points.now)
 
 pub push_moved-requires-clause-from_has_room : goal.push_moved-requires-clause-from_has_room
 push_moved-requires-clause-from_has_room g c =
-    All-mapped (HasRoomAlong g.I.OverlayInt.least g.I.OverlayInt.greatest c.args.is_across (amounts_of g.I.OverlayInt.value c.args.by)) (point_of g.I.OverlayInt.value)
+    All_at (HasRoomAlong g.I.OverlayInt.least g.I.OverlayInt.greatest c.args.is_across (amounts_of g.I.IntNumber.value c.args.by))
     c.args.points.now c.loop-place.place c.index-points-place.result c.loop-place-test.true c.index-points-place.is c.requires
 
 pub push_moved-requires-clause-to_has_room : goal.push_moved-requires-clause-to_has_room
 push_moved-requires-clause-to_has_room g c =
     let (at, inside, is) = c.point_after.ensures.listed in
-    All-mapped (HasRoomAlong g.I.OverlayInt.least g.I.OverlayInt.greatest c.args.is_across (amounts_of g.I.OverlayInt.value c.args.by)) (point_of g.I.OverlayInt.value)
+    All_at (HasRoomAlong g.I.OverlayInt.least g.I.OverlayInt.greatest c.args.is_across (amounts_of g.I.IntNumber.value c.args.by))
     c.args.points.now at c.point_after.result inside is c.requires
 
 pub loop-place-preserved : goal.loop-place-preserved
 loop-place-preserved g c =
-    let value = g.I.OverlayInt.value in
-    let f = point_of value in
+    let value = g.I.IntNumber.value in
     let points = c.args.points.now in
     let move = moved_along c.args.is_across (amounts_of value c.args.by) in
-    let s : Edge = record { a = f c.index-points-place.result; b = f c.point_after.result } in
-    let rest = steps_left (points_of value points) (c.loop-place.place + 1) in
-    let more : steps_left (points_of value points) c.loop-place.place ≡ s ∷ rest =
-    steps_left_more f points c.loop-place.place c.index-points-place.result (f c.point_after.result) c.loop-place-test.true c.index-points-place.is c.point_after.ensures.is in
-    grown (points_of value c.loop-place.kept.items) _ (move s) (flat_map move rest) (flat_map move (steps_left (points_of value points) c.loop-place.place))
-    (moved move (points_of value points)) c.in_ok-push_moved.ensures.is (ap (flat_map move) more) c.loop-place.invariant
+    let s : Edge = record { a = c.index-points-place.result; b = c.point_after.result } in
+    let rest = steps_left points (c.loop-place.place + 1) in
+    let more : steps_left points c.loop-place.place ≡ s ∷ rest =
+    steps_left_more points c.loop-place.place c.index-points-place.result c.point_after.result c.loop-place-test.true c.index-points-place.is c.point_after.ensures.is in
+    grown c.loop-place.kept.items _ (move s) (flat_map move rest) (flat_map move (steps_left points c.loop-place.place))
+    (moved move points) c.in_ok-push_moved.ensures.is (ap (flat_map move) more) c.loop-place.invariant
 
 pub returns-clause-is : goal.returns-clause-is
 returns-clause-is g c =
-    let value = g.I.OverlayInt.value in
-    let points = points_of value c.args.points.now in
+    let value = g.I.IntNumber.value in
+    let points = c.args.points.now in
     let move = moved_along c.args.is_across (amounts_of value c.args.by) in
-    let so_far = points_of value c.loop-place.kept.items in
-    let none = no_steps_left points c.loop-place.place (omega (arith, length-map c.args.points.now (point_of value), c.loop-place-test.false)) in
+    let so_far = c.loop-place.kept.items in
+    let none = no_steps_left points c.loop-place.place (omega (arith, c.loop-place-test.false)) in
     ended so_far (flat_map move (steps_left points c.loop-place.place)) (moved move points) (ap (flat_map move) none) c.loop-place.invariant
 
 pub returns-in_err-kept-clause-is : goal.returns-in_err-kept-clause-is

@@ -14,17 +14,16 @@ use Rattle.polygon_overlay.proofs.sizing.moved_source.Goals as goal
 
 pub moved_region-requires-clause-in_range : goal.moved_region-requires-clause-in_range
 moved_region-requires-clause-in_range g c =
-    let value = g.I.OverlayInt.value in
     region_in_range c.regions_stay_in_the_box.ensures g.I.OverlayInt.least g.I.OverlayInt.greatest (fill_rule_of c.args.fill_rule) c.args.solver.precision
-    (contours_of value (g.R.IntShapeResource.paths c.args.source.now)) (contours_of value
+    (contours_of (g.R.IntShapeResource.paths c.args.source.now)) (contours_of
     (parts c.in_ok-region.region.points.items c.in_ok-region.region.ranges.items))
     c.in_ok-region.ensures.is c.requires.in_range
 
 pub moved_region-requires-clause-fits : goal.moved_region-requires-clause-fits
 moved_region-requires-clause-fits g c =
-    let value = g.I.OverlayInt.value in
+    let value = g.I.IntNumber.value in
     region_fits c.regions_stay_in_the_box.ensures g.I.OverlayInt.least g.I.OverlayInt.greatest (fill_rule_of c.args.fill_rule) c.args.solver.precision
-    (contours_of value (g.R.IntShapeResource.paths c.args.source.now)) (contours_of value
+    (contours_of (g.R.IntShapeResource.paths c.args.source.now)) (contours_of
     (parts c.in_ok-region.region.points.items c.in_ok-region.region.ranges.items))
     c.in_ok-region.ensures.is (amounts_of value c.args.by) c.requires.fits
 
@@ -33,23 +32,23 @@ returns-in_err-region-clause-refused g c =
     let p = err_from_is_err_and c.from_residual.result c.from_residual.ensures.1 in
     rw p.1
     (of_contours
-    (subst (IsNotSimplified false c.args.solver.precision (contours_of g.I.OverlayInt.value (g.R.IntShapeResource.paths c.args.source.now))) (sym p.2)
+    (subst (IsNotSimplified false c.args.solver.precision (contours_of (g.R.IntShapeResource.paths c.args.source.now))) (sym p.2)
     c.in_err-region.ensures.refused))
 
 pub returns-clause-is : goal.returns-clause-is
 returns-clause-is g c =
-    let value = g.I.OverlayInt.value in
+    let value = g.I.IntNumber.value in
     if_answered c.moved_region.result
     (λ shifted.
     moved_of g.I.OverlayInt.least g.I.OverlayInt.greatest (amounts_of value c.args.by) (fill_rule_of c.args.fill_rule) c.args.solver.precision
-    (contours_of value (g.R.IntShapeResource.paths c.args.source.now)) (contours_of value
+    (contours_of (g.R.IntShapeResource.paths c.args.source.now)) (contours_of
     (parts c.in_ok-region.region.points.items c.in_ok-region.region.ranges.items))
-    (contours_of value (paths_of_shape shifted)) c.in_ok-region.ensures.is)
+    (contours_of (paths_of_shape shifted)) c.in_ok-region.ensures.is)
     c.moved_region.ensures.is
 
 pub returns-clause-refused : goal.returns-clause-refused
 returns-clause-refused g c =
     if_refused c.moved_region.result
     (λ fault.
-    of_sides (contours_of g.I.OverlayInt.value (parts c.in_ok-region.region.points.items c.in_ok-region.region.ranges.items)) c.in_ok-region.ensures.is)
+    of_sides (contours_of (parts c.in_ok-region.region.points.items c.in_ok-region.region.ranges.items)) c.in_ok-region.ensures.is)
     c.moved_region.ensures.refused

@@ -15,12 +15,11 @@ returns-in_err-overlay-clause-refused g c =
 
 pub returns-clause-is : goal.returns-clause-is
 returns-clause-is g c =
-    let value = g.I.OverlayInt.value in
     let made = c.in_ok-overlay.overlay in
     let new = c.in_ok-overlay.ensures.made in
     if_answered c.overlay_of_source.result
     (λ shapes h. shapes_answered g.I.OverlayInt.least g.I.OverlayInt.greatest c.holding_goes_on.ensures c.sources_are_held.ensures c.args.options made.options
-    c.args.solver made.solver Positive (contours_of value (paths_of_shape c.args.shifted.now)) (shapes_of value shapes.shapes.items) h.held c.requires
+    c.args.solver made.solver Positive (contours_of (paths_of_shape c.args.shifted.now)) (shapes_of shapes.shapes.items) h.held c.requires
     new.options
     new.solver h.adds h.answer)
     c.overlay_of_source.ensures.answered
@@ -30,7 +29,7 @@ returns-clause-refused g c =
     let made = c.in_ok-overlay.overlay in
     let new = c.in_ok-overlay.ensures.made in
     if_refused c.overlay_of_source.result
-    (λ fault. region_refused c.args.options made.options c.args.solver made.solver (contours_of g.I.OverlayInt.value (paths_of_shape c.args.shifted.now)) fault
+    (λ fault. region_refused c.args.options made.options c.args.solver made.solver (contours_of (paths_of_shape c.args.shifted.now)) fault
     fault new.options
     new.solver refl)
     c.overlay_of_source.ensures.refused

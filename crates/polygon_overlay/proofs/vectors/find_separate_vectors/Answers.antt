@@ -8,9 +8,9 @@ use Rattle.polygon_overlay.proofs.vectors.find_separate_vectors.Goals as goal
 
 pub returns-clause-is : goal.returns-clause-is
 returns-clause-is g c =
-    let value = g.I.OverlayInt.value in
+    let value = g.I.IntNumber.value in
     if_answered c.extract_separate_vectors.result
-    (λ edges is. ap (map (vector_of value)) is ∙ (bare_listed value (links_of c.in_ok-graph.graph) ∙ ap (map along) c.in_ok-graph.ensures.links))
+    (λ edges is. ap (map vector_of) is ∙ (bare_listed value (links_of c.in_ok-graph.graph) ∙ ap (map along) c.in_ok-graph.ensures.links))
     c.extract_separate_vectors.ensures.is
 
 pub returns-clause-refused : goal.returns-clause-refused

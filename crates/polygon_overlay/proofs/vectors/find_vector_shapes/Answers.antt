@@ -43,7 +43,7 @@ returns-in-Err-clause-refused g c =
 
 pub returns-in-Ok-clause-answered : goal.returns-in-Ok-clause-answered
 returns-in-Ok-clause-answered g c =
-    subst (λ es. AreDataShapes g.I.OverlayInt.value g.D.PartialEq.eq (MayBeTurned g.D.OverlayEdgeData.JOINS g.D.OverlayEdgeData.turns_to) c.args.query.options (fill_rule_of c.args.query.fill_rule)
+    subst (λ es. AreDataShapes g.I.IntNumber.value g.D.PartialEq.eq (MayBeTurned g.D.OverlayEdgeData.JOINS g.D.OverlayEdgeData.turns_to) c.args.query.options (fill_rule_of c.args.query.fill_rule)
     (overlay_rule_of c.args.query.overlay_rule) es (edges_of_shapes c.in-Ok.shapes.items)) (sym c.vector_shapes_of_arrangement.ensures.«data») c.in-Ok.ensures.is
 
 pub returns-in-Ok-clause-apart : goal.returns-in-Ok-clause-apart

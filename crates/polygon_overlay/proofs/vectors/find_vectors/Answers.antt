@@ -54,4 +54,4 @@ returns-in-Ok-clause-answered g c =
 
 pub returns-in-Ok-clause-apart : goal.returns-in-Ok-clause-apart
 returns-in-Ok-clause-apart g c =
-    sym (ap without_data c.segments.ensures.«data») ∙ (data_apart g.I.OverlayInt.value c.segments.result.now ∙ c.segments.ensures.is)
+    sym (ap without_data c.segments.ensures.«data») ∙ (data_apart g.I.IntNumber.value c.segments.result.now ∙ c.segments.ensures.is)

@@ -24,7 +24,7 @@ extract_vector_shapes_with_store-requires g c =
     record {
       graph = (
         fill_rule_of c.args.query.fill_rule,
-        entries_of g.I.OverlayInt.value c.segments.result.now,
+        entries_of c.segments.result.now,
         subst IsArrangement (sym c.segments.ensures.is) c.requires.arrangement,
         inr c.in_ok-graph.ensures.links,
       );
@@ -32,7 +32,7 @@ extract_vector_shapes_with_store-requires g c =
 
 pub returns-clause-is : goal.returns-clause-is
 returns-clause-is g c =
-    let value = g.I.OverlayInt.value in
+    let value = g.I.IntNumber.value in
     let fill = fill_rule_of c.args.query.fill_rule in
     let rule = overlay_rule_of c.args.query.overlay_rule in
     let ss = c.segments.result.now in
@@ -41,12 +41,12 @@ returns-clause-is g c =
     c.segments.ensures.«data»
     (shapes_of_map value fill rule ss (links_of c.in_ok-graph.graph) c.in_ok-graph.ensures.links c.in_ok-graph.ensures.carried
     g.D.PartialEq.eq (MayBeTurned g.D.OverlayEdgeData.JOINS g.D.OverlayEdgeData.turns_to) c.args.query.options (edges_of_shapes shapes.items)
-    (are fill (entries_of value ss) (inr c.in_ok-graph.ensures.links))))
+    (are fill (entries_of ss) (inr c.in_ok-graph.ensures.links))))
     c.extract_vector_shapes_with_store.ensures.is
 
 pub returns-clause-apart : goal.returns-clause-apart
 returns-clause-apart g c =
-    let value = g.I.OverlayInt.value in
+    let value = g.I.IntNumber.value in
     answered c.extract_vector_shapes_with_store.result
     (subst (λ ds. without_data ds ≡ c.args.held.now.edges) c.segments.ensures.«data» (data_apart value c.segments.result.now ∙ c.segments.ensures.is))
 

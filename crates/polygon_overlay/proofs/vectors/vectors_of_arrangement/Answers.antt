@@ -8,9 +8,9 @@ use Rattle.polygon_overlay.proofs.vectors.vectors_of_arrangement.Goals as goal
 
 pub returns-clause-is : goal.returns-clause-is
 returns-clause-is g c =
-    let value = g.I.OverlayInt.value in
+    let value = g.I.IntNumber.value in
     if_answered c.extract_vectors.result
-    (λ edges is. ap (data_vectors_of value) is
+    (λ edges is. ap data_vectors_of is
     ∙ vectors_listed value (fill_rule_of c.args.query.fill_rule) (overlay_rule_of c.args.query.overlay_rule) c.args.segments.now (links_of c.in_ok-graph.graph)
     c.in_ok-graph.ensures.links c.in_ok-graph.ensures.carried)
     c.extract_vectors.ensures.is

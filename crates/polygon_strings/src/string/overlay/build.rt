@@ -1,10 +1,9 @@
 //! Calls that make a builder, and that add contours of shapes, thinned, in linear time.
 
-ghost use Rattle.std.specs.Prelude.{◌≡◌, List, All, map};
+ghost use Rattle.std.specs.Prelude.{◌≡◌, List, All};
 ghost use Rattle.std.specs.Iterator.{IsFinite, Drains};
-ghost use Rattle.plane_base.specs.Plane.{IsWithin};
+ghost use Rattle.plane_base.specs.Plane.{Point, IsWithin};
 ghost use Rattle.plane_base.specs.Views.{points_of};
-ghost use Rattle.plane_base.specs.declared.point.IntPoint.{IntPoint};
 ghost use Rattle.polygon_strings.specs.Builders.{one_shape, default_options};
 
 use crate::string::overlay::StringOverlay;
@@ -53,8 +52,8 @@ impl<I: OverlayInt> StringOverlay<I> {
         shape: &R,
     ) -> Result<StringOverlay<I>, Fault>
         requires ready { R.is_ready shape.now }
-        requires in_range { AreInRange I.least I.greatest (map (points_of I.value) (R.paths shape.now)) }
-        ensures { MakesShape default_options (map (points_of I.value) (R.paths shape.now)) result }
+        requires in_range { AreInRange I.least I.greatest (R.paths shape.now) }
+        ensures { MakesShape default_options (R.paths shape.now) result }
     {
         StringOverlay::from_shape_custom(alloc, shape, IntOverlayOptions::default())
     }
@@ -66,8 +65,8 @@ impl<I: OverlayInt> StringOverlay<I> {
         options: IntOverlayOptions,
     ) -> Result<StringOverlay<I>, Fault>
         requires ready { R.is_ready shape.now }
-        requires in_range { AreInRange I.least I.greatest (map (points_of I.value) (R.paths shape.now)) }
-        ensures { MakesShape options (map (points_of I.value) (R.paths shape.now)) result }
+        requires in_range { AreInRange I.least I.greatest (R.paths shape.now) }
+        ensures { MakesShape options (R.paths shape.now) result }
     {
         let mut overlay = StringOverlay::with_options(alloc, 0, options)?;
         overlay.add_shape_source(shape)?;
@@ -83,9 +82,9 @@ impl<I: OverlayInt> StringOverlay<I> {
     ) -> Result<StringOverlay<I>, Fault>
         requires shape_ready { R.is_ready shape.now }
         requires string_ready { S.is_ready string.now }
-        requires shape_in_range { AreInRange I.least I.greatest (map (points_of I.value) (R.paths shape.now)) }
-        requires string_in_range { AreInRange I.least I.greatest (map (points_of I.value) (S.paths string.now)) }
-        ensures { MakesBoth default_options (map (points_of I.value) (R.paths shape.now)) (map (points_of I.value) (S.paths string.now)) result }
+        requires shape_in_range { AreInRange I.least I.greatest (R.paths shape.now) }
+        requires string_in_range { AreInRange I.least I.greatest (S.paths string.now) }
+        ensures { MakesBoth default_options (R.paths shape.now) (S.paths string.now) result }
     {
         StringOverlay::from_shape_and_string_custom(
             alloc,
@@ -104,9 +103,9 @@ impl<I: OverlayInt> StringOverlay<I> {
     ) -> Result<StringOverlay<I>, Fault>
         requires shape_ready { R.is_ready shape.now }
         requires string_ready { S.is_ready string.now }
-        requires shape_in_range { AreInRange I.least I.greatest (map (points_of I.value) (R.paths shape.now)) }
-        requires string_in_range { AreInRange I.least I.greatest (map (points_of I.value) (S.paths string.now)) }
-        ensures { MakesBoth options (map (points_of I.value) (R.paths shape.now)) (map (points_of I.value) (S.paths string.now)) result }
+        requires shape_in_range { AreInRange I.least I.greatest (R.paths shape.now) }
+        requires string_in_range { AreInRange I.least I.greatest (S.paths string.now) }
+        ensures { MakesBoth options (R.paths shape.now) (S.paths string.now) result }
     {
         let mut overlay = StringOverlay::with_options(alloc, 0, options)?;
         overlay.add_shape_source(shape)?;
@@ -117,8 +116,8 @@ impl<I: OverlayInt> StringOverlay<I> {
     /// Adds the contours of a shape, as `add_shape_contour` does. On a refusal the contours before the one that was refused stay.
     pub fn add_shape_source<R: IntShapeResource<I>>(&mut self, resource: &R) -> Result<(), Fault>
         requires ready { R.is_ready resource.now }
-        requires in_range { AreInRange I.least I.greatest (map (points_of I.value) (R.paths resource.now)) }
-        ensures { AddsShapeSource (map (points_of I.value) (R.paths resource.now)) self.old self.new result }
+        requires in_range { AreInRange I.least I.greatest (R.paths resource.now) }
+        ensures { AddsShapeSource (R.paths resource.now) self.old self.new result }
     {
         self.held.add_source(resource, false, one_shape(), ())
     }
@@ -126,8 +125,8 @@ impl<I: OverlayInt> StringOverlay<I> {
     /// Adds a contour of a shape, thinned. Its points are in range. A refusal adds nothing: `Failed` after a refused query, `Edges` where
     /// 2^31 edges would be held, `Memory`.
     pub fn add_shape_contour(&mut self, contour: &[IntPoint<I>]) -> Result<(), Fault>
-        requires in_range { All (IsWithin I.least I.greatest) (points_of I.value contour.now) }
-        ensures { AddsShapeContour (points_of I.value contour.now) self.old self.new result }
+        requires in_range { All (IsWithin I.least I.greatest) contour.now }
+        ensures { AddsShapeContour contour.now self.old self.new result }
     {
         self.held.add_contour(contour, false, one_shape(), ())
     }
@@ -139,8 +138,8 @@ impl<I: OverlayInt> StringOverlay<I> {
     ) -> Result<(), Fault>
         requires can { It.can_next iter }
         requires ends { IsFinite (It.remaining iter) }
-        requires in_range { (points : List (IntPoint I)) → Drains It.next_gives iter points → All (IsWithin I.least I.greatest) (points_of I.value points) }
-        ensures { AddsShapeGiven (Drains It.next_gives iter) (points_of I.value) self.old self.new result }
+        requires in_range { (points : List Point) → Drains It.next_gives iter points → All (IsWithin I.least I.greatest) points }
+        ensures { AddsShapeGiven (Drains It.next_gives iter) points_of self.old self.new result }
     {
         if self.held.has_failed() {
             return Err(Fault::Failed);

@@ -2,7 +2,6 @@
 //! there is no graph. It takes the time of redrawing and of the sweep.
 
 ghost use Rattle.std.specs.Prelude.{◌≡◌, ◌↔◌, [], map, IsTrue, IfOk, OnOk};
-ghost use Rattle.segment_arrangement.specs.LentGraphs.{string_links_kept_by};
 ghost use Rattle.segment_arrangement.specs.LinkViews.{overlay_link_of};
 ghost use Rattle.segment_arrangement.specs.RuleViews.{fill_rule_of};
 ghost use Rattle.segment_arrangement.specs.SideLaws.{IsArrangement};
@@ -32,9 +31,9 @@ impl<I: OverlayInt> StringOverlay<I> {
         &mut self,
         fill_rule: FillRule,
     ) -> Result<Option<StringGraph<'_, I>>, Fault>
-        ensures lent { IfOk result (LendsGraph I.value I.least I.greatest (fill_rule_of fill_rule) (string_map default_precision (held_by self.old))) }
+        ensures lent { IfOk result (LendsGraph I.least I.greatest (fill_rule_of fill_rule) (string_map default_precision (held_by self.old))) }
         ensures asked { IsAsked default_precision (holding_of self.old) result }
-        ensures* after { sem 𝓛 (Rests (the_row I.row I.Wide.row I.OverlayInt.own I.Ord.own I.PartialEq.own I.PartialOrd.own
+        ensures* after { sem 𝓛 (Rests (the_row I.row I.Wide.row I.OverlayInt.own I.IntNumber.own I.Ord.own I.PartialEq.own I.PartialOrd.own
             I.Wide.WideIntNumber.own I.Wide.Ord.own I.Wide.PartialEq.own I.Wide.PartialOrd.own
             I.Clone.own I.Eq.own I.Expiration.own I.Wide.Clone.own I.Wide.Eq.own) self.entry (λ new. Leaves default_precision self.old new result)) }
     {
@@ -51,9 +50,9 @@ impl<I: OverlayInt> StringOverlay<I> {
         fill_rule: FillRule,
         solver: Solver,
     ) -> Result<Option<StringGraph<'_, I>>, Fault>
-        ensures lent { IfOk result (LendsGraph I.value I.least I.greatest (fill_rule_of fill_rule) (string_map solver.precision (held_by self.old))) }
+        ensures lent { IfOk result (LendsGraph I.least I.greatest (fill_rule_of fill_rule) (string_map solver.precision (held_by self.old))) }
         ensures asked { IsAsked solver.precision (holding_of self.old) result }
-        ensures* after { sem 𝓛 (Rests (the_row I.row I.Wide.row I.OverlayInt.own I.Ord.own I.PartialEq.own I.PartialOrd.own
+        ensures* after { sem 𝓛 (Rests (the_row I.row I.Wide.row I.OverlayInt.own I.IntNumber.own I.Ord.own I.PartialEq.own I.PartialOrd.own
             I.Wide.WideIntNumber.own I.Wide.Ord.own I.Wide.PartialEq.own I.Wide.PartialOrd.own
             I.Clone.own I.Eq.own I.Expiration.own I.Wide.Clone.own I.Wide.Eq.own) self.entry (λ new. Leaves solver.precision self.old new result)) }
     {
@@ -65,7 +64,7 @@ impl<I: OverlayInt> StringOverlay<I> {
 
     // Redraws what is held, and makes the links and nodes of its graph: whether no edge is left.
     fn make_graph(&mut self, fill_rule: FillRule, solver: Solver) -> Result<bool, Fault>
-        ensures links { OnOk result (map (overlay_link_of I.value) (links_made_by self.new)
+        ensures links { OnOk result (map overlay_link_of (links_made_by self.new)
             ≡ all_string_links (fill_rule_of fill_rule) (string_map solver.precision (held_by self.old))) }
         ensures arrangement { OnOk result (IsArrangement (subject_of (string_map solver.precision (held_by self.old)))) }
         ensures empty { IfOk result (λ is_empty. IsTrue is_empty ↔ (string_map solver.precision (held_by self.old) ≡ [])) }

@@ -2,7 +2,6 @@
 
 ghost use Rattle.std.specs.Prelude.{map};
 ghost use Rattle.plane_base.specs.Given.{closed};
-ghost use Rattle.plane_base.specs.Views.{points_of};
 ghost use Rattle.polygon_strings.specs.Builders.{default_options};
 
 use crate::string::overlay::StringOverlay;
@@ -20,8 +19,8 @@ impl<I: OverlayInt> StringOverlay<I> {
         shape: &R,
     ) -> Result<StringOverlay<I>, Fault>
         requires ready { R.is_ready shape.now }
-        requires in_range { AreInRange I.least I.greatest (map (points_of I.value) (R.paths shape.now)) }
-        ensures { MakesShape default_options (map (points_of I.value) (R.paths shape.now)) result }
+        requires in_range { AreInRange I.least I.greatest (R.paths shape.now) }
+        ensures { MakesShape default_options (R.paths shape.now) result }
     {
         StringOverlay::from_shape(alloc, shape)
     }
@@ -32,8 +31,8 @@ impl<I: OverlayInt> StringOverlay<I> {
         shape: &R,
     ) -> Result<StringOverlay<I>, Fault>
         requires ready { R.is_ready shape.now }
-        requires in_range { AreInRange I.least I.greatest (map (points_of I.value) (R.paths shape.now)) }
-        ensures { MakesShape default_options (map (points_of I.value) (R.paths shape.now)) result }
+        requires in_range { AreInRange I.least I.greatest (R.paths shape.now) }
+        ensures { MakesShape default_options (R.paths shape.now) result }
     {
         StringOverlay::from_shape(alloc, shape)
     }
@@ -44,8 +43,8 @@ impl<I: OverlayInt> StringOverlay<I> {
         shape: &R,
     ) -> Result<StringOverlay<I>, Fault>
         requires ready { R.is_ready shape.now }
-        requires in_range { AreInRange I.least I.greatest (map (points_of I.value) (R.paths shape.now)) }
-        ensures { MakesShape default_options (map (points_of I.value) (R.paths shape.now)) result }
+        requires in_range { AreInRange I.least I.greatest (R.paths shape.now) }
+        ensures { MakesShape default_options (R.paths shape.now) result }
     {
         StringOverlay::from_shape(alloc, shape)
     }
@@ -56,8 +55,8 @@ impl<I: OverlayInt> StringOverlay<I> {
         shape: &R,
     ) -> Result<StringOverlay<I>, Fault>
         requires ready { R.is_ready shape.now }
-        requires in_range { AreInRange I.least I.greatest (map (points_of I.value) (R.paths shape.now)) }
-        ensures { MakesShape default_options (map (points_of I.value) (R.paths shape.now)) result }
+        requires in_range { AreInRange I.least I.greatest (R.paths shape.now) }
+        ensures { MakesShape default_options (R.paths shape.now) result }
     {
         StringOverlay::from_shape(alloc, shape)
     }
@@ -65,8 +64,8 @@ impl<I: OverlayInt> StringOverlay<I> {
     /// `add_shape_source` by an older name.
     pub fn add_shape_contours<R: IntShapeResource<I>>(&mut self, resource: &R) -> Result<(), Fault>
         requires ready { R.is_ready resource.now }
-        requires in_range { AreInRange I.least I.greatest (map (points_of I.value) (R.paths resource.now)) }
-        ensures { AddsShapeSource (map (points_of I.value) (R.paths resource.now)) self.old self.new result }
+        requires in_range { AreInRange I.least I.greatest (R.paths resource.now) }
+        ensures { AddsShapeSource (R.paths resource.now) self.old self.new result }
     {
         self.add_shape_source(resource)
     }
@@ -74,8 +73,8 @@ impl<I: OverlayInt> StringOverlay<I> {
     /// `add_shape_source` by an older name.
     pub fn add_shapes<R: IntShapeResource<I>>(&mut self, resource: &R) -> Result<(), Fault>
         requires ready { R.is_ready resource.now }
-        requires in_range { AreInRange I.least I.greatest (map (points_of I.value) (R.paths resource.now)) }
-        ensures { AddsShapeSource (map (points_of I.value) (R.paths resource.now)) self.old self.new result }
+        requires in_range { AreInRange I.least I.greatest (R.paths resource.now) }
+        ensures { AddsShapeSource (R.paths resource.now) self.old self.new result }
     {
         self.add_shape_source(resource)
     }
@@ -83,8 +82,8 @@ impl<I: OverlayInt> StringOverlay<I> {
     /// `add_string_source` by an older name.
     pub fn add_string_paths<R: IntShapeResource<I>>(&mut self, resource: &R) -> Result<(), Fault>
         requires ready { R.is_ready resource.now }
-        requires in_range { AreInRange I.least I.greatest (map (points_of I.value) (R.paths resource.now)) }
-        ensures { AddsStringPaths (map (points_of I.value) (R.paths resource.now)) self.old self.new result }
+        requires in_range { AreInRange I.least I.greatest (R.paths resource.now) }
+        ensures { AddsStringPaths (R.paths resource.now) self.old self.new result }
     {
         self.add_string_source(resource)
     }
@@ -92,8 +91,8 @@ impl<I: OverlayInt> StringOverlay<I> {
     /// `add_string_contour_source` by an older name.
     pub fn add_string_contours<R: IntShapeResource<I>>(&mut self, resource: &R) -> Result<(), Fault>
         requires ready { R.is_ready resource.now }
-        requires in_range { AreInRange I.least I.greatest (map (points_of I.value) (R.paths resource.now)) }
-        ensures { AddsStringPaths (map closed (map (points_of I.value) (R.paths resource.now))) self.old self.new result }
+        requires in_range { AreInRange I.least I.greatest (R.paths resource.now) }
+        ensures { AddsStringPaths (map closed (R.paths resource.now)) self.old self.new result }
     {
         self.add_string_contour_source(resource)
     }

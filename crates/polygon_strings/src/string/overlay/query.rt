@@ -31,8 +31,8 @@ impl<I: OverlayInt> StringOverlay<I> {
         clip_rule: ClipRule,
     ) -> Result<Vec<IntPath<I>>, Fault>
         ensures clip { IfOk result (λ paths. IsClip (kept_steps (fill_rule_of fill_rule) clip_rule (string_map default_precision (held_by self)))
-            (contours_of I.value paths.items)) }
-        ensures in_range { IfOk result (λ paths. All (All (IsWithin I.least I.greatest)) (contours_of I.value paths.items)) }
+            (contours_of paths.items)) }
+        ensures in_range { IfOk result (λ paths. All (All (IsWithin I.least I.greatest)) (contours_of paths.items)) }
         ensures asked { IsAsked default_precision (holding_of self) result }
     {
         self.clip_string_lines_with_solver(fill_rule, clip_rule, Solver::default())
@@ -50,8 +50,8 @@ impl<I: OverlayInt> StringOverlay<I> {
         solver: Solver,
     ) -> Result<Vec<IntPath<I>>, Fault>
         ensures clip { IfOk result (λ paths. IsClip (kept_steps (fill_rule_of fill_rule) clip_rule (string_map solver.precision (held_by self)))
-            (contours_of I.value paths.items)) }
-        ensures in_range { IfOk result (λ paths. All (All (IsWithin I.least I.greatest)) (contours_of I.value paths.items)) }
+            (contours_of paths.items)) }
+        ensures in_range { IfOk result (λ paths. All (All (IsWithin I.least I.greatest)) (contours_of paths.items)) }
         ensures asked { IsAsked solver.precision (holding_of self) result }
     {
         self.clip(fill_rule, clip_rule, solver)
@@ -65,8 +65,8 @@ impl<I: OverlayInt> StringOverlay<I> {
         solver: Solver,
     ) -> Result<Vec<IntPath<I>>, Fault>
         ensures clip { IfOk result (λ paths. IsClip (kept_steps (fill_rule_of fill_rule) clip_rule (string_map solver.precision (held_by self.old)))
-            (contours_of I.value paths.items)) }
-        ensures in_range { IfOk result (λ paths. All (All (IsWithin I.least I.greatest)) (contours_of I.value paths.items)) }
+            (contours_of paths.items)) }
+        ensures in_range { IfOk result (λ paths. All (All (IsWithin I.least I.greatest)) (contours_of paths.items)) }
         ensures asked { IsAsked solver.precision (holding_of self.old) result }
     {
         if self.held.has_failed() {

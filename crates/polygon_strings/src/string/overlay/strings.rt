@@ -5,7 +5,6 @@ ghost use Rattle.std.specs.Prelude.{◌≡◌, ◌∷◌, [], All, map};
 ghost use Rattle.plane_base.specs.Given.{closed};
 ghost use Rattle.plane_base.specs.GivenViews.{contours_of};
 ghost use Rattle.plane_base.specs.Plane.{IsWithin};
-ghost use Rattle.plane_base.specs.Views.{point_of, points_of};
 ghost use Rattle.segment_split.specs.Strings.{one_line};
 
 use crate::string::line::IntLine;
@@ -23,16 +22,16 @@ impl<I: OverlayInt> StringOverlay<I> {
     /// Adds a line from its first point to its second. Both are in range, and a line of no length adds nothing. A refusal changes nothing:
     /// `Failed` after a refused query, `Edges` where 2^31 edges would be held, `Memory` only without room for the line.
     pub fn add_string_line(&mut self, line: IntLine<I>) -> Result<(), Fault>
-        requires in_range { All (IsWithin I.least I.greatest) (points_of I.value line) }
-        ensures { AddsStringLine (points_of I.value line) self.old self.new result }
+        requires in_range { All (IsWithin I.least I.greatest) line }
+        ensures { AddsStringLine line self.old self.new result }
     {
         self.held.add_path(&line, one_line(), ())
     }
 
     /// Adds lines, as `add_string_line` does. On a refusal the lines before the one that was refused stay.
     pub fn add_string_lines(&mut self, lines: &[IntLine<I>]) -> Result<(), Fault>
-        requires in_range { AreInRange I.least I.greatest (map (points_of I.value) lines.now) }
-        ensures { AddsStringPaths (map (points_of I.value) lines.now) self.old self.new result }
+        requires in_range { AreInRange I.least I.greatest lines.now }
+        ensures { AddsStringPaths lines.now self.old self.new result }
     {
         if self.held.has_failed() {
             return Err(Fault::Failed);
@@ -46,8 +45,8 @@ impl<I: OverlayInt> StringOverlay<I> {
     /// Adds an open path: a line from each point to the next. A path of fewer than two points adds nothing. On a refusal, which is as that
     /// of `add_string_line`, the lines before the one that was refused stay.
     pub fn add_string_path(&mut self, path: &[IntPoint<I>]) -> Result<(), Fault>
-        requires in_range { All (IsWithin I.least I.greatest) (points_of I.value path.now) }
-        ensures { AddsStringPath (points_of I.value path.now) self.old self.new result }
+        requires in_range { All (IsWithin I.least I.greatest) path.now }
+        ensures { AddsStringPath path.now self.old self.new result }
     {
         self.held.add_path(path, one_line(), ())
     }
@@ -55,8 +54,8 @@ impl<I: OverlayInt> StringOverlay<I> {
     /// Adds the paths of a source as open strings, as `add_string_path` does: of a contour, too, the last point is not joined to the first.
     pub fn add_string_source<R: IntShapeResource<I>>(&mut self, resource: &R) -> Result<(), Fault>
         requires ready { R.is_ready resource.now }
-        requires in_range { AreInRange I.least I.greatest (map (points_of I.value) (R.paths resource.now)) }
-        ensures { AddsStringPaths (map (points_of I.value) (R.paths resource.now)) self.old self.new result }
+        requires in_range { AreInRange I.least I.greatest (R.paths resource.now) }
+        ensures { AddsStringPaths (R.paths resource.now) self.old self.new result }
     {
         if self.held.has_failed() {
             return Err(Fault::Failed);
@@ -71,8 +70,8 @@ impl<I: OverlayInt> StringOverlay<I> {
 
     // Adds open paths, as `add_string_source` does.
     pub(crate) fn add_each_path(&mut self, paths: &[IntPath<I>]) -> Result<(), Fault>
-        requires in_range { AreInRange I.least I.greatest (contours_of I.value paths.now) }
-        ensures { AddsStringPaths (contours_of I.value paths.now) self.old self.new result }
+        requires in_range { AreInRange I.least I.greatest (contours_of paths.now) }
+        ensures { AddsStringPaths (contours_of paths.now) self.old self.new result }
     {
         if self.held.has_failed() {
             return Err(Fault::Failed);
@@ -86,8 +85,8 @@ impl<I: OverlayInt> StringOverlay<I> {
     /// Adds a closed string with all its points: a line from each point to the next, and from the last to the first. On a refusal, which is
     /// as that of `add_string_line`, the lines before the one that was refused stay.
     pub fn add_string_contour(&mut self, contour: &[IntPoint<I>]) -> Result<(), Fault>
-        requires in_range { All (IsWithin I.least I.greatest) (points_of I.value contour.now) }
-        ensures { AddsStringPath (closed (points_of I.value contour.now)) self.old self.new result }
+        requires in_range { All (IsWithin I.least I.greatest) contour.now }
+        ensures { AddsStringPath (closed contour.now) self.old self.new result }
     {
         self.add_string_path(contour)?;
         if contour.is_empty() {
@@ -98,8 +97,8 @@ impl<I: OverlayInt> StringOverlay<I> {
 
     // Adds the line from one point to another.
     fn add_step(&mut self, from: IntPoint<I>, to: IntPoint<I>) -> Result<(), Fault>
-        requires { IsWithin I.least I.greatest (point_of I.value from) × IsWithin I.least I.greatest (point_of I.value to) }
-        ensures { AddsStringPath (point_of I.value from ∷ point_of I.value to ∷ []) self.old self.new result }
+        requires { IsWithin I.least I.greatest from × IsWithin I.least I.greatest to }
+        ensures { AddsStringPath (from ∷ to ∷ []) self.old self.new result }
     {
         self.held.add_edge(from, to, one_line(), ())
     }
@@ -111,8 +110,8 @@ impl<I: OverlayInt> StringOverlay<I> {
         resource: &R,
     ) -> Result<(), Fault>
         requires ready { R.is_ready resource.now }
-        requires in_range { AreInRange I.least I.greatest (map (points_of I.value) (R.paths resource.now)) }
-        ensures { AddsStringPaths (map closed (map (points_of I.value) (R.paths resource.now))) self.old self.new result }
+        requires in_range { AreInRange I.least I.greatest (R.paths resource.now) }
+        ensures { AddsStringPaths (map closed (R.paths resource.now)) self.old self.new result }
     {
         if self.held.has_failed() {
             return Err(Fault::Failed);

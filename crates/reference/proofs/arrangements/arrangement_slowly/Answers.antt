@@ -37,29 +37,26 @@ as_given entries es all lent kept is same given = is ∙ (ap entries same ∙ gi
 
 pub returns-then-can_be_split-clause-is : goal.returns-then-can_be_split-clause-is
 returns-then-can_be_split-clause-is g c =
-    let value = g.I.OverlayInt.value in
-    let subjects = contours_of value c.args.subjects.now in
-    let clips = contours_of value c.args.clips.now in
+    let subjects = contours_of c.args.subjects.now in
+    let clips = contours_of c.args.clips.now in
     let laid = rw c.in-Some.is at c.in_ok-segments.ensures in
     redrawn_of c.args.solver.now.precision _ _ (given subjects clips) (c.given_is_a_balanced_map.ensures.normal subjects clips)
-    (as_given (counted_entries value) _ _ _ _ laid c.deref.ensures.value c.in_ok-edges.ensures.given) c.in_ok-_is_changed.ensures.redrawn
+    (as_given counted_entries _ _ _ _ laid c.deref.ensures.value c.in_ok-edges.ensures.given) c.in_ok-_is_changed.ensures.redrawn
 
 pub returns-then-can_be_split-clause-arrangement : goal.returns-then-can_be_split-clause-arrangement
 returns-then-can_be_split-clause-arrangement g c =
-    let value = g.I.OverlayInt.value in
-    let subjects = contours_of value c.args.subjects.now in
-    let clips = contours_of value c.args.clips.now in
+    let subjects = contours_of c.args.subjects.now in
+    let clips = contours_of c.args.clips.now in
     let precision = c.args.solver.now.precision in
     let laid = rw c.in-Some.is at c.in_ok-segments.ensures in
     arranged precision _ (given subjects clips) (c.given_is_a_balanced_map.ensures.normal subjects clips) (c.given_is_a_balanced_map.ensures.balanced subjects clips)
     (redrawn_of precision _ _ (given subjects clips) (c.given_is_a_balanced_map.ensures.normal subjects clips)
-    (as_given (counted_entries value) _ _ _ _ laid c.deref.ensures.value c.in_ok-edges.ensures.given) c.in_ok-_is_changed.ensures.redrawn)
+    (as_given counted_entries _ _ _ _ laid c.deref.ensures.value c.in_ok-edges.ensures.given) c.in_ok-_is_changed.ensures.redrawn)
     (c.passes_rearrange.ensures.redrawn boolean precision) (c.redrawing_comes_to_rest.ensures.ends boolean precision) (c.redrawn_maps_are_balanced.ensures precision)
 
 pub returns-then-can_be_split-clause-in_range : goal.returns-then-can_be_split-clause-in_range
 returns-then-can_be_split-clause-in_range g c =
-    let value = g.I.OverlayInt.value in
-    subst (λ xs. AreWithin g.I.OverlayInt.least g.I.OverlayInt.greatest (entries_of value xs)) c.deref-3.ensures.value (c.if-can_be_split.ensures.in_range refl)
+    subst (λ xs. AreWithin g.I.OverlayInt.least g.I.OverlayInt.greatest (entries_of xs)) c.deref-3.ensures.value (c.if-can_be_split.ensures.in_range refl)
 
 pub returns-in_err-edges-clause-is : goal.returns-in_err-edges-clause-is
 returns-in_err-edges-clause-is g c = rw ((err_from_is_err_and c.from_residual.result c.from_residual.ensures.1).1) tt
@@ -106,13 +103,11 @@ can_be_split-requires-2 g c κs = λ h. (⊑_static κs.1.0, (h.0, (⊑_static �
 
 pub split-requires-clause-in_range : goal.split-requires-clause-in_range
 split-requires-clause-in_range g c =
-    let value = g.I.OverlayInt.value in
-    subst (λ xs. AreWithin g.I.OverlayInt.least g.I.OverlayInt.greatest (entries_of value xs)) c.deref-2.ensures.value (c.if-not-can_be_split.ensures.in_range refl)
+    subst (λ xs. AreWithin g.I.OverlayInt.least g.I.OverlayInt.greatest (entries_of xs)) c.deref-2.ensures.value (c.if-not-can_be_split.ensures.in_range refl)
 
 pub split-requires-clause-counted : goal.split-requires-clause-counted
 split-requires-clause-counted g c =
-    let value = g.I.OverlayInt.value in
-    subst (λ xs. AreCounted boolean (entries_of value xs)) c.deref-2.ensures.value (c.if-not-can_be_split.ensures.counted refl)
+    subst (λ xs. AreCounted boolean (entries_of xs)) c.deref-2.ensures.value (c.if-not-can_be_split.ensures.counted refl)
 
 pub returns-then-can_be_split-clause-few : goal.returns-then-can_be_split-clause-few
 returns-then-can_be_split-clause-few g c = c.in_ok-_is_changed.ensures.few

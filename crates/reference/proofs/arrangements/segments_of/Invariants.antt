@@ -4,4 +4,4 @@ use Rattle.segment_split.specs.SegmentViews.{entries_of}
 use Rattle.reference.proofs.arrangements.segments_of.Given as goal
 
 abbrev pub invariant-loop-edge : goal.invariant-loop-edge
-invariant-loop-edge g l = entries_of g.I.OverlayInt.value l.segments.items ≡ counted_entries g.I.OverlayInt.value (take l.edge-index l.edges)
+invariant-loop-edge g l = entries_of l.segments.items ≡ counted_entries (take l.edge-index l.edges)

@@ -13,15 +13,15 @@ returns-in_err-points-clause-in_range g c = rw ((err_from_is_err_and c.from_resi
 
 pub returns-then-is_same-clause-is : goal.returns-then-is_same-clause-is
 returns-then-is_same-clause-is g c =
-    let l = border_of g.I.OverlayInt.value c.args.link in
-    let ls = borders_of g.I.OverlayInt.value c.args.links.now in
+    let l = border_of c.args.link in
+    let ls = borders_of c.args.links.now in
     ap (λ (ps : List Point). record { points = ps; is_hole = c.args.link.above })
     (c.in_ok-points.ensures.is ∙ ap (λ t. cond t (walk_from t ls l.edge.b l.edge.a) (walk_from t ls l.edge.a l.edge.b)) (sym c.if-is_same.true ∙ c.is_same.ensures))
 
 pub returns-clause-is : goal.returns-clause-is
 returns-clause-is g c =
-    let l = border_of g.I.OverlayInt.value c.args.link in
-    let ls = borders_of g.I.OverlayInt.value c.args.links.now in
+    let l = border_of c.args.link in
+    let ls = borders_of c.args.links.now in
     ap (λ (ps : List Point). record { points = ps; is_hole = c.args.link.above })
     (c.in_ok-points-2.ensures.is ∙ ap (λ t. cond t (walk_from t ls l.edge.b l.edge.a) (walk_from t ls l.edge.a l.edge.b)) (sym c.if-is_same.false ∙ c.is_same.ensures))
 

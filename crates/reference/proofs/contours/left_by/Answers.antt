@@ -11,8 +11,8 @@ use Rattle.reference.proofs.contours.left_by.Goals as goal
 
 pub loop-link-preserved : goal.loop-link-preserved
 loop-link-preserved g c =
-    let f = border_of g.I.OverlayInt.value in
-    let p = λ (l : Border). not (is_one_of (edges_of g.I.OverlayInt.value c.in_ok-edges.edges.items) l.edge) in
+    let f = border_of in
+    let p = λ (l : Border). not (is_one_of (edges_of c.in_ok-edges.edges.items) l.edge) in
     let link = c.link-item.result in
     let kept = rw c.deref.ensures.value at c.in_ok-keep_unless_passed.ensures.is in
     kept
@@ -21,15 +21,14 @@ loop-link-preserved g c =
 
 pub returns-clause-is : goal.returns-clause-is
 returns-clause-is g c =
-    let value = g.I.OverlayInt.value in
     let all = rw (take_all c.loop-link.link-index c.args.links.now (omega (arith, c.loop-link-test.false))) at c.loop-link.invariant in
     rw c.in_ok-edges.ensures.is at all
 
 pub returns-clause-in_range : goal.returns-clause-in_range
 returns-clause-in_range g c =
     let is = rw (take_all c.loop-link.link-index c.args.links.now (omega (arith, c.loop-link-test.false))) at c.loop-link.invariant in
-    let p = λ (l : Border). not (is_one_of (edges_of g.I.OverlayInt.value c.in_ok-edges.edges.items) l.edge) in
-    rw is (All-filter p (λ (l : Border). IsEdgeWithin g.I.OverlayInt.least g.I.OverlayInt.greatest l.edge) (borders_of g.I.OverlayInt.value c.args.links.now) c.requires)
+    let p = λ (l : Border). not (is_one_of (edges_of c.in_ok-edges.edges.items) l.edge) in
+    rw is (All-filter p (λ (l : Border). IsEdgeWithin g.I.OverlayInt.least g.I.OverlayInt.greatest l.edge) (borders_of c.args.links.now) c.requires)
 
 pub returns-in_err-edges-clause-is : goal.returns-in_err-edges-clause-is
 returns-in_err-edges-clause-is g c = rw ((err_from_is_err_and c.from_residual.result c.from_residual.ensures.1).1) tt

@@ -7,5 +7,5 @@ use Rattle.reference.proofs.contours.left_by.Given as goal
 -- The links before this one are kept or left out.
 abbrev pub invariant-loop-link : goal.invariant-loop-link
 invariant-loop-link g l =
-    borders_of g.I.OverlayInt.value l.left.items
-    ≡ filter (λ b. not (is_one_of (edges_of g.I.OverlayInt.value l.edges.items) b.edge)) (borders_of g.I.OverlayInt.value (take l.link-index l.links))
+    borders_of l.left.items
+    ≡ filter (λ b. not (is_one_of (edges_of l.edges.items) b.edge)) (borders_of (take l.link-index l.links))

@@ -5,7 +5,6 @@ use Rattle.std.proofs.Common.{◌≡◌, ◌∙◌, sym, ap, ◌++◌, ◌∷◌
 use Rattle.std.proofs.lemmas.List.{map-append}
 use Rattle.std.proofs.lemmas.List.Elements.{All-push}
 use Rattle.plane_base.specs.Plane.{IsWithin}
-use Rattle.plane_base.specs.Views.{points_of}
 use Rattle.contour_walk.specs.Walks.{Contour, walks_within, left_by}
 use Rattle.contour_walk.specs.WalkViews.{borders_of}
 use Rattle.contour_walk.specs.ShapeViews.{contour_of, walks_of, contour_if_any, first_walk}
@@ -14,37 +13,35 @@ use Rattle.reference.proofs.contours.walks.Goals as goal
 
 pub returns-in_default-clause-is : goal.returns-in_default-clause-is
 returns-in_default-clause-is g c =
-    let value = g.I.OverlayInt.value in
     let loop = c.loop-walk in
-    let left = borders_of value loop.left.items in
+    let left = borders_of loop.left.items in
     let n = length c.args.links.now in
     let more : n - loop._walk ≡ suc (n - (loop._walk + 1)) = omega (arith, c.loop-walk-test.true) in
-    let none : None ≡ first_walk c.args.output left = ap (contour_if_any value) (sym c.in_default.is) ∙ (c.in_ok-contour.ensures.is ∙ ap (λ ls. first_walk c.args.output (borders_of value ls)) c.deref.ensures.value) in
+    let none : None ≡ first_walk c.args.output left = ap contour_if_any (sym c.in_default.is) ∙ (c.in_ok-contour.ensures.is ∙ ap (λ ls. first_walk c.args.output (borders_of ls)) c.deref.ensures.value) in
     let gone : walks_within (n - loop._walk) c.args.output left ≡ [] = no_walk_left (n - loop._walk) (n - (loop._walk + 1)) c.args.output left more (sym none) in
-    sym (append-nil (walks_of value loop.contours.items))
-    ∙ (ap (λ cs. walks_of value loop.contours.items ++ cs) (sym gone) ∙ loop.invariant.0)
+    sym (append-nil (walks_of loop.contours.items))
+    ∙ (ap (λ cs. walks_of loop.contours.items ++ cs) (sym gone) ∙ loop.invariant.0)
 
 pub left_by-requires : goal.left_by-requires
 left_by-requires g c = rw c.deref-in-loop-walk-2.ensures.value c.loop-walk.invariant.1
 
 pub loop-walk-preserved : goal.loop-walk-preserved
 loop-walk-preserved g c =
-    let value = g.I.OverlayInt.value in
     let loop = c.loop-walk in
-    let left = borders_of value loop.left.items in
-    let left_now = borders_of value c.in_ok-left-2.left.items in
-    let so_far = walks_of value loop.contours.items in
+    let left = borders_of loop.left.items in
+    let left_now = borders_of c.in_ok-left-2.left.items in
+    let so_far = walks_of loop.contours.items in
     let n = length c.args.links.now in
     let next = n - (loop._walk + 1) in
-    let here = contour_of value c.in-Some.contour in
+    let here = contour_of c.in-Some.contour in
     let more : n - loop._walk ≡ suc next = omega (arith, c.loop-walk-test.true) in
-    let first : Some here ≡ first_walk c.args.output left = ap (contour_if_any value) (sym c.in-Some.is) ∙ (c.in_ok-contour.ensures.is ∙ ap (λ ls. first_walk c.args.output (borders_of value ls)) c.deref.ensures.value) in
+    let first : Some here ≡ first_walk c.args.output left = ap contour_if_any (sym c.in-Some.is) ∙ (c.in_ok-contour.ensures.is ∙ ap (λ ls. first_walk c.args.output (borders_of ls)) c.deref.ensures.value) in
     let step = walk_and_rest (n - loop._walk) next c.args.output left here more (sym first) in
     let passed : left_now ≡ left_by here.points left =
     c.in_ok-left-2.ensures.is
-    ∙ (ap (λ ps. left_by (points_of value ps) (borders_of value c.deref-in-loop-walk-2.result.now)) c.deref-in-loop-walk.ensures.value
-    ∙ ap (λ ls. left_by here.points (borders_of value ls)) c.deref-in-loop-walk-2.ensures.value) in
-    let pushed : walks_of value c.push.new.self.items ≡ so_far ++ here ∷ [] = ap (walks_of value) c.in_ok-push.ensures.items ∙ map-append (contour_of value) loop.contours.items (c.in-Some.contour ∷ []) in
+    ∙ (ap (λ ps. left_by ps (borders_of c.deref-in-loop-walk-2.result.now)) c.deref-in-loop-walk.ensures.value
+    ∙ ap (λ ls. left_by here.points (borders_of ls)) c.deref-in-loop-walk-2.ensures.value) in
+    let pushed : walks_of c.push.new.self.items ≡ so_far ++ here ∷ [] = ap walks_of c.in_ok-push.ensures.items ∙ map-append contour_of loop.contours.items (c.in-Some.contour ∷ []) in
     let within : All (IsWithin g.I.OverlayInt.least g.I.OverlayInt.greatest) here.points = rw c.in-Some.is at c.in_ok-contour.ensures.in_range in (
       ap (λ cs. cs ++ walks_within next c.args.output left_now) pushed
           ∙ (append_assoc so_far (here ∷ []) (walks_within next c.args.output left_now)
@@ -56,12 +53,11 @@ loop-walk-preserved g c =
 
 pub returns-clause-is : goal.returns-clause-is
 returns-clause-is g c =
-    let value = g.I.OverlayInt.value in
     let loop = c.loop-walk in
-    let so_far = walks_of value loop.contours.items in
+    let so_far = walks_of loop.contours.items in
     let end : 0 ≡ length c.args.links.now - loop._walk = omega (arith, c.loop-walk-test.false) in
     sym (append-nil so_far)
-    ∙ (ap (λ k. so_far ++ walks_within k c.args.output (borders_of value loop.left.items)) end ∙ loop.invariant.0)
+    ∙ (ap (λ k. so_far ++ walks_within k c.args.output (borders_of loop.left.items)) end ∙ loop.invariant.0)
 
 pub returns-in_err-left-clause-is : goal.returns-in_err-left-clause-is
 returns-in_err-left-clause-is g c = rw ((err_from_is_err_and c.from_residual.result c.from_residual.ensures.1).1) tt

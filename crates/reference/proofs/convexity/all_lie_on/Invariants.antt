@@ -1,9 +1,8 @@
 use Rattle.std.proofs.Common.{ℕ, ◌<◌, length}
-use Rattle.plane_base.specs.declared.point.IntPoint.{IntPoint}
 use Rattle.reference.specs.ConvexSides.{LieOnAt}
-use Rattle.plane_base.specs.Views.{point_of}
+use Rattle.plane_base.specs.Plane.{Point}
 use Rattle.reference.proofs.convexity.all_lie_on.Given as goal
 
 -- All other points lie on this side of the edges before this place.
 abbrev pub invariant-loop-place : goal.invariant-loop-place
-invariant-loop-place g l = (d : IntPoint g.row.I.Denot) (i : ℕ) → i < l.place → LieOnAt (point_of g.I.OverlayInt.value) l.side l.points d i (length l.points)
+invariant-loop-place g l = (d : Point) (i : ℕ) → i < l.place → LieOnAt l.side l.points d i (length l.points)

@@ -1,14 +1,12 @@
 use Rattle.std.proofs.Common.{sym, ◌∙◌, inr, arith}
 use Rattle.std.proofs.lemmas.Bool.{false≢true}
-use Rattle.std.proofs.lemmas.List.{length-map}
-use Rattle.plane_base.specs.Views.{point_of, points_of}
 use Rattle.reference.proofs.Laws.ConvexSides.{right_from_side, right_side}
 use Rattle.reference.proofs.convexity.is_convex.Goals as goal
 
 pub returns : goal.returns
 returns g c =
-    let contour = points_of g.I.OverlayInt.value c.args.points.now in (
-      λ lie. ((omega (arith, length-map c.args.points.now (point_of g.I.OverlayInt.value), c.if-points-lt3.false)), inr (right_from_side contour (c.all_lie_on-2.ensures.0 lie))),
+    let contour = c.args.points.now in (
+      λ lie. ((omega (arith, c.if-points-lt3.false)), inr (right_from_side contour (c.all_lie_on-2.ensures.0 lie))),
       λ convex. c.all_lie_on-2.ensures.1 (right_side contour (λ left. absurd (false≢true (sym c.if-all_lie_on.false ∙ c.all_lie_on.ensures.1 left))) convex),
     )
 
@@ -21,5 +19,5 @@ all_lie_on-requires-2 g c = c.requires
 pub returns-then-points-lt3 : goal.returns-then-points-lt3
 returns-then-points-lt3 g c = (
   λ h. absurd (false≢true h),
-  λ convex. absurd (omega (arith, convex.0, length-map c.args.points.now (point_of g.I.OverlayInt.value), c.if-points-lt3.true)),
+  λ convex. absurd (omega (arith, convex.0, c.if-points-lt3.true)),
 )

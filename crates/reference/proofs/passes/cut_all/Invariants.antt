@@ -6,6 +6,5 @@ use Rattle.reference.proofs.passes.cut_all.Given as goal
 -- The segments before this one are cut.
 abbrev pub invariant-loop-segment : goal.invariant-loop-segment
 invariant-loop-segment g l =
-    let value = g.I.OverlayInt.value in
-    let edges = edges_of (entries_of value l.segments) in
-    entries_of value l.pieces.items ≡ flat_map (cut g.C.WindingCount.counting (marks_in l.precision l.pass) edges) (entries_of value (take l.segment-index l.segments))
+    let edges = edges_of (entries_of l.segments) in
+    entries_of l.pieces.items ≡ flat_map (cut g.C.WindingCount.counting (marks_in l.precision l.pass) edges) (entries_of (take l.segment-index l.segments))

@@ -1,15 +1,12 @@
-use Rattle.std.proofs.Common.{◌∙◌, ap₂, ◌++◌}
-use Rattle.std.specs.Option.{option_to_list}
-use Rattle.std.proofs.lemmas.List.{map-append}
+use Rattle.std.proofs.Common.{◌∙◌, ap, ap₂, ◌∷◌, [], ◌++◌, filter}
+use Rattle.plane_base.specs.Plane.{Point}
 use Rattle.plane_base.specs.Segments.{strictly_inside}
-use Rattle.plane_base.specs.Views.{point_of}
-use Rattle.plane_base.specs.SegmentViews.{edge_of}
 use Rattle.reference.proofs.Laws.Marks.{filter_two}
 use Rattle.reference.proofs.passes.ends_inside.Goals as goal
 
 pub returns : goal.returns
 returns g c =
-    let value = g.I.OverlayInt.value in
-    map-append (point_of value) (option_to_list c.if_inside.result) (option_to_list c.if_inside-2.result)
-    ∙ (ap₂ (λ l m. l ++ m) c.if_inside.ensures c.if_inside-2.ensures
-    ∙ filter_two (λ p. strictly_inside p (edge_of value c.args.s)) (point_of value c.args.t.a) (point_of value c.args.t.b))
+    let test = λ (p : Point). strictly_inside p c.args.s in
+    ap₂ (λ l m. l ++ m) c.if_inside.ensures c.if_inside-2.ensures
+    ∙ (ap (λ t. filter test (t.a ∷ []) ++ filter test (t.b ∷ [])) c.t.view_is
+    ∙ filter_two test c.args.t.a c.args.t.b)

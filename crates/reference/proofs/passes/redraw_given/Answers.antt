@@ -9,20 +9,18 @@ use Rattle.reference.proofs.passes.redraw_given.Goals as goal
 
 pub redraw-requires-clause-normal : goal.redraw-requires-clause-normal
 redraw-requires-clause-normal g c =
-    let value = g.I.OverlayInt.value in
-    subst (IsNormal boolean) (sym (ap (entries_of value) c.deref-2.ensures.value ∙ c.in_ok-map.ensures.normal))
-    (joined_normal value g.I.Ord.cmp g.met.I.OverlayInt.ordered (λ s. s.x_segment) (λ s. s.count) boolean c.args.given.now (λ s. s.directed))
+    let value = g.I.IntNumber.value in
+    subst (IsNormal boolean) (sym (ap entries_of c.deref-2.ensures.value ∙ c.in_ok-map.ensures.normal))
+    (joined_normal value boolean c.args.given.now)
 
 pub redraw-requires-clause-rectilinear : goal.redraw-requires-clause-rectilinear
 redraw-requires-clause-rectilinear g c =
-    let value = g.I.OverlayInt.value in
-    subst (λ l. AllRectilinear (edges_of (entries_of value l))) (c.deref.ensures.value ∙ sym c.deref-2.ensures.value)
+    subst (λ l. AllRectilinear (edges_of (entries_of l))) (c.deref.ensures.value ∙ sym c.deref-2.ensures.value)
     (c.are_rectilinear.ensures c.if-not-are_rectilinear.false)
 
 pub returns : goal.returns
 returns g c =
-    let value = g.I.OverlayInt.value in
     record {
       redrawn = λ precision.
-          c.in_ok-is_marked.ensures.redrawn precision ∙ ap (redrawn boolean precision) (ap (entries_of value) c.deref-2.ensures.value ∙ c.in_ok-map.ensures.normal);
+          c.in_ok-is_marked.ensures.redrawn precision ∙ ap (redrawn boolean precision) (ap entries_of c.deref-2.ensures.value ∙ c.in_ok-map.ensures.normal);
     }

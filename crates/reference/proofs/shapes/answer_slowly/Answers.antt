@@ -10,32 +10,30 @@ use Rattle.reference.proofs.shapes.answer_slowly.Goals as goal
 
 pub add_shape-requires-clause-all_owned : goal.add_shape-requires-clause-all_owned
 add_shape-requires-clause-all_owned g c =
-    let value = g.I.OverlayInt.value in
-    let links = borders_of value c.args.links.now in
+    let links = borders_of c.args.links.now in
     let contours = c.in_ok-contours.contours.items in
     let many : length c.in_ok-owners.owners.items ≡ length contours =
-    ap length (c.in_ok-owners.ensures.is ∙ ap (λ cs. owners_from links (walks_of value cs) 0 (walks_of value cs)) c.deref.ensures.value)
-    ∙ (many_owners links (walks_of value contours) 0 (walks_of value contours) ∙ length-map contours (contour_of value)) in
+    ap length (c.in_ok-owners.ensures.is ∙ ap (λ cs. owners_from links (walks_of cs) 0 (walks_of cs)) c.deref.ensures.value)
+    ∙ (many_owners links (walks_of contours) 0 (walks_of contours) ∙ length-map contours contour_of) in
     ap length c.deref-in-loop-number.ensures.value ∙ (many ∙ sym (ap length c.deref-in-loop-number-2.ensures.value))
 
 pub loop-number-preserved : goal.loop-number-preserved
 loop-number-preserved g c =
-    let value = g.I.OverlayInt.value in
-    let links = borders_of value c.args.links.now in
-    let contours = walks_of value c.in_ok-contours.contours.items in
+    let links = borders_of c.args.links.now in
+    let contours = walks_of c.in_ok-contours.contours.items in
     let i = c.loop-number.number in
-    let so_far = shapes_of value c.loop-number.shapes.items in
+    let so_far = shapes_of c.loop-number.shapes.items in
     let finish = map (finished c.args.keep_all) in
     let here = shape_of links contours i in
     let rest = shapes_from links contours (i + 1) (drop (i + 1) contours) in
-    let owners : c.deref-in-loop-number.result.now ≡ owners_from links (walks_of value c.deref-in-loop-number-2.result.now) 0 (walks_of value c.deref-in-loop-number-2.result.now) =
+    let owners : c.deref-in-loop-number.result.now ≡ owners_from links (walks_of c.deref-in-loop-number-2.result.now) 0 (walks_of c.deref-in-loop-number-2.result.now) =
     c.deref-in-loop-number.ensures.value
-    ∙ (c.in_ok-owners.ensures.is ∙ ap (λ cs. owners_from links (walks_of value cs) 0 (walks_of value cs)) c.deref.ensures.value ∙ sym (ap (λ cs. owners_from links (walks_of value cs) 0 (walks_of value cs)) c.deref-in-loop-number-2.ensures.value)) in
+    ∙ (c.in_ok-owners.ensures.is ∙ ap (λ cs. owners_from links (walks_of cs) 0 (walks_of cs)) c.deref.ensures.value ∙ sym (ap (λ cs. owners_from links (walks_of cs) 0 (walks_of cs)) c.deref-in-loop-number-2.ensures.value)) in
     let inside : i < length c.in_ok-contours.contours.items = omega (arith, c.loop-number-test.true, c.len-number-end.ensures) in
     let step : shapes_from links contours i (drop i contours) ≡ here ++ rest =
-    shapes_more (contour_of value) c.in_ok-contours.contours.items links i inside in
-    let added : shapes_of value c.add_shape.new.shapes.items ≡ so_far ++ map finish here =
-    c.in_ok-add_shape.ensures.is links owners ∙ ap (λ cs. so_far ++ map finish (shape_of links (walks_of value cs) i)) c.deref-in-loop-number-2.ensures.value in
+    shapes_more contour_of c.in_ok-contours.contours.items links i inside in
+    let added : shapes_of c.add_shape.new.shapes.items ≡ so_far ++ map finish here =
+    c.in_ok-add_shape.ensures.is links owners ∙ ap (λ cs. so_far ++ map finish (shape_of links (walks_of cs) i)) c.deref-in-loop-number-2.ensures.value in
     ap (λ ps. ps ++ map finish rest) added
     ∙ (append_assoc so_far (map finish here) (map finish rest)
     ∙ (ap (λ ps. so_far ++ ps) (sym (ap (map finish) step ∙ map-append finish here rest)) ∙ c.loop-number.invariant))

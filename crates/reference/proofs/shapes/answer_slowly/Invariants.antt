@@ -7,7 +7,7 @@ use Rattle.reference.proofs.shapes.answer_slowly.Given as goal
 -- The shapes so far and those of the contours from this one on are all.
 abbrev pub invariant-loop-number : goal.invariant-loop-number
 invariant-loop-number g l =
-    let links = borders_of g.I.OverlayInt.value l.links in
-    let contours = walks_of g.I.OverlayInt.value l.contours.items in
-    shapes_of g.I.OverlayInt.value l.shapes.items ++ map (map (finished l.keep_all)) (shapes_from links contours l.number (drop l.number contours))
+    let links = borders_of l.links in
+    let contours = walks_of l.contours.items in
+    shapes_of l.shapes.items ++ map (map (finished l.keep_all)) (shapes_from links contours l.number (drop l.number contours))
     ≡ map (map (finished l.keep_all)) (shapes_from links contours 0 contours)

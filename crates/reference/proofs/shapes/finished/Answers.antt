@@ -1,17 +1,15 @@
 use Rattle.std.proofs.Common.{cond, sym, ap, ◌∙◌}
-use Rattle.plane_base.specs.Views.{points_of}
 use Rattle.contour_walk.specs.Shapes.{without_straight}
 use Rattle.reference.proofs.shapes.finished.Goals as goal
 
 pub returns-then-keep_all-clause-is : goal.returns-then-keep_all-clause-is
 returns-then-keep_all-clause-is g c =
-    let value = g.I.OverlayInt.value in
-    let ps = points_of value c.args.points.now in
-    ap (points_of value) c.in_ok-points.ensures.items ∙ ap (λ b. cond b ps (without_straight ps)) (sym c.if-keep_all.true)
+    let ps = c.args.points.now in
+    c.in_ok-points.ensures.items ∙ ap (λ b. cond b ps (without_straight ps)) (sym c.if-keep_all.true)
 
 pub returns-clause-is : goal.returns-clause-is
 returns-clause-is g c =
-    let ps = points_of g.I.OverlayInt.value c.args.points.now in
+    let ps = c.args.points.now in
     c.in_ok-points-2.ensures.is ∙ ap (λ b. cond b ps (without_straight ps)) (sym c.if-keep_all.false)
 
 pub returns-then-keep_all-clause-memory : goal.returns-then-keep_all-clause-memory

@@ -1,7 +1,6 @@
 use Rattle.std.proofs.Common.{◌≡◌, ◌-◌, length, drop}
 use Rattle.std.specs.Prelude.{IfSome}
 use Rattle.plane_base.specs.Plane.{IsWithin}
-use Rattle.plane_base.specs.Views.{point_of, points_of}
 use Rattle.contour_walk.specs.Turning.{first_by_turn}
 use Rattle.contour_walk.specs.WalkViews.{point_if_any}
 use Rattle.reference.proofs.turning.first_by_turn.Given as goal
@@ -9,5 +8,5 @@ use Rattle.reference.proofs.turning.first_by_turn.Given as goal
 -- The first of the points behind is known.
 abbrev pub invariant-loop-done : goal.invariant-loop-done
 invariant-loop-done g l =
-    (point_if_any g.I.OverlayInt.value l.first ≡ first_by_turn l.clockwise (point_of g.I.OverlayInt.value l.center) (point_of g.I.OverlayInt.value l.from) (points_of g.I.OverlayInt.value (drop (length l.points - l.done) l.points)))
-    × IfSome l.first (λ p. IsWithin g.I.OverlayInt.least g.I.OverlayInt.greatest (point_of g.I.OverlayInt.value p))
+    (point_if_any l.first ≡ first_by_turn l.clockwise l.center l.from (drop (length l.points - l.done) l.points))
+    × IfSome l.first (λ p. IsWithin g.I.OverlayInt.least g.I.OverlayInt.greatest p)

@@ -11,12 +11,12 @@ use Rattle.reference.proofs.walks.all_links_in_range.Goals as goal
 pub returns-then-not-is_link_in_range : goal.returns-then-not-is_link_in_range
 returns-then-not-is_link_in_range g c = (
   λ e. absurd (false≢true e),
-  λ all. sym c.if-not-is_link_in_range.true ∙ c.is_link_in_range.ensures.1 (All-mapped (λ (l : Border). IsEdgeWithin g.I.OverlayInt.least g.I.OverlayInt.greatest l.edge) (border_of g.I.OverlayInt.value) c.args.links.now _ _ c.loop-link-test.true c.link-item.is all),
+  λ all. sym c.if-not-is_link_in_range.true ∙ c.is_link_in_range.ensures.1 (All-mapped (λ (l : Border). IsEdgeWithin g.I.OverlayInt.least g.I.OverlayInt.greatest l.edge) border_of c.args.links.now _ _ c.loop-link-test.true c.link-item.is all),
 )
 
 pub loop-link-preserved : goal.loop-link-preserved
 loop-link-preserved g c =
-    All-taken_more (border_of g.I.OverlayInt.value) c.args.links.now c.loop-link.link-index c.link-item.result c.loop-link-test.true c.link-item.is (λ (l : Border). IsEdgeWithin g.I.OverlayInt.least g.I.OverlayInt.greatest l.edge) c.loop-link.invariant (c.is_link_in_range.ensures.0 c.if-not-is_link_in_range.false)
+    All-taken_more border_of c.args.links.now c.loop-link.link-index c.link-item.result c.loop-link-test.true c.link-item.is (λ (l : Border). IsEdgeWithin g.I.OverlayInt.least g.I.OverlayInt.greatest l.edge) c.loop-link.invariant (c.is_link_in_range.ensures.0 c.if-not-is_link_in_range.false)
 
 pub returns : goal.returns
 returns g c =

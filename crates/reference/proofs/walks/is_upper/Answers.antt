@@ -2,7 +2,6 @@ use Rattle.std.proofs.Common.{◌≡◌, ◌∙◌, ℤ, pos, int_lt, int_cmp, B
 use Rattle.std.specs.Ordering.{ordering_index}
 use Rattle.std.proofs.lemmas.Int.{ints}
 use Rattle.plane_base.specs.Plane.{turn}
-use Rattle.plane_base.specs.Views.{point_of}
 use Rattle.reference.proofs.walks.is_upper.Goals as goal
 
 greater_tells : (z : ℤ) (b : Bool) → b ≡ (ordering_index (int_cmp z (pos 0)) == 2) → b ≡ int_lt (pos 0) z
@@ -10,6 +9,7 @@ greater_tells z b e = grind (arith, ints)
 
 pub returns : goal.returns
 returns g c =
-    let value = g.I.OverlayInt.value in
-    greater_tells (turn (point_of value c.args.other.now.edge.a) (point_of value c.args.other.now.edge.b) (point_of value c.args.one.now.edge.b)) c.eq.result
-    (c.eq.ensures ∙ ap (λ o. ordering_index o == 2) c.orientation.ensures)
+    let one = c.args.one.now.edge in
+    let other = c.args.other.now.edge in
+    let sign : c.orientation.result ≡ int_cmp (turn other.a other.b one.b) (pos 0) = rw (← c.one.view_is, ← c.other.view_is) c.orientation.ensures in
+    greater_tells (turn other.a other.b one.b) c.eq.result (c.eq.ensures ∙ ap (λ o. ordering_index o == 2) sign)

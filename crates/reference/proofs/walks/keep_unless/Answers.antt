@@ -9,7 +9,7 @@ returns-in_err-push-clause-is g c = rw ((err_from_is_err_and c.from_residual.res
 
 pub returns-then-is_edge-clause-is : goal.returns-then-is_edge-clause-is
 returns-then-is_edge-clause-is g c =
-    let f = border_of g.I.OverlayInt.value in
+    let f = border_of in
     let xs = map f c.args.left.now.items in
     sym (append-nil xs) ∙ ap (λ b. xs ++ cond (not b) (f c.args.link ∷ []) []) (sym c.if-is_edge.true ∙ c.is_edge.ensures)
 
@@ -18,7 +18,7 @@ returns-then-is_edge-clause-memory g c = tt
 
 pub returns-clause-is : goal.returns-clause-is
 returns-clause-is g c =
-    let f = border_of g.I.OverlayInt.value in
+    let f = border_of in
     let xs = map f c.args.left.now.items in
     ap (map f) c.in_ok-push.ensures.items
     ∙ (map-append f c.args.left.now.items (c.args.link ∷ []) ∙ ap (λ b. xs ++ cond (not b) (f c.args.link ∷ []) []) (sym c.if-is_edge.false ∙ c.is_edge.ensures))

@@ -5,8 +5,6 @@ use Rattle.std.proofs.Common.{◌≡◌, ◌∙◌, sym, ap, subst, All, ◌++�
 use Rattle.std.proofs.lemmas.List.{length-map}
 use Rattle.std.proofs.lemmas.List.Elements.{All-nil, All-cons}
 use Rattle.plane_base.specs.Plane.{Point, IsWithin}
-use Rattle.plane_base.specs.Views.{point_of, points_of}
-use Rattle.plane_base.specs.SegmentViews.{edge_of}
 use Rattle.contour_walk.specs.Walks.{Border, between, without, next_point, walked, walk_from}
 use Rattle.contour_walk.specs.WalkViews.{border_of, borders_of}
 use Rattle.contour_walk.proofs.Facts.Walks.Laws.{walk_begun}
@@ -14,20 +12,19 @@ use Rattle.reference.proofs.walks.walk_from.Goals as goal
 
 pub returns-clause-is : goal.returns-clause-is
 returns-clause-is g c =
-    let value = g.I.OverlayInt.value in
-    let links = borders_of value c.args.links.now in
-    let left = borders_of value c.in_ok-left.left.items in
-    let first = point_of value c.args.first in
-    let second = point_of value c.args.second in
-    let end = point_of value c.in-Some.end in
-    let last = edge_of value c.between-2.result in
+    let links = borders_of c.args.links.now in
+    let left = borders_of c.in_ok-left.left.items in
+    let first = c.args.first in
+    let second = c.args.second in
+    let end = c.in-Some.end in
+    let last = c.between-2.result in
     let n = length c.args.links.now in
     let left_is : left ≡ without (between first second) links = c.in_ok-left.ensures.is ∙ ap (λ e. without e links) c.between.ensures in
     let next : next_point (not c.args.clockwise) left first second ≡ Some end = sym (rw c.deref.ensures.value at c.in-Some.ensures.is) in
-    let seen : points_of value c.push.new.self.items ≡ first ∷ [] = ap (points_of value) (c.in_ok-push.ensures.items ∙ ap (λ ps. ps ++ c.args.first ∷ []) c.new-points.ensures.items) in
+    let seen : c.push.new.self.items ≡ first ∷ [] = c.in_ok-push.ensures.items ∙ ap (λ ps. ps ++ c.args.first ∷ []) c.new-points.ensures.items in
     c.in_ok-walk_on.ensures.is
     ∙ (ap (λ ps. ps ++ walked c.args.clockwise last n left second first) seen
-    ∙ walk_begun c.args.clockwise links left first second end last n left_is next c.between-2.ensures (sym (length-map c.args.links.now (border_of value))))
+    ∙ walk_begun c.args.clockwise links left first second end last n left_is next c.between-2.ensures (sym (length-map c.args.links.now border_of)))
 
 pub returns-in_err-left-clause-is : goal.returns-in_err-left-clause-is
 returns-in_err-left-clause-is g c = rw ((err_from_is_err_and c.from_residual.result c.from_residual.ensures.1).1) tt
@@ -158,18 +155,17 @@ returns-clause-in_range g c = c.in_ok-walk_on.ensures.in_range
 pub walk_on-requires-clause-points_in_range : goal.walk_on-requires-clause-points_in_range
 walk_on-requires-clause-points_in_range g c =
     let within = IsWithin g.I.OverlayInt.least g.I.OverlayInt.greatest in
-    let seen : points_of g.I.OverlayInt.value c.push.new.self.items ≡ point_of g.I.OverlayInt.value c.args.first ∷ [] =
-    ap (points_of g.I.OverlayInt.value) (c.in_ok-push.ensures.items ∙ ap (λ ps. ps ++ c.args.first ∷ []) c.new-points.ensures.items) in
-    subst (All within) (sym seen) (All-cons within (point_of g.I.OverlayInt.value c.args.first) [] c.requires.first_in_range (All-nil within))
+    let seen : c.push.new.self.items ≡ c.args.first ∷ [] =
+    c.in_ok-push.ensures.items ∙ ap (λ ps. ps ++ c.args.first ∷ []) c.new-points.ensures.items in
+    subst (All within) (sym seen) (All-cons within c.args.first [] c.requires.first_in_range (All-nil within))
 
 pub returns-in_default-clause-in_range : goal.returns-in_default-clause-in_range
 returns-in_default-clause-in_range g c =
-    let value = g.I.OverlayInt.value in
     let within = IsWithin g.I.OverlayInt.least g.I.OverlayInt.greatest in
-    let first = point_of value c.args.first in
-    let second = point_of value c.args.second in
-    let seen : points_of value c.push-in_default.new.self.items ≡ first ∷ second ∷ [] =
-    ap (points_of value) (c.in_ok-push-2.ensures.items ∙ ap (λ ps. ps ++ c.args.second ∷ []) (c.in_ok-push.ensures.items ∙ ap (λ ps. ps ++ c.args.first ∷ []) c.new-points.ensures.items)) in
+    let first = c.args.first in
+    let second = c.args.second in
+    let seen : c.push-in_default.new.self.items ≡ first ∷ second ∷ [] =
+    c.in_ok-push-2.ensures.items ∙ ap (λ ps. ps ++ c.args.second ∷ []) (c.in_ok-push.ensures.items ∙ ap (λ ps. ps ++ c.args.first ∷ []) c.new-points.ensures.items) in
     subst (All within) (sym seen) (All-cons within first (second ∷ []) c.requires.first_in_range (All-cons within second [] c.requires.second_in_range (All-nil within)))
 
 -- where no link is left at the first point, the walk ends at the second
@@ -184,13 +180,12 @@ ended clockwise links left first second left_is none =
 
 pub returns-in_default-clause-is : goal.returns-in_default-clause-is
 returns-in_default-clause-is g c =
-    let value = g.I.OverlayInt.value in
-    let links = borders_of value c.args.links.now in
-    let left = borders_of value c.in_ok-left.left.items in
-    let first = point_of value c.args.first in
-    let second = point_of value c.args.second in
+    let links = borders_of c.args.links.now in
+    let left = borders_of c.in_ok-left.left.items in
+    let first = c.args.first in
+    let second = c.args.second in
     let left_is : left ≡ without (between first second) links = c.in_ok-left.ensures.is ∙ ap (λ e. without e links) c.between.ensures in
     let none : next_point (not c.args.clockwise) left first second ≡ None = sym (rw c.deref.ensures.value at c.in_default.ensures.is) in
-    let seen : points_of value c.push-in_default.new.self.items ≡ first ∷ second ∷ [] =
-    ap (points_of value) (c.in_ok-push-2.ensures.items ∙ ap (λ ps. ps ++ c.args.second ∷ []) (c.in_ok-push.ensures.items ∙ ap (λ ps. ps ++ c.args.first ∷ []) c.new-points.ensures.items)) in
+    let seen : c.push-in_default.new.self.items ≡ first ∷ second ∷ [] =
+    c.in_ok-push-2.ensures.items ∙ ap (λ ps. ps ++ c.args.second ∷ []) (c.in_ok-push.ensures.items ∙ ap (λ ps. ps ++ c.args.first ∷ []) c.new-points.ensures.items) in
     seen ∙ ended c.args.clockwise links left first second left_is none

@@ -2,11 +2,8 @@ use contract.BorrowLft.{⊑_static}
 use Rattle.reference.proofs.Lives.{point_lives, link_lives, within_link, within_push, within_point, within_vec}
 use Rattle.std.proofs.lemmas.Result.{err_from_is_err_and}
 use Rattle.std.proofs.Common.{◌≡◌, ◌∙◌, sym, ap, subst, All, ◌++◌, ◌∷◌, [], ◌+◌, ◌-◌, suc, true, false, Some, None, append-nil, arith}
-use Rattle.std.proofs.lemmas.List.{map-append}
 use Rattle.std.proofs.lemmas.List.Elements.{All-push}
 use Rattle.plane_base.specs.Plane.{IsWithin}
-use Rattle.plane_base.specs.Views.{point_of, points_of}
-use Rattle.plane_base.specs.SegmentViews.{edge_of}
 use Rattle.contour_walk.specs.Walks.{between, same_edge, without, next_point, walked}
 use Rattle.contour_walk.specs.WalkViews.{borders_of}
 use Rattle.contour_walk.proofs.Facts.Walks.Laws.{walked_to_the_end, walked_to_the_last, walked_on}
@@ -14,32 +11,30 @@ use Rattle.reference.proofs.walks.walk_on.Goals as goal
 
 pub returns-in_default-clause-is : goal.returns-in_default-clause-is
 returns-in_default-clause-is g c =
-    let value = g.I.OverlayInt.value in
     let loop = c.loop-step in
-    let so_far = points_of value loop.points.items in
+    let so_far = loop.points.items in
     let n = c.args.steps in
     let more : n - loop.step ≡ suc (n - (loop.step + 1)) = omega (arith, c.loop-step-test.true) in
-    let pushed : points_of value c.push.new.self.items ≡ so_far ++ point_of value loop.at ∷ [] = ap (points_of value) c.in_ok-push.ensures.items ∙ map-append (point_of value) loop.points.items (loop.at ∷ []) in
-    let none : next_point c.args.clockwise (borders_of value loop.left.items) (point_of value loop.at) (point_of value loop.before) ≡ None = sym (rw c.deref.ensures.value at c.in_default.ensures.is) in
+    let pushed : c.push.new.self.items ≡ so_far ++ loop.at ∷ [] = c.in_ok-push.ensures.items in
+    let none : next_point c.args.clockwise (borders_of loop.left.items) loop.at loop.before ≡ None = sym (rw c.deref.ensures.value at c.in_default.ensures.is) in
     pushed
-    ∙ (sym (walked_to_the_end c.args.clockwise (edge_of value c.args.last) (n - loop.step) (n - (loop.step + 1)) (borders_of value loop.left.items) (point_of value loop.at) (point_of value loop.before) more so_far none)
+    ∙ (sym (walked_to_the_end c.args.clockwise c.args.last (n - loop.step) (n - (loop.step + 1)) (borders_of loop.left.items) loop.at loop.before more so_far none)
     ∙ loop.invariant.0)
 
 pub returns-then-is_same_edge-clause-is : goal.returns-then-is_same_edge-clause-is
 returns-then-is_same_edge-clause-is g c =
-    let value = g.I.OverlayInt.value in
     let loop = c.loop-step in
-    let so_far = points_of value loop.points.items in
-    let last = edge_of value c.args.last in
-    let v = point_of value loop.at in
-    let w = point_of value c.in-Some.next in
+    let so_far = loop.points.items in
+    let last = c.args.last in
+    let v = loop.at in
+    let w = c.in-Some.next in
     let n = c.args.steps in
     let more : n - loop.step ≡ suc (n - (loop.step + 1)) = omega (arith, c.loop-step-test.true) in
-    let pushed : points_of value c.push.new.self.items ≡ so_far ++ v ∷ [] = ap (points_of value) c.in_ok-push.ensures.items ∙ map-append (point_of value) loop.points.items (loop.at ∷ []) in
-    let next : next_point c.args.clockwise (borders_of value loop.left.items) v (point_of value loop.before) ≡ Some w = sym (rw c.deref.ensures.value at c.in-Some.ensures.is) in
+    let pushed : c.push.new.self.items ≡ so_far ++ v ∷ [] = c.in_ok-push.ensures.items in
+    let next : next_point c.args.clockwise (borders_of loop.left.items) v loop.before ≡ Some w = sym (rw c.deref.ensures.value at c.in-Some.ensures.is) in
     let held : same_edge (between v w) last ≡ true = ap (λ e. same_edge e last) (sym c.between-edge.ensures) ∙ (sym c.is_same_edge.ensures ∙ c.if-is_same_edge.true) in
     pushed
-    ∙ (sym (walked_to_the_last c.args.clockwise last (n - loop.step) (n - (loop.step + 1)) (borders_of value loop.left.items) v (point_of value loop.before) more so_far w next held)
+    ∙ (sym (walked_to_the_last c.args.clockwise last (n - loop.step) (n - (loop.step + 1)) (borders_of loop.left.items) v loop.before more so_far w next held)
     ∙ loop.invariant.0)
 
 pub without-requires : goal.without-requires
@@ -47,22 +42,21 @@ without-requires g c = rw c.deref-in-loop-step.ensures.value c.loop-step.invaria
 
 pub loop-step-preserved : goal.loop-step-preserved
 loop-step-preserved g c =
-    let value = g.I.OverlayInt.value in
     let loop = c.loop-step in
-    let so_far = points_of value loop.points.items in
-    let last = edge_of value c.args.last in
-    let v = point_of value loop.at in
-    let w = point_of value c.in-Some.next in
+    let so_far = loop.points.items in
+    let last = c.args.last in
+    let v = loop.at in
+    let w = c.in-Some.next in
     let n = c.args.steps in
     let more : n - loop.step ≡ suc (n - (loop.step + 1)) = omega (arith, c.loop-step-test.true) in
-    let pushed : points_of value c.push.new.self.items ≡ so_far ++ v ∷ [] = ap (points_of value) c.in_ok-push.ensures.items ∙ map-append (point_of value) loop.points.items (loop.at ∷ []) in
-    let next : next_point c.args.clockwise (borders_of value loop.left.items) v (point_of value loop.before) ≡ Some w = sym (rw c.deref.ensures.value at c.in-Some.ensures.is) in
+    let pushed : c.push.new.self.items ≡ so_far ++ v ∷ [] = c.in_ok-push.ensures.items in
+    let next : next_point c.args.clockwise (borders_of loop.left.items) v loop.before ≡ Some w = sym (rw c.deref.ensures.value at c.in-Some.ensures.is) in
     let other : same_edge (between v w) last ≡ false = ap (λ e. same_edge e last) (sym c.between-edge.ensures) ∙ (sym c.is_same_edge.ensures ∙ c.if-is_same_edge.false) in
-    let left : borders_of value c.in_ok-left.left.items ≡ without (between v w) (borders_of value loop.left.items) =
-    (rw c.deref-in-loop-step.ensures.value at c.in_ok-left.ensures.is) ∙ ap (λ e. without e (borders_of value loop.left.items)) c.between-edge.ensures in (
-      ap (λ ps. ps ++ walked c.args.clockwise last (n - (loop.step + 1)) (borders_of value c.in_ok-left.left.items) w v) pushed
+    let left : borders_of c.in_ok-left.left.items ≡ without (between v w) (borders_of loop.left.items) =
+    (rw c.deref-in-loop-step.ensures.value at c.in_ok-left.ensures.is) ∙ ap (λ e. without e (borders_of loop.left.items)) c.between-edge.ensures in (
+      ap (λ ps. ps ++ walked c.args.clockwise last (n - (loop.step + 1)) (borders_of c.in_ok-left.left.items) w v) pushed
           ∙ (ap (λ ls. (so_far ++ v ∷ []) ++ walked c.args.clockwise last (n - (loop.step + 1)) ls w v) left
-          ∙ (sym (walked_on c.args.clockwise last (n - loop.step) (n - (loop.step + 1)) (borders_of value loop.left.items) v (point_of value loop.before) more so_far w next other)
+          ∙ (sym (walked_on c.args.clockwise last (n - loop.step) (n - (loop.step + 1)) (borders_of loop.left.items) v loop.before more so_far w next other)
           ∙ loop.invariant.0)),
       c.in_ok-left.ensures.in_range,
       c.in-Some.ensures.in_range,
@@ -72,30 +66,27 @@ loop-step-preserved g c =
 
 pub returns-clause-is : goal.returns-clause-is
 returns-clause-is g c =
-    let value = g.I.OverlayInt.value in
     let loop = c.loop-step in
-    let so_far = points_of value loop.points.items in
+    let so_far = loop.points.items in
     let n = c.args.steps in
     let end : 0 ≡ n - loop.step = omega (arith, c.loop-step-test.false) in
     sym (append-nil so_far)
-    ∙ (ap (λ k. so_far ++ walked c.args.clockwise (edge_of value c.args.last) k (borders_of value loop.left.items) (point_of value loop.at) (point_of value loop.before)) end
+    ∙ (ap (λ k. so_far ++ walked c.args.clockwise c.args.last k (borders_of loop.left.items) loop.at loop.before) end
     ∙ loop.invariant.0)
 
 pub returns-in_default-clause-in_range : goal.returns-in_default-clause-in_range
 returns-in_default-clause-in_range g c =
-    let value = g.I.OverlayInt.value in
     let loop = c.loop-step in
     let within = IsWithin g.I.OverlayInt.least g.I.OverlayInt.greatest in
-    let pushed : points_of value c.push.new.self.items ≡ points_of value loop.points.items ++ point_of value loop.at ∷ [] = ap (points_of value) c.in_ok-push.ensures.items ∙ map-append (point_of value) loop.points.items (loop.at ∷ []) in
-    subst (All within) (sym pushed) (All-push within (points_of value loop.points.items) (point_of value loop.at) loop.invariant.4 loop.invariant.2)
+    let pushed : c.push.new.self.items ≡ loop.points.items ++ loop.at ∷ [] = c.in_ok-push.ensures.items in
+    subst (All within) (sym pushed) (All-push within loop.points.items loop.at loop.invariant.4 loop.invariant.2)
 
 pub returns-then-is_same_edge-clause-in_range : goal.returns-then-is_same_edge-clause-in_range
 returns-then-is_same_edge-clause-in_range g c =
-    let value = g.I.OverlayInt.value in
     let loop = c.loop-step in
     let within = IsWithin g.I.OverlayInt.least g.I.OverlayInt.greatest in
-    let pushed : points_of value c.push.new.self.items ≡ points_of value loop.points.items ++ point_of value loop.at ∷ [] = ap (points_of value) c.in_ok-push.ensures.items ∙ map-append (point_of value) loop.points.items (loop.at ∷ []) in
-    subst (All within) (sym pushed) (All-push within (points_of value loop.points.items) (point_of value loop.at) loop.invariant.4 loop.invariant.2)
+    let pushed : c.push.new.self.items ≡ loop.points.items ++ loop.at ∷ [] = c.in_ok-push.ensures.items in
+    subst (All within) (sym pushed) (All-push within loop.points.items loop.at loop.invariant.4 loop.invariant.2)
 
 pub returns-clause-in_range : goal.returns-clause-in_range
 returns-clause-in_range g c = c.loop-step.invariant.4

@@ -1,9 +1,8 @@
 use Rattle.std.proofs.Common.{◌≡◌, take}
-use Rattle.plane_base.specs.SegmentViews.{edge_of}
 use Rattle.contour_walk.specs.Walks.{without}
 use Rattle.contour_walk.specs.WalkViews.{borders_of}
 use Rattle.reference.proofs.walks.without.Given as goal
 
 -- The links before this one are kept or left out.
 abbrev pub invariant-loop-link : goal.invariant-loop-link
-invariant-loop-link g l = borders_of g.I.OverlayInt.value l.left.items ≡ without (edge_of g.I.OverlayInt.value l.edge) (borders_of g.I.OverlayInt.value (take l.link-index l.links))
+invariant-loop-link g l = borders_of l.left.items ≡ without l.edge (borders_of (take l.link-index l.links))

@@ -7,4 +7,4 @@ use Rattle.reference.proofs.windings.all_edges_in_range.Given as goal
 -- The edges before this one are in range.
 abbrev pub invariant-loop-edge : goal.invariant-loop-edge
 invariant-loop-edge g l =
-    All (λ e. IsEdgeWithin g.I.OverlayInt.least g.I.OverlayInt.greatest e.edge) (entries_of g.I.OverlayInt.value (take l.edge-index l.edges))
+    All (λ e. IsEdgeWithin g.I.OverlayInt.least g.I.OverlayInt.greatest e.edge) (entries_of (take l.edge-index l.edges))

@@ -15,11 +15,11 @@ use Rattle.reference.proofs.windings.winding_at.Goals as goal
 
 pub returns-then-not-is_small-clause-none : goal.returns-then-not-is_small-clause-none
 returns-then-not-is_small-clause-none g c = λ all.
-    false≢true (sym c.if-not-is_small.true ∙ c.is_small.ensures.1 (All-mapped (λ (e : Entry Count). IsCountWithin (2 ^ 62) e.count) (entry_of g.I.OverlayInt.value) c.args.edges.now _ _ c.loop-edge-test.true c.edge-item.is all))
+    false≢true (sym c.if-not-is_small.true ∙ c.is_small.ensures.1 (All-mapped (λ (e : Entry Count). IsCountWithin (2 ^ 62) e.count) entry_of c.args.edges.now _ _ c.loop-edge-test.true c.edge-item.is all))
 
 pub count_below-requires : goal.count_below-requires
 count_below-requires g c =
-    All-mapped (λ (e : Entry Count). IsEdgeWithin g.I.OverlayInt.least g.I.OverlayInt.greatest e.edge) (entry_of g.I.OverlayInt.value) c.args.edges.now _ _ c.loop-edge-test.true c.edge-item.is c.requires
+    All-mapped (λ (e : Entry Count). IsEdgeWithin g.I.OverlayInt.least g.I.OverlayInt.greatest e.edge) entry_of c.args.edges.now _ _ c.loop-edge-test.true c.edge-item.is c.requires
 
 pub summed-sum-requires-clause-sum : goal.summed-sum-requires-clause-sum
 summed-sum-requires-clause-sum g c =
@@ -34,7 +34,7 @@ summed-sum-requires-clause-small g c =
 pub loop-edge-preserved : goal.loop-edge-preserved
 loop-edge-preserved g c =
     let place : RationalPoint = record { x = to_z w64 (of_z w64 c.args.x); y = to_z w64 (of_z w64 c.args.y); q = c.args.q } in
-    let f = entry_of g.I.OverlayInt.value in
+    let f = entry_of in
     let i = c.loop-edge.edge-index in
     let kept = c.loop-edge.invariant in
     let counted = c.count_below.ensures in

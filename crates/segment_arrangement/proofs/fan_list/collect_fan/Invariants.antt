@@ -5,5 +5,5 @@ use Rattle.segment_arrangement.proofs.fan_list.collect_fan.Given as goal
 abbrev pub invariant-loop-index : goal.invariant-loop-index
 invariant-loop-index g l = record {
   len : length l.fan.items ≡ l.index;
-  items : (i : ℕ) (d : _) (t : _) → i < l.index → IsItemOf g.I.OverlayInt.value i (slice_index_or l.segments i d).x_segment (slice_index_or l.fan.items i t);
+  items : (i : ℕ) (d : _) (t : _) → i < l.index → IsItemOf i (slice_index_or l.segments i d).x_segment (slice_index_or l.fan.items i t);
 }

@@ -8,7 +8,7 @@ loop-to-preserved g c = record {
   beyond = search rules;
   within = search rules;
   start = c.loop-to.invariant.start;
-  together = one_together (λ s. s.x_segment.a) c.args.segments.now c.args.from c.loop-to.to _ c.index-segments-to.result c.loop-to-test.true ((c.equality_of_segments.ensures.of_points _ _).0 (unless_not _ c.if-ne.ensures)) c.loop-to.invariant.together;
+  together = one_together (λ s. s.x_segment.a) c.args.segments.now c.args.from c.loop-to.to _ c.index-segments-to.result c.loop-to-test.true (rw (← c.index-segments-to.is, ← c.segment.view_is, ← c.segment-inside.view_is) ((c.equality_of_segments.ensures.of_points _ _).0 (unless_not _ c.if-ne.ensures))) c.loop-to.invariant.together;
 }
 
 pub offset_bounds-segments-from : goal.offset_bounds-segments-from
@@ -16,9 +16,6 @@ offset_bounds-segments-from g c = grind (arith, common_steps)
 
 pub bounds-segments-from : goal.bounds-segments-from
 bounds-segments-from g c = grind (arith, common_steps)
-
-pub bounds-segments-from-2 : goal.bounds-segments-from-2
-bounds-segments-from-2 g c = grind (arith, common_steps)
 
 pub overflow_add-to : goal.overflow_add-to
 overflow_add-to g c = grind (arith, common_steps)

@@ -21,20 +21,18 @@ indexed : (g : Over) (c : goal.After-sides-1 g) (i : ℕ) (t : _) → i < length
 indexed g c i t l = (c.requires.items i (first_of c.args.segments.now (omega (arith, l))) t l).index
 
 led :
-    (g : Over) (c : goal.After-sides-1 g) (es : List (Entry Count)) (v : Point) (d : _) → IsArrangement es → filter (starts_at v) es ≡ all_seen g.C.FilledCount.sides g.I.OverlayInt.value c.args.segments.now → c.args.below ≡ winding es (whole v)
-    → IsHandedUp (λ i. lower_side es (seen_of g.C.FilledCount.sides g.I.OverlayInt.value (slice_index_or c.args.segments.now i d)).edge) (λ i. g.C.FilledCount.sides (slice_index_or c.args.segments.now i d).count) c.args.below (map (λ t. t.index) c.sort_by_angle.new.fan)
+    (g : Over) (c : goal.After-sides-1 g) (es : List (Entry Count)) (v : Point) (d : _) → IsArrangement es → filter (starts_at v) es ≡ all_seen g.C.FilledCount.sides c.args.segments.now → c.args.below ≡ winding es (whole v)
+    → IsHandedUp (λ i. lower_side es (seen_of g.C.FilledCount.sides (slice_index_or c.args.segments.now i d)).edge) (λ i. g.C.FilledCount.sides (slice_index_or c.args.segments.now i d).count) c.args.below (map (λ t. t.index) c.sort_by_angle.new.fan)
 led g c es v d arranged all is =
-    let value = g.I.OverlayInt.value in
-    subst (λ b. IsHandedUp (λ i. lower_side es (seen_of g.C.FilledCount.sides value (slice_index_or c.args.segments.now i d)).edge) (λ i. g.C.FilledCount.sides (slice_index_or c.args.segments.now i d).count) b (map (λ t. t.index) c.sort_by_angle.new.fan)) (sym is)
+    subst (λ b. IsHandedUp (λ i. lower_side es (seen_of g.C.FilledCount.sides (slice_index_or c.args.segments.now i d)).edge) (λ i. g.C.FilledCount.sides (slice_index_or c.args.segments.now i d).count) b (map (λ t. t.index) c.sort_by_angle.new.fan)) (sym is)
     (led_along_fan (λ t. t.index) c.args.segments.now c.args.fan.now c.sort_by_angle.new.fan c.requires.one_each c.sort_by_angle.ensures.permutation (indexed g c)
-    (seen_of g.C.FilledCount.sides value) d g.I.OverlayInt.span (λ t. t.width) (λ t. t.climb) (λ t. t.forward) (λ i t l. let item = c.requires.items i d t l in record { wide = item.width; high = item.climb }) es v arranged all c.sort_by_angle.ensures.sorted)
+    (seen_of g.C.FilledCount.sides) d g.I.OverlayInt.span (λ t. t.width) (λ t. t.climb) (λ t. t.forward) (λ i t l. let item = c.requires.items i d t l in record { wide = item.width; high = item.climb }) es v arranged all c.sort_by_angle.ensures.sorted)
 
 pub returns-clause-ok : goal.returns-clause-ok
 returns-clause-ok g c = on_ok_weaker c.hand_up.result (λ found es v i d e arranged all is l.
-    let value = g.I.OverlayInt.value in
     all_found (λ t. t.index) c.args.segments.now c.args.fan.now c.sort_by_angle.new.fan c.requires.one_each c.sort_by_angle.ensures.permutation (indexed g c)
-    (λ k. sides_of_segment g.C.FilledCount.sides g.C.FilledCount.filled value (fill_rule_of c.args.rule) es (slice_index_or c.args.segments.now k d)) _ e
-    (λ t j m. found (λ k. lower_side es (seen_of g.C.FilledCount.sides value (slice_index_or c.args.segments.now k d)).edge) d e t j (led g c es v d arranged all is) m) i l) c.hand_up.ensures.ok
+    (λ k. sides_of_segment g.C.FilledCount.sides g.C.FilledCount.filled (fill_rule_of c.args.rule) es (slice_index_or c.args.segments.now k d)) _ e
+    (λ t j m. found (λ k. lower_side es (seen_of g.C.FilledCount.sides (slice_index_or c.args.segments.now k d)).edge) d e t j (led g c es v d arranged all is) m) i l) c.hand_up.ensures.ok
 
 pub returns-clause-err : goal.returns-clause-err
-returns-clause-err g c = IfErr-weaker c.hand_up.result _ _ (λ fault h. (h.0, λ es v d arranged all is. h.1 (λ k. lower_side es (seen_of g.C.FilledCount.sides g.I.OverlayInt.value (slice_index_or c.args.segments.now k d)).edge) d (led g c es v d arranged all is))) c.hand_up.ensures.err
+returns-clause-err g c = IfErr-weaker c.hand_up.result _ _ (λ fault h. (h.0, λ es v d arranged all is. h.1 (λ k. lower_side es (seen_of g.C.FilledCount.sides (slice_index_or c.args.segments.now k d)).edge) d (led g c es v d arranged all is))) c.hand_up.ensures.err

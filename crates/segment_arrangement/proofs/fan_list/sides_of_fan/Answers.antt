@@ -1,6 +1,8 @@
-use Rattle.std.proofs.Common.{◌≡◌, ◌∷◌, [], ◌++◌, rules, length, take, inr, slice_index_or, ap, ◌∙◌}
+use Rattle.std.proofs.Common.{◌≡◌, ◌∷◌, [], ◌++◌, rules, length, take, inr, slice_index_or, ap, sym, ◌∙◌}
 use Rattle.std.proofs.Math.ListN.{drop}
 use Rattle.std.proofs.lemmas.Result.{on_ok_weaker, IfErr-weaker, err_from_is_err_and}
+use Rattle.plane_base.specs.Counts.{boolean}
+use Rattle.segment_split.specs.Kinds.{count_fits}
 use Rattle.segment_arrangement.specs.RuleViews.{fill_rule_of}
 use Rattle.segment_arrangement.specs.SweepViews.{sides_between}
 use Rattle.segment_arrangement.proofs.Fans.Fills.{alone_sides, alone_beyond}
@@ -26,8 +28,8 @@ returns-clause-err g c = IfErr-weaker c.find_sides.result _ _ (λ fault h. inr h
 
 pub returns-then-segments-eq1-clause-ok : goal.returns-then-segments-eq1-clause-ok
 returns-then-segments-eq1-clause-ok g c = λ es v i d e arranged all is l.
-    alone_sides (seen_of g.C.FilledCount.sides g.I.OverlayInt.value) c.args.segments.now (slice_index_or c.args.segments.now 0 c.index-segments-0.result) c.if-segments-eq1.true (ap (slice_index_or c.args.segments.now 0) c.index-segments-0.is) es v arranged all c.args.below is (λ lower s. sides_between g.C.FilledCount.sides g.C.FilledCount.filled (fill_rule_of c.args.rule) lower s.count) c.push.new.self.items
-    (c.in_ok-push.ensures.items ∙ (λ k. c.clear.ensures.items k ++ c.in_ok-sides_of.ensures.is k ∷ [])) i d e l
+    alone_sides (seen_of g.C.FilledCount.sides) c.args.segments.now c.index-segments-0.result c.if-segments-eq1.true c.index-segments-0.is es v arranged all c.args.below is (λ lower s. sides_between g.C.FilledCount.sides g.C.FilledCount.filled (fill_rule_of c.args.rule) lower s.count) c.push.new.self.items
+    (c.in_ok-push.ensures.items ∙ (λ k. c.clear.ensures.items k ++ c.in_ok-sides_of.ensures.is k ∷ []) ∙ ap (λ s. sides_between g.C.FilledCount.sides g.C.FilledCount.filled (fill_rule_of c.args.rule) c.args.below s.count ∷ []) c.only.view_is) i d e l
 
 pub returns-in_err-sides_of-clause-err : goal.returns-in_err-sides_of-clause-err
 returns-in_err-sides_of-clause-err g c =
@@ -37,5 +39,5 @@ returns-in_err-sides_of-clause-err g c =
     (inr (
       told.0,
       λ es v d arranged all is.
-          alone_beyond (seen_of g.C.FilledCount.sides g.I.OverlayInt.value) c.args.segments.now (slice_index_or c.args.segments.now 0 c.index-segments-0.result) c.if-segments-eq1.true (ap (slice_index_or c.args.segments.now 0) c.index-segments-0.is) es v arranged all c.args.below is d told.1,
+          alone_beyond (seen_of g.C.FilledCount.sides) c.args.segments.now c.index-segments-0.result c.if-segments-eq1.true c.index-segments-0.is es v arranged all c.args.below is d (ap (λ s. count_fits (boolean.join c.args.below (g.C.FilledCount.sides s.count))) (sym c.only.view_is) ∙ told.1),
     ))

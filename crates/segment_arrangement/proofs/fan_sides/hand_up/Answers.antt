@@ -23,7 +23,7 @@ returns-in_err-fill-clause-err g c =
           let on = handed_on (λ s. s.index) lower (λ i. g.C.FilledCount.sides (slice_index_or c.args.segments.now i d).count) c.loop-k.bottom c.args.fan.now c.loop-k.k c.index-fan-k.result within (c.loop-k.invariant.led lower d up) in (
             (slice_index_or c.args.fan.now c.loop-k.k c.index-fan-k.result).index,
             inside,
-            ap₂ (λ b s. count_fits (boolean.join b (g.C.FilledCount.sides s.count))) on.0 (sym (c.index-segments-index.is ∙ get_or_default c.args.segments.now _ c.index-segments-index.result d inside)) ∙ c.in_err-fill.ensures.fault.1,
+            ap₂ (λ b s. count_fits (boolean.join b (g.C.FilledCount.sides s.count))) on.0 (sym (c.segment.view_is ∙ c.index-segments-index.is ∙ get_or_default c.args.segments.now _ c.index-segments-index.result d inside)) ∙ c.in_err-fill.ensures.fault.1,
           ),
     )
 
@@ -34,7 +34,7 @@ loop-k-preserved g c = record {
       let within : c.loop-k.k < length c.args.fan.now = c.loop-k-test.true in
       let inside = c.requires.within c.loop-k.k c.index-fan-k.result within in
       let on = handed_on (λ s. s.index) lower (λ i. g.C.FilledCount.sides (slice_index_or c.args.segments.now i d).count) c.loop-k.bottom c.args.fan.now c.loop-k.k c.index-fan-k.result within (c.loop-k.invariant.led lower d up) in
-      let top = ap (λ s. s.top) c.in_ok-fill.ensures.is ∙ ap (λ s. boolean.join c.loop-k.bottom (g.C.FilledCount.sides s.count)) (c.index-segments-index.is ∙ get_or_default c.args.segments.now _ c.index-segments-index.result d inside) in
+      let top = ap (λ s. s.top) c.in_ok-fill.ensures.is ∙ ap (λ s. boolean.join c.loop-k.bottom (g.C.FilledCount.sides s.count)) (c.segment.view_is ∙ c.index-segments-index.is ∙ get_or_default c.args.segments.now _ c.index-segments-index.result d inside) in
       rw top on.1;
   found = λ lower d e t j up l.
       let within : c.loop-k.k < length c.args.fan.now = c.loop-k-test.true in
@@ -43,8 +43,8 @@ loop-k-preserved g c = record {
       let wanted = sides_at g.C.FilledCount.sides g.C.FilledCount.filled (fill_rule_of c.args.rule) lower (λ i. (slice_index_or c.args.segments.now i d).count) in
       rw (get_or_default c.args.fan.now c.loop-k.k c.index-fan-k.result t within)
       (one_more (λ s. s.index) wanted c.args.fan.now c.loop-k.sides c.loop-k.k _ e t (rw c.loop-k.invariant.len inside)
-      (as_wanted g.C.FilledCount.sides g.C.FilledCount.filled (fill_rule_of c.args.rule) lower (λ i. (slice_index_or c.args.segments.now i d).count) _ c.loop-k.bottom c.index-segments-index.result.count _ c.in_ok-fill.ensures.is on.0
-      (rw (get_or_default c.args.fan.now c.loop-k.k t c.index-fan-k.result within) (sym (ap (λ s. s.count) (c.index-segments-index.is ∙ get_or_default c.args.segments.now _ c.index-segments-index.result d (c.requires.within c.loop-k.k c.index-fan-k.result within))))))
+      (as_wanted g.C.FilledCount.sides g.C.FilledCount.filled (fill_rule_of c.args.rule) lower (λ i. (slice_index_or c.args.segments.now i d).count) _ c.loop-k.bottom c.segment.inside.count _ c.in_ok-fill.ensures.is on.0
+      (rw (get_or_default c.args.fan.now c.loop-k.k t c.index-fan-k.result within) (sym (ap (λ s. s.count) (c.segment.view_is ∙ c.index-segments-index.is ∙ get_or_default c.args.segments.now _ c.index-segments-index.result d (c.requires.within c.loop-k.k c.index-fan-k.result within))))))
       (λ i m. c.loop-k.invariant.found lower d e t i up m) j l);
 }
 

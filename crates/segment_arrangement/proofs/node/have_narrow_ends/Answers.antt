@@ -8,4 +8,4 @@ pub returns-then-IS_NARROW-clause-within : goal.returns-then-IS_NARROW-clause-wi
 returns-then-IS_NARROW-clause-within g c = λ _.
     let narrow = g.met.I.OverlayInt.narrow (sym c.if-IS_NARROW.ensures) in
     ends_have_room g.I.OverlayInt.least g.I.OverlayInt.greatest (2 ^ 19) (omega (arith, ints, narrow.0)) (omega (arith, ints, narrow.1))
-    (link_edge_of g.I.OverlayInt.value) c.args.links.now c.requires.within
+    link_edge_of c.args.links.now c.requires.within

@@ -17,8 +17,7 @@ use Rattle.segment_arrangement.proofs.node.join_ends.Goals as goal
 
 pub loop-start-init : goal.loop-start-init
 loop-start-init g c =
-    let value = g.I.OverlayInt.value in
-    let edges = map (link_edge_of value) c.args.links.now in
+    let edges = map link_edge_of c.args.links.now in
     let xs = map (end_of g.N.EndNumber.half g.N.EndNumber.room g.N.EndNumber.number) c.in_ok-ends.ends.items in
     let ys = map (end_of g.N.EndNumber.half g.N.EndNumber.room g.N.EndNumber.number) c.sort_unstable.new.self.items in
     let same : xs ≡ ends_of_kind true 0 edges = c.in_ok-ends.ensures.ok in
@@ -29,7 +28,7 @@ loop-start-init g c =
       kept = refl;
       sound = sorted_sound true edges xs ys same moved;
       complete = sorted_complete true edges xs ys same moved;
-      as_many = (length_permutation c.in_ok-ends.ends.items c.sort_unstable.new.self.items c.sort_unstable.ensures.permutation) ∙ (sym (length-map c.in_ok-ends.ends.items (end_of g.N.EndNumber.half g.N.EndNumber.room g.N.EndNumber.number)) ∙ (ap length same ∙ (kind_length true 0 edges ∙ length-map c.args.links.now (link_edge_of value))));
+      as_many = (length_permutation c.in_ok-ends.ends.items c.sort_unstable.new.self.items c.sort_unstable.ensures.permutation) ∙ (sym (length-map c.in_ok-ends.ends.items (end_of g.N.EndNumber.half g.N.EndNumber.room g.N.EndNumber.number)) ∙ (ap length same ∙ (kind_length true 0 edges ∙ length-map c.args.links.now link_edge_of)));
       joined = record {
         done = [];
         rest = ends_of edges;
@@ -43,23 +42,23 @@ loop-start-init g c =
     }
 
 pub next_end-next-requires-clause-within : goal.next_end-next-requires-clause-within
-next_end-next-requires-clause-within g c = kept_within g.I.OverlayInt.value c.loop-start.links c.args.links.now c.loop-start.invariant.kept (HasRoomForEnds g.N.EndNumber.half) c.requires.within
+next_end-next-requires-clause-within g c = kept_within g.I.IntNumber.value c.loop-start.links c.args.links.now c.loop-start.invariant.kept (HasRoomForEnds g.N.EndNumber.half) c.requires.within
 
 pub number_starts-next_start-requires-clause-within : goal.number_starts-next_start-requires-clause-within
-number_starts-next_start-requires-clause-within g c = kept_within g.I.OverlayInt.value c.loop-start.links c.args.links.now c.loop-start.invariant.kept (HasRoomForEnds g.N.EndNumber.half) c.requires.within
+number_starts-next_start-requires-clause-within g c = kept_within g.I.IntNumber.value c.loop-start.links c.args.links.now c.loop-start.invariant.kept (HasRoomForEnds g.N.EndNumber.half) c.requires.within
 
 pub number_starts-next_start-requires-clause-inside : goal.number_starts-next_start-requires-clause-inside
-number_starts-next_start-requires-clause-inside g c = omega (arith, c.loop-start.invariant.start_within, starts_length g.I.OverlayInt.value c.loop-start.links c.args.links.now c.loop-start.invariant.kept)
+number_starts-next_start-requires-clause-inside g c = omega (arith, c.loop-start.invariant.start_within, starts_length g.I.IntNumber.value c.loop-start.links c.args.links.now c.loop-start.invariant.kept)
 
 pub number_run-requires : goal.number_run-requires
 number_run-requires g c =
-    let value = g.I.OverlayInt.value in
+    let value = g.I.IntNumber.value in
     let f : g.row.N.Denot → End = end_of g.N.EndNumber.half g.N.EndNumber.room g.N.EndNumber.number in
-    let edges = map (link_edge_of value) c.args.links.now in
+    let edges = map link_edge_of c.args.links.now in
     let links = c.number_starts-next_start.new.links in
     let items = c.sort_unstable.new.self.items in
     let as_many : length links ≡ length edges =
-    same_length value links c.loop-start.links c.number_starts-next_start.ensures.kept ∙ (same_length value c.loop-start.links c.args.links.now c.loop-start.invariant.kept ∙ sym (length-map c.args.links.now (link_edge_of value))) in
+    same_length value links c.loop-start.links c.number_starts-next_start.ensures.kept ∙ (same_length value c.loop-start.links c.args.links.now c.loop-start.invariant.kept ∙ sym (length-map c.args.links.now link_edge_of)) in
     let all : (P : End → Type 0) → ((e : End) → Member e (map f items) → P e) → All (λ n. P (f n)) (take (c.end_of_run-next_last.result - c.loop-start.last) (drop c.loop-start.last c.deref-in-loop-start-2.result.now)) =
     λ P h. All-take (λ n. P (f n)) (c.end_of_run-next_last.result - c.loop-start.last) (drop c.loop-start.last c.deref-in-loop-start-2.result.now)
     (All-drop (λ n. P (f n)) c.loop-start.last c.deref-in-loop-start-2.result.now (rw c.deref-in-loop-start-2.ensures.value (all_from_members f P items h))) in
@@ -70,9 +69,9 @@ number_run-requires g c =
 
 pub of_run-requires-clause-few : goal.of_run-requires-clause-few
 of_run-requires-clause-few g c =
-    let value = g.I.OverlayInt.value in
-    let first : IsRunAt (ends_of_kind false 0 (map (link_edge_of g.I.OverlayInt.value) c.args.links.now)) c.loop-start.start c.number_starts-next_start.result (end_of g.N.EndNumber.half g.N.EndNumber.room g.N.EndNumber.number c.next_end-next.result).point =
-    kept_run g.I.OverlayInt.value c.loop-start.links c.args.links.now c.loop-start.invariant.kept c.loop-start.start c.number_starts-next_start.result (end_of g.N.EndNumber.half g.N.EndNumber.room g.N.EndNumber.number c.next_end-next.result).point c.number_starts-next_start.ensures.run in
+    let value = g.I.IntNumber.value in
+    let first : IsRunAt (ends_of_kind false 0 (map link_edge_of c.args.links.now)) c.loop-start.start c.number_starts-next_start.result (end_of g.N.EndNumber.half g.N.EndNumber.room g.N.EndNumber.number c.next_end-next.result).point =
+    kept_run g.I.IntNumber.value c.loop-start.links c.args.links.now c.loop-start.invariant.kept c.loop-start.start c.number_starts-next_start.result (end_of g.N.EndNumber.half g.N.EndNumber.room g.N.EndNumber.number c.next_end-next.result).point c.number_starts-next_start.ensures.run in
     let told = c.end_of_run-next_last.ensures in
     let second : IsRunAt (map (end_of g.N.EndNumber.half g.N.EndNumber.room g.N.EndNumber.number) c.sort_unstable.new.self.items) c.loop-start.last c.end_of_run-next_last.result (end_of g.N.EndNumber.half g.N.EndNumber.room g.N.EndNumber.number c.next_end-next.result).point =
     equal_run (end_of g.N.EndNumber.half g.N.EndNumber.room g.N.EndNumber.number) c.deref-in-loop-start.result.now c.sort_unstable.new.self.items c.deref-in-loop-start.ensures.value c.loop-start.last c.end_of_run-next_last.result (end_of g.N.EndNumber.half g.N.EndNumber.room g.N.EndNumber.number c.next_end-next.result).point
@@ -87,18 +86,18 @@ of_run-requires-clause-few g c =
 
 pub loop-start-smaller : goal.loop-start-smaller
 loop-start-smaller g c =
-    let value = g.I.OverlayInt.value in
+    let value = g.I.IntNumber.value in
     let f : g.row.N.Denot → End = end_of g.N.EndNumber.half g.N.EndNumber.room g.N.EndNumber.number in
-    let starts = ends_of_kind false 0 (map (link_edge_of value) c.args.links.now) in
+    let starts = ends_of_kind false 0 (map link_edge_of c.args.links.now) in
     let items = c.sort_unstable.new.self.items in
-    let first : IsRunAt (ends_of_kind false 0 (map (link_edge_of g.I.OverlayInt.value) c.args.links.now)) c.loop-start.start c.number_starts-next_start.result (end_of g.N.EndNumber.half g.N.EndNumber.room g.N.EndNumber.number c.next_end-next.result).point =
-    kept_run g.I.OverlayInt.value c.loop-start.links c.args.links.now c.loop-start.invariant.kept c.loop-start.start c.number_starts-next_start.result (end_of g.N.EndNumber.half g.N.EndNumber.room g.N.EndNumber.number c.next_end-next.result).point c.number_starts-next_start.ensures.run in
+    let first : IsRunAt (ends_of_kind false 0 (map link_edge_of c.args.links.now)) c.loop-start.start c.number_starts-next_start.result (end_of g.N.EndNumber.half g.N.EndNumber.room g.N.EndNumber.number c.next_end-next.result).point =
+    kept_run g.I.IntNumber.value c.loop-start.links c.args.links.now c.loop-start.invariant.kept c.loop-start.start c.number_starts-next_start.result (end_of g.N.EndNumber.half g.N.EndNumber.room g.N.EndNumber.number c.next_end-next.result).point c.number_starts-next_start.ensures.run in
     let told = c.end_of_run-next_last.ensures in
     let second : IsRunAt (map (end_of g.N.EndNumber.half g.N.EndNumber.room g.N.EndNumber.number) c.sort_unstable.new.self.items) c.loop-start.last c.end_of_run-next_last.result (end_of g.N.EndNumber.half g.N.EndNumber.room g.N.EndNumber.number c.next_end-next.result).point =
     equal_run (end_of g.N.EndNumber.half g.N.EndNumber.room g.N.EndNumber.number) c.deref-in-loop-start.result.now c.sort_unstable.new.self.items c.deref-in-loop-start.ensures.value c.loop-start.last c.end_of_run-next_last.result (end_of g.N.EndNumber.half g.N.EndNumber.room g.N.EndNumber.number c.next_end-next.result).point
     told.beyond told.within told.together told.ended in
-    let next : IsNextPoint (ends_of_kind false 0 (map (link_edge_of g.I.OverlayInt.value) c.args.links.now)) c.loop-start.start (map (end_of g.N.EndNumber.half g.N.EndNumber.room g.N.EndNumber.number) c.sort_unstable.new.self.items) c.loop-start.last (end_of g.N.EndNumber.half g.N.EndNumber.room g.N.EndNumber.number c.next_end-next.result).point =
-    kept_next g.I.OverlayInt.value c.loop-start.links c.args.links.now c.loop-start.invariant.kept (end_of g.N.EndNumber.half g.N.EndNumber.room g.N.EndNumber.number) c.deref.result.now c.sort_unstable.new.self.items c.deref.ensures.value c.loop-start.start c.loop-start.last
+    let next : IsNextPoint (ends_of_kind false 0 (map link_edge_of c.args.links.now)) c.loop-start.start (map (end_of g.N.EndNumber.half g.N.EndNumber.room g.N.EndNumber.number) c.sort_unstable.new.self.items) c.loop-start.last (end_of g.N.EndNumber.half g.N.EndNumber.room g.N.EndNumber.number c.next_end-next.result).point =
+    kept_next g.I.IntNumber.value c.loop-start.links c.args.links.now c.loop-start.invariant.kept (end_of g.N.EndNumber.half g.N.EndNumber.room g.N.EndNumber.number) c.deref.result.now c.sort_unstable.new.self.items c.deref.ensures.value c.loop-start.start c.loop-start.last
     (end_of g.N.EndNumber.half g.N.EndNumber.room g.N.EndNumber.number c.next_end-next.result).point c.next_end-next.ensures in
     let len = starts_length value c.loop-start.links c.args.links.now c.loop-start.invariant.kept in
     let same = same_length value c.number_run.new.links c.number_starts-next_start.new.links c.number_run.ensures.kept ∙ same_length value c.number_starts-next_start.new.links c.loop-start.links c.number_starts-next_start.ensures.kept in
@@ -108,9 +107,9 @@ loop-start-smaller g c =
 
 pub loop-start-preserved : goal.loop-start-preserved
 loop-start-preserved g c =
-    let value = g.I.OverlayInt.value in
+    let value = g.I.IntNumber.value in
     let f : g.row.N.Denot → End = end_of g.N.EndNumber.half g.N.EndNumber.room g.N.EndNumber.number in
-    let edges = map (link_edge_of value) c.args.links.now in
+    let edges = map link_edge_of c.args.links.now in
     let starts = ends_of_kind false 0 edges in
     let items = c.sort_unstable.new.self.items in
     let lasts = map f items in
@@ -121,14 +120,14 @@ loop-start-preserved g c =
     let end = c.end_of_run-next_last.result in
     let run = take (end - last) (drop last items) in
     let places = map g.K.GraphNode.places c.loop-start.nodes.items in
-    let first : IsRunAt (ends_of_kind false 0 (map (link_edge_of g.I.OverlayInt.value) c.args.links.now)) c.loop-start.start c.number_starts-next_start.result (end_of g.N.EndNumber.half g.N.EndNumber.room g.N.EndNumber.number c.next_end-next.result).point =
-    kept_run g.I.OverlayInt.value c.loop-start.links c.args.links.now c.loop-start.invariant.kept c.loop-start.start c.number_starts-next_start.result (end_of g.N.EndNumber.half g.N.EndNumber.room g.N.EndNumber.number c.next_end-next.result).point c.number_starts-next_start.ensures.run in
+    let first : IsRunAt (ends_of_kind false 0 (map link_edge_of c.args.links.now)) c.loop-start.start c.number_starts-next_start.result (end_of g.N.EndNumber.half g.N.EndNumber.room g.N.EndNumber.number c.next_end-next.result).point =
+    kept_run g.I.IntNumber.value c.loop-start.links c.args.links.now c.loop-start.invariant.kept c.loop-start.start c.number_starts-next_start.result (end_of g.N.EndNumber.half g.N.EndNumber.room g.N.EndNumber.number c.next_end-next.result).point c.number_starts-next_start.ensures.run in
     let told = c.end_of_run-next_last.ensures in
     let second : IsRunAt (map (end_of g.N.EndNumber.half g.N.EndNumber.room g.N.EndNumber.number) c.sort_unstable.new.self.items) c.loop-start.last c.end_of_run-next_last.result (end_of g.N.EndNumber.half g.N.EndNumber.room g.N.EndNumber.number c.next_end-next.result).point =
     equal_run (end_of g.N.EndNumber.half g.N.EndNumber.room g.N.EndNumber.number) c.deref-in-loop-start.result.now c.sort_unstable.new.self.items c.deref-in-loop-start.ensures.value c.loop-start.last c.end_of_run-next_last.result (end_of g.N.EndNumber.half g.N.EndNumber.room g.N.EndNumber.number c.next_end-next.result).point
     told.beyond told.within told.together told.ended in
-    let next : IsNextPoint (ends_of_kind false 0 (map (link_edge_of g.I.OverlayInt.value) c.args.links.now)) c.loop-start.start (map (end_of g.N.EndNumber.half g.N.EndNumber.room g.N.EndNumber.number) c.sort_unstable.new.self.items) c.loop-start.last (end_of g.N.EndNumber.half g.N.EndNumber.room g.N.EndNumber.number c.next_end-next.result).point =
-    kept_next g.I.OverlayInt.value c.loop-start.links c.args.links.now c.loop-start.invariant.kept (end_of g.N.EndNumber.half g.N.EndNumber.room g.N.EndNumber.number) c.deref.result.now c.sort_unstable.new.self.items c.deref.ensures.value c.loop-start.start c.loop-start.last
+    let next : IsNextPoint (ends_of_kind false 0 (map link_edge_of c.args.links.now)) c.loop-start.start (map (end_of g.N.EndNumber.half g.N.EndNumber.room g.N.EndNumber.number) c.sort_unstable.new.self.items) c.loop-start.last (end_of g.N.EndNumber.half g.N.EndNumber.room g.N.EndNumber.number c.next_end-next.result).point =
+    kept_next g.I.IntNumber.value c.loop-start.links c.args.links.now c.loop-start.invariant.kept (end_of g.N.EndNumber.half g.N.EndNumber.room g.N.EndNumber.number) c.deref.result.now c.sort_unstable.new.self.items c.deref.ensures.value c.loop-start.start c.loop-start.last
     (end_of g.N.EndNumber.half g.N.EndNumber.room g.N.EndNumber.number c.next_end-next.result).point c.next_end-next.ensures in
     let found : AreRuns edges places (take (to - start) (drop start starts)) (take (end - last) (drop last lasts)) (drop to starts) (drop end lasts) =
     next_runs edges places starts lasts start to last end (f c.next_end-next.result).point next first second inv.joined in
@@ -167,9 +166,9 @@ loop-start-preserved g c =
 
 pub returns-clause-places : goal.returns-clause-places
 returns-clause-places g c =
-    let value = g.I.OverlayInt.value in
+    let value = g.I.IntNumber.value in
     let f : g.row.N.Denot → End = end_of g.N.EndNumber.half g.N.EndNumber.room g.N.EndNumber.number in
-    let edges = map (link_edge_of value) c.args.links.now in
+    let edges = map link_edge_of c.args.links.now in
     let starts = ends_of_kind false 0 edges in
     let lasts = map f c.sort_unstable.new.self.items in
     let inv = c.loop-start.invariant in
@@ -185,9 +184,9 @@ returns-clause-forms g c = c.loop-start.invariant.forms
 
 pub returns-clause-numbers : goal.returns-clause-numbers
 returns-clause-numbers g c =
-    let value = g.I.OverlayInt.value in
+    let value = g.I.IntNumber.value in
     let f : g.row.N.Denot → End = end_of g.N.EndNumber.half g.N.EndNumber.room g.N.EndNumber.number in
-    let edges = map (link_edge_of value) c.args.links.now in
+    let edges = map link_edge_of c.args.links.now in
     let starts = ends_of_kind false 0 edges in
     let lasts = map f c.sort_unstable.new.self.items in
     let inv = c.loop-start.invariant in

@@ -10,14 +10,14 @@ use Rattle.segment_arrangement.proofs.node.join_ends.Given as goal
 
 abbrev pub invariant-loop-start : goal.invariant-loop-start
 invariant-loop-start g l =
-    let value = g.I.OverlayInt.value in
-    let edges = map (link_edge_of value) l.fn.links in
+    let value = g.I.IntNumber.value in
+    let edges = map link_edge_of l.fn.links in
     let starts = ends_of_kind false 0 edges in
     let lasts = map (end_of g.N.EndNumber.half g.N.EndNumber.room g.N.EndNumber.number) l.ends.items in
     record {
       start_within : l.start ≤ length starts;
       last_within : l.last ≤ length l.ends.items;
-      kept : map (link_parts value) l.links ≡ map (link_parts value) l.fn.links;
+      kept : map link_parts l.links ≡ map link_parts l.fn.links;
       sound : (e : End) → Member e lasts → Member e (ends_of_kind true 0 edges);
       complete : (e : End) → Member e (ends_of_kind true 0 edges) → Member e lasts;
       as_many : length l.ends.items ≡ length l.fn.links;

@@ -18,7 +18,7 @@ pub join_ends-joined-requires-else-have_narrow_ends-clause-within :
     goal.join_ends-joined-requires-else-have_narrow_ends-clause-within
 join_ends-joined-requires-else-have_narrow_ends-clause-within g c =
     ends_have_room g.I.OverlayInt.least g.I.OverlayInt.greatest (2 ^ 40) (omega (arith, ints, g.met.I.OverlayInt.least_holds))
-    (omega (arith, ints, g.met.I.OverlayInt.greatest_holds)) (link_edge_of g.I.OverlayInt.value) c.args.links.now c.requires.within
+    (omega (arith, ints, g.met.I.OverlayInt.greatest_holds)) link_edge_of c.args.links.now c.requires.within
 
 pub join_ends-joined-requires-else-have_narrow_ends-clause-by_start :
     goal.join_ends-joined-requires-else-have_narrow_ends-clause-by_start

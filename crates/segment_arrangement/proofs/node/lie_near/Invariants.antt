@@ -5,4 +5,4 @@ use Rattle.segment_arrangement.proofs.node.lie_near.Given as goal
 
 -- there is room for the ends so far
 abbrev pub invariant-loop-link : goal.invariant-loop-link
-invariant-loop-link g l = All (λ k. HasRoomForEnds (2 ^ 19) (link_edge_of g.I.OverlayInt.value k)) (take l.link-index l.links)
+invariant-loop-link g l = All (λ k. HasRoomForEnds (2 ^ 19) (link_edge_of k)) (take l.link-index l.links)

@@ -15,7 +15,7 @@ returns-then-start-links g c =
     let inside : c.args.last < length ends = other_of c.args.start (length c.args.links.now) c.args.last (length ends) c.requires.some c.if-start-links.true in
     let here : (d : End) → (f c.index-ends-last.result).point ≡ (slice_index_or (map f ends) c.args.last d).point =
     λ d. ap (λ e. e.point) (ap f c.index-ends-last.is ∙ sym (mapped_get f ends c.args.last d c.index-ends-last.result inside)) in
-    let len = starts_length g.I.OverlayInt.value c.args.links.now c.args.links.now refl in
+    let len = starts_length g.I.IntNumber.value c.args.links.now c.args.links.now refl in
     record {
       low_start = λ d l. absurd (omega (arith, l, len, c.if-start-links.true));
       low_last = λ d l. not_after (f c.index-ends-last.result).point (slice_index_or (map f ends) c.args.last d).point (here d);
@@ -25,9 +25,9 @@ returns-then-start-links g c =
 pub returns-then-last-ends : goal.returns-then-last-ends
 returns-then-last-ends g c =
     let f : g.row.N.Denot → End = end_of g.N.EndNumber.half g.N.EndNumber.room g.N.EndNumber.number in
-    let value = g.I.OverlayInt.value in
+    let value = g.I.IntNumber.value in
     let links = c.args.links.now in
-    let starts = ends_of_kind false 0 (map (link_edge_of value) links) in
+    let starts = ends_of_kind false 0 (map link_edge_of links) in
     let inside = c.if-start-links.false in
     let here : (d : End) → (f c.of_end-first.result).point ≡ (slice_index_or starts c.args.start d).point =
     λ d. ap (λ e. e.point) (c.of_end-first.ensures ∙ sym (start_here value links links refl c.args.start d c.index-links-start.result inside)) in
@@ -40,10 +40,10 @@ returns-then-last-ends g c =
 pub returns : goal.returns
 returns g c =
     let f : g.row.N.Denot → End = end_of g.N.EndNumber.half g.N.EndNumber.room g.N.EndNumber.number in
-    let value = g.I.OverlayInt.value in
+    let value = g.I.IntNumber.value in
     let links = c.args.links.now in
     let ends = c.args.ends.now in
-    let starts = ends_of_kind false 0 (map (link_edge_of value) links) in
+    let starts = ends_of_kind false 0 (map link_edge_of links) in
     let p = (f c.lesser.result).point in
     let here : (d : End) → (f c.of_end-first.result).point ≡ (slice_index_or starts c.args.start d).point =
     λ d. ap (λ e. e.point) (c.of_end-first.ensures ∙ sym (start_here value links links refl c.args.start d c.index-links-start.result c.if-start-links.false)) in

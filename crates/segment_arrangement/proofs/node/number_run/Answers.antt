@@ -34,8 +34,8 @@ pub loop-end-preserved : goal.loop-end-preserved
 loop-end-preserved g c = record {
   len = search rules;
   kept =
-      (λ i. map (link_parts g.I.OverlayInt.value) (set c.loop-end.links (place g c i) (made g c i)))
-      ∙ (parts_kept g.I.OverlayInt.value c.loop-end.links (end g c).place (end g c).is_last c.args.number c.index-links-place.result (inside g c) (link g c)
+      (λ i. map link_parts (set c.loop-end.links (place g c i) (made g c i)))
+      ∙ (parts_kept g.I.IntNumber.value c.loop-end.links (end g c).place (end g c).is_last c.args.number c.index-links-place.result (inside g c) (link g c)
       ∙ c.loop-end.invariant.kept);
   numbered =
       subst (IsNumberedFrom c.args.number (take (c.loop-end.end-index + 1) (map (end_of g.N.EndNumber.half g.N.EndNumber.room g.N.EndNumber.number) c.args.run.now)) c.args.links.now) (λ i. set c.loop-end.links (sym (place g c) i) (sym (made g c) i))

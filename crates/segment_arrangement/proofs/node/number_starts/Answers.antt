@@ -1,7 +1,6 @@
 use Rattle.std.proofs.lemmas.Grind.{common_steps}
 use Rattle.std.proofs.Common.{◌≡◌, ◌+◌, ◌-◌, ◌<◌, length, map, take, drop, set, slice_index_or, true, false, sym, ap, subst, ◌∙◌, arith}
 use Rattle.std.proofs.lemmas.List.{length-drop, get_or-drop}
-use Rattle.plane_base.specs.Views.{point_of}
 use Rattle.segment_arrangement.specs.LinkEnds.{HasRoomForEnds, End, ends_of_kind}
 use Rattle.segment_arrangement.specs.LinkViews.{link_edge_of, link_parts}
 use Rattle.segment_arrangement.specs.LinkEndViews.{end_of, with_number, IsNumberedFrom}
@@ -11,11 +10,11 @@ use Rattle.segment_arrangement.proofs.node.number_starts.Goals as goal
 
 pub of_end-requires-clause-within : goal.of_end-requires-clause-within
 of_end-requires-clause-within g c =
-    (kept_within g.I.OverlayInt.value c.loop-to.links c.args.links.now c.loop-to.invariant.kept (HasRoomForEnds g.N.EndNumber.half) c.requires.within c.loop-to.to c.index-links-to.result c.loop-to-test.true).0
+    (kept_within g.I.IntNumber.value c.loop-to.links c.args.links.now c.loop-to.invariant.kept (HasRoomForEnds g.N.EndNumber.half) c.requires.within c.loop-to.to c.index-links-to.result c.loop-to-test.true).0
 
 pub returns-then-not-lies_with-clause-run : goal.returns-then-not-lies_with-clause-run
 returns-then-not-lies_with-clause-run g c =
-    let value = g.I.OverlayInt.value in
+    let value = g.I.IntNumber.value in
     let kept = c.loop-to.invariant.kept in
     record {
       low = c.loop-to.invariant.low;
@@ -29,16 +28,16 @@ returns-then-not-lies_with-clause-run g c =
 
 pub loop-to-preserved : goal.loop-to-preserved
 loop-to-preserved g c =
-    let value = g.I.OverlayInt.value in
+    let value = g.I.IntNumber.value in
     let links = c.loop-to.links in
     let old = c.args.links.now in
     let to = c.loop-to.to in
     let from = c.args.from in
     let inv = c.loop-to.invariant in
-    let starts = ends_of_kind false 0 (map (link_edge_of value) old) in
+    let starts = ends_of_kind false 0 (map link_edge_of old) in
     let link = c.index-links-to-in-loop-to.result in
     let inside = c.loop-to-test.true in
-    let e : End = record { point = point_of value (slice_index_or links to link).a.point; is_last = false; place = to } in
+    let e : End = record { point = (slice_index_or links to link).a.point; is_last = false; place = to } in
     let here : (d : End) → slice_index_or starts to d ≡ e = λ d. start_here value links old inv.kept to d link inside in
     let len = starts_length value links old inv.kept in
     let made : c.set_number.new.link ≡ with_number false c.args.number link = c.set_number.ensures ∙ ap (with_number false c.args.number) (sym c.index-links-to-in-loop-to.is) in
@@ -51,7 +50,7 @@ loop-to-preserved g c =
     record {
       low = omega (arith, inv.low);
       high = omega (arith, c.loop-to-test.true, c.loop-to.auto.links);
-      kept = ap (λ l. map (link_parts value) (set links to l)) made ∙ (parts_kept value links to false c.args.number link inside c.index-links-to-in-loop-to.is ∙ inv.kept);
+      kept = ap (λ l. map link_parts (set links to l)) made ∙ (parts_kept value links to false c.args.number link inside c.index-links-to-in-loop-to.is ∙ inv.kept);
       together = together_more starts from to (end_of g.N.EndNumber.half g.N.EndNumber.room g.N.EndNumber.number c.args.end).point inv.together (λ d. ap (λ f. f.point) (start_here value links old inv.kept to d c.index-links-to.result inside) ∙ (ap (λ f. f.point) (sym c.of_end.ensures) ∙ lies));
       numbered =
           subst (IsNumberedFrom c.args.number (take (to + 1 - from) (drop from starts)) old) (ap (set links to) (sym made))
@@ -61,7 +60,7 @@ loop-to-preserved g c =
 
 pub returns-clause-run : goal.returns-clause-run
 returns-clause-run g c =
-    let value = g.I.OverlayInt.value in
+    let value = g.I.IntNumber.value in
     let kept = c.loop-to.invariant.kept in
     let len = starts_length value c.loop-to.links c.args.links.now kept in
     record {

@@ -6,12 +6,11 @@ use Rattle.segment_arrangement.proofs.node.number_starts.Given as goal
 
 abbrev pub invariant-loop-to : goal.invariant-loop-to
 invariant-loop-to g l =
-    let value = g.I.OverlayInt.value in
-    let starts = ends_of_kind false 0 (map (link_edge_of value) l.fn.links) in
+    let starts = ends_of_kind false 0 (map link_edge_of l.fn.links) in
     record {
       low : l.from ≤ l.to;
       high : l.to ≤ length l.fn.links;
-      kept : map (link_parts value) l.links ≡ map (link_parts value) l.fn.links;
+      kept : map link_parts l.links ≡ map link_parts l.fn.links;
       together : (i : ℕ) (d : End) → l.from ≤ i → i < l.to → (slice_index_or starts i d).point ≡ (end_of g.N.EndNumber.half g.N.EndNumber.room g.N.EndNumber.number l.end).point;
       numbered : IsNumberedFrom l.number (take (l.to - l.from) (drop l.from starts)) l.fn.links l.links;
     }

@@ -5,5 +5,5 @@ use Rattle.segment_arrangement.proofs.rectilinear_sides.are_rectilinear.Goals as
 
 pub returns : goal.returns
 returns g c = λ yes.
-    all_rectilinear (seen_of g.C.FilledCount.sides g.I.OverlayInt.value) c.args.segments.now
+    all_rectilinear (seen_of g.C.FilledCount.sides) c.args.segments.now
     (λ i d l. c.loop-segment.invariant i d (omega (arith, l, c.loop-segment-test.false)))

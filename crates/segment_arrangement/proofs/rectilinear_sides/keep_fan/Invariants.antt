@@ -8,6 +8,6 @@ use Rattle.segment_arrangement.proofs.rectilinear_sides.keep_fan.Given as goal
 abbrev pub invariant-loop-i : goal.invariant-loop-i
 invariant-loop-i g l = record {
   stay : KeepsHeights l.fn.rows l.rows;
-  ends : AreRows g.I.OverlayInt.value (all_seen g.C.FilledCount.sides g.I.OverlayInt.value l.segments) l.i l.rows;
-  few : members l.rows.live + slanted (take l.from (all_seen g.C.FilledCount.sides g.I.OverlayInt.value l.segments)) ≤ members l.fn.rows.live + slanted (take l.i (all_seen g.C.FilledCount.sides g.I.OverlayInt.value l.segments));
+  ends : AreRows g.I.IntNumber.value (all_seen g.C.FilledCount.sides l.segments) l.i l.rows;
+  few : members l.rows.live + slanted (take l.from (all_seen g.C.FilledCount.sides l.segments)) ≤ members l.fn.rows.live + slanted (take l.i (all_seen g.C.FilledCount.sides l.segments));
 }

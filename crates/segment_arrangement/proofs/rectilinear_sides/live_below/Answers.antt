@@ -8,7 +8,7 @@ use Rattle.segment_arrangement.proofs.rectilinear_sides.live_below.Goals as goal
 
 pub loop-place-preserved : goal.loop-place-preserved
 loop-place-preserved g c =
-    let value = g.I.OverlayInt.value in
+    let value = g.I.IntNumber.value in
     let x = value c.args.x in
     let ends = c.args.ends.now in
     let live = c.loop-place.live in
@@ -39,5 +39,5 @@ pub returns-clause-is : goal.returns-clause-is
 returns-clause-is g c =
     let so_far = c.loop-place.invariant in
     λ i d below.
-    none_from g.I.OverlayInt.value c.args.ends.now (g.I.OverlayInt.value c.args.x) c.loop-place.live so_far.may c.args.before c.loop-place.left c.requires.within so_far.within so_far.others 0
+    none_from g.I.IntNumber.value c.args.ends.now (g.I.IntNumber.value c.args.x) c.loop-place.live so_far.may c.args.before c.loop-place.left c.requires.within so_far.within so_far.others 0
     (λ k from before. c.in_default.ensures.none k from before) i d (omega arith) below

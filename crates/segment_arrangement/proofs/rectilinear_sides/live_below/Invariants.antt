@@ -5,8 +5,8 @@ use Rattle.segment_arrangement.proofs.rectilinear_sides.live_below.Given as goal
 abbrev pub invariant-loop-place : goal.invariant-loop-place
 invariant-loop-place g l = record {
   within : l.left ≤ l.before;
-  others : (i : ℕ) (d : _) → l.left ≤ i → i < l.before → is_live_row g.I.OverlayInt.value (g.I.OverlayInt.value l.x) (get_or l.ends i d) ≡ false;
-  may : MayLive g.I.OverlayInt.value (g.I.OverlayInt.value l.x) l.ends l.live;
+  others : (i : ℕ) (d : _) → l.left ≤ i → i < l.before → is_live_row g.I.IntNumber.value (g.I.IntNumber.value l.x) (get_or l.ends i d) ≡ false;
+  may : MayLive g.I.IntNumber.value (g.I.IntNumber.value l.x) l.ends l.live;
   taken : TakesOut l.fn.steps l.steps l.fn.live l.live None;
 }
 

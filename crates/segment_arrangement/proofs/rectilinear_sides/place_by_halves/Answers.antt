@@ -13,7 +13,7 @@ loop-low-preserved-then-is_below g c =
     record {
       order = omega (arith, c.loop-low-test.true);
       within = c.loop-low.invariant.within;
-      below = below_too g.I.OverlayInt.value (g.I.OverlayInt.value c.args.y) heights c.requires.rising middle inside (λ d. sym (c.is_below.ensures.is d) ∙ c.if-is_below.true);
+      below = below_too g.I.IntNumber.value (g.I.IntNumber.value c.args.y) heights c.requires.rising middle inside (λ d. sym (c.is_below.ensures.is d) ∙ c.if-is_below.true);
       others = c.loop-low.invariant.others;
       halves = (
         halves + 1,
@@ -39,7 +39,7 @@ loop-low-preserved g c =
       order = omega arith;
       within = omega (arith, inside);
       below = c.loop-low.invariant.below;
-      others = others_too g.I.OverlayInt.value (g.I.OverlayInt.value c.args.y) heights c.requires.rising middle inside (λ d. sym (c.is_below.ensures.is d) ∙ c.if-is_below.false);
+      others = others_too g.I.IntNumber.value (g.I.IntNumber.value c.args.y) heights c.requires.rising middle inside (λ d. sym (c.is_below.ensures.is d) ∙ c.if-is_below.false);
       halves = (
         halves + 1,
         (

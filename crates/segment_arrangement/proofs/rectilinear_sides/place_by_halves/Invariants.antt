@@ -7,8 +7,8 @@ abbrev pub invariant-loop-low : goal.invariant-loop-low
 invariant-loop-low g l = record {
   order : l.low ≤ l.high;
   within : l.high ≤ length l.heights;
-  below : (i : ℕ) (d : _) → i < l.low → g.I.OverlayInt.value (get_or l.heights i d) <ℤ g.I.OverlayInt.value l.y;
-  others : (i : ℕ) (d : _) → l.high ≤ i → i < length l.heights → g.I.OverlayInt.value l.y ≤ℤ g.I.OverlayInt.value (get_or l.heights i d);
+  below : (i : ℕ) (d : _) → i < l.low → g.I.IntNumber.value (get_or l.heights i d) <ℤ g.I.IntNumber.value l.y;
+  others : (i : ℕ) (d : _) → l.high ≤ i → i < length l.heights → g.I.IntNumber.value l.y ≤ℤ g.I.IntNumber.value (get_or l.heights i d);
   halves : (halves : ℕ) × (CountsExactly l.fn.steps l.steps halves × IsHalving (length l.heights) (l.high - l.low) halves);
 }
 

@@ -11,15 +11,15 @@ use Rattle.segment_arrangement.proofs.sweep.sweep.Given as goal
 abbrev pub invariant-loop-from : goal.invariant-loop-from
 invariant-loop-from g l = record {
   within : l.from ≤ length l.segments;
-  seam : IsSeam (all_seen g.C.FilledCount.sides g.I.OverlayInt.value l.segments) l.from;
-  swept : IsSwept g.I.OverlayInt.value g.I.Ord.cmp (λ k. k.b.x) (edge_of g.I.OverlayInt.value) (all_seen g.C.FilledCount.sides g.I.OverlayInt.value l.segments) l.from (g.K.KeyExpCollection.live_list l.live);
+  seam : IsSeam (all_seen g.C.FilledCount.sides l.segments) l.from;
+  swept : IsSwept g.I.IntNumber.value g.I.Ord.cmp (λ k. g.I.IntNumber.of_value k.b.x) edge_of (all_seen g.C.FilledCount.sides l.segments) l.from (g.K.KeyExpCollection.live_list l.live);
   led : (output : _)
-      → IsHandled (λ h n s. g.H.FillHandler.handles h n s.x_segment s.count s.datum) g.H.FillHandler.finishes (fill_told g.C.FilledCount.filled g.I.OverlayInt.value (fill_rule_of l.rule) (all_seen g.C.FilledCount.sides g.I.OverlayInt.value l.segments)) l.from (drop l.from l.segments) l.handler output
-      → IsHandled (λ h n s. g.H.FillHandler.handles h n s.x_segment s.count s.datum) g.H.FillHandler.finishes (fill_told g.C.FilledCount.filled g.I.OverlayInt.value (fill_rule_of l.rule) (all_seen g.C.FilledCount.sides g.I.OverlayInt.value l.segments)) 0 l.segments l.fn.handler output;
+      → IsHandled (λ h n s. g.H.FillHandler.handles h n s.x_segment s.count s.datum) g.H.FillHandler.finishes (fill_told g.C.FilledCount.filled (fill_rule_of l.rule) (all_seen g.C.FilledCount.sides l.segments)) l.from (drop l.from l.segments) l.handler output
+      → IsHandled (λ h n s. g.H.FillHandler.handles h n s.x_segment s.count s.datum) g.H.FillHandler.finishes (fill_told g.C.FilledCount.filled (fill_rule_of l.rule) (all_seen g.C.FilledCount.sides l.segments)) 0 l.segments l.fn.handler output;
   so_far : (fault : Fault)
-      → IsRefused (λ h n s. g.H.FillHandler.handles h n s.x_segment s.count s.datum) (λ h n s. g.H.FillHandler.refuses h n s.x_segment s.count s.datum) (fill_told g.C.FilledCount.filled g.I.OverlayInt.value (fill_rule_of l.rule) (all_seen g.C.FilledCount.sides g.I.OverlayInt.value l.segments)) l.from (drop l.from l.segments) l.handler fault
-      → IsRefused (λ h n s. g.H.FillHandler.handles h n s.x_segment s.count s.datum) (λ h n s. g.H.FillHandler.refuses h n s.x_segment s.count s.datum) (fill_told g.C.FilledCount.filled g.I.OverlayInt.value (fill_rule_of l.rule) (all_seen g.C.FilledCount.sides g.I.OverlayInt.value l.segments)) 0 l.segments l.fn.handler fault;
-  cost : MakesCalls l.fn.steps l.steps 0 (calls_of (take l.from (all_seen g.C.FilledCount.sides g.I.OverlayInt.value l.segments))) (g.K.KeyExpCollection.most_comparisons (length l.segments));
+      → IsRefused (λ h n s. g.H.FillHandler.handles h n s.x_segment s.count s.datum) (λ h n s. g.H.FillHandler.refuses h n s.x_segment s.count s.datum) (fill_told g.C.FilledCount.filled (fill_rule_of l.rule) (all_seen g.C.FilledCount.sides l.segments)) l.from (drop l.from l.segments) l.handler fault
+      → IsRefused (λ h n s. g.H.FillHandler.handles h n s.x_segment s.count s.datum) (λ h n s. g.H.FillHandler.refuses h n s.x_segment s.count s.datum) (fill_told g.C.FilledCount.filled (fill_rule_of l.rule) (all_seen g.C.FilledCount.sides l.segments)) 0 l.segments l.fn.handler fault;
+  cost : MakesCalls l.fn.steps l.steps 0 (calls_of (take l.from (all_seen g.C.FilledCount.sides l.segments))) (g.K.KeyExpCollection.most_comparisons (length l.segments));
 }
 
 abbrev pub decreases-loop-from : goal.decreases-loop-from

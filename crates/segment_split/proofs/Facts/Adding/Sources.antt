@@ -1,10 +1,9 @@
 -- Contours added one after another, until all are added or one is refused.
-use Rattle.std.specs.Prelude.{◌≡◌, ℕ, suc, ◌+◌, ◌^◌, ◌≤◌, ◌<◌, Bool, true, List, ◌∷◌, [], ◌++◌, length, map, flat_map, All}
+use Rattle.std.specs.Prelude.{◌≡◌, ℕ, suc, ◌+◌, ◌^◌, ◌≤◌, ◌<◌, Bool, true, List, ◌∷◌, [], ◌++◌, length, flat_map, All}
 use Rattle.std.specs.List.{AllZip}
 use Rattle.std.proofs.Common.{refl, sym, ap, ap₂, subst, ◌∙◌, take, drop, get_or, arith}
 use Rattle.std.proofs.Math.Seq.{split_at}
-use Rattle.std.proofs.Math.ListN.{get_or-map}
-use Rattle.std.proofs.lemmas.List.{take_more, length-map, flat_map_more}
+use Rattle.std.proofs.lemmas.List.{take_more, flat_map_more}
 use Rattle.std.proofs.lemmas.List.Elements.{AllZip-push, All-get_or}
 use Rattle.plane_base.specs.Plane.{Point}
 use Rattle.plane_base.specs.Counts.{Counting, Entry}
@@ -70,14 +69,6 @@ until_without_room kind count contours i inside old now capacity fault adds reas
   reason = reason;
 }
 
--- the contour at a place, as it is seen
-module _ {X : Type 0} (f : List X → List Point) (nothing : f [] ≡ []) (paths : List (List X)) (i : ℕ) (inside : i < length paths) (path : List X)
-    (is : path ≡ get_or paths i []) where
-  pub contour_inside : i < length (map f paths)
-  contour_inside = subst (λ n. i < n) (sym (length-map paths f)) inside
-
-  pub contour_here : f path ≡ get_or (map f paths) i []
-  contour_here = ap f is ∙ sym (get_or-map f paths i []) ∙ ap (get_or (map f paths) i) nothing
-
-  pub contour_keeps : (P : List Point → Type 0) → All P (map f paths) → P (f path)
-  contour_keeps P all = subst P (sym contour_here) (All-get_or P (map f paths) i [] contour_inside all)
+-- what holds of all contours holds of the one at a place
+pub contour_keeps : (paths : List (List Point)) (i : ℕ) (inside : i < length paths) (path : List Point) (is : path ≡ get_or paths i []) (P : List Point → Type 0) → All P paths → P path
+contour_keeps paths i inside path is P all = subst P (sym is) (All-get_or P paths i [] inside all)

@@ -7,14 +7,14 @@ use Rattle.segment_split.proofs.lines.add_row.Goals as goal
 
 pub returns-then-is_at-clause-has : goal.returns-then-is_at-clause-has
 returns-then-is_at-clause-has g c =
-    let value = g.I.OverlayInt.value in
+    let value = g.I.IntNumber.value in
     let within = rw c.deref-2.ensures.value at c.is_at.ensures.at c.if-is_at.true in
     let height = rw c.deref-2.ensures.value at c.is_at.ensures.height c.if-is_at.true in
     there_at (row_of value) c.args.rows.now.items c.place_of-place.result (value c.args.y) within height
 
 pub returns-clause-rising : goal.returns-clause-rising
 returns-clause-rising g c =
-    let value = g.I.OverlayInt.value in
+    let value = g.I.IntNumber.value in
     let rows = c.args.rows.now.items in
     let placed = rw c.deref.ensures.value at c.place_of-place.ensures in
     let below = rows_below (row_of value) rows (value c.args.y) c.place_of-place.result placed in
@@ -26,7 +26,7 @@ returns-clause-rising g c =
 
 pub returns-clause-bare : goal.returns-clause-bare
 returns-clause-bare g c =
-    let value = g.I.OverlayInt.value in
+    let value = g.I.IntNumber.value in
     let rows = c.args.rows.now.items in
     let placed = rw c.deref.ensures.value at c.place_of-place.ensures in
     let below = rows_below (row_of value) rows (value c.args.y) c.place_of-place.result placed in
@@ -38,7 +38,7 @@ returns-clause-bare g c =
 
 pub returns-clause-has : goal.returns-clause-has
 returns-clause-has g c =
-    let value = g.I.OverlayInt.value in
+    let value = g.I.IntNumber.value in
     let rows = c.args.rows.now.items in
     let placed = rw c.deref.ensures.value at c.place_of-place.ensures in
     let below = rows_below (row_of value) rows (value c.args.y) c.place_of-place.result placed in
@@ -50,7 +50,7 @@ returns-clause-has g c =
 
 pub returns-clause-kept : goal.returns-clause-kept
 returns-clause-kept g c = λ z at.
-    let value = g.I.OverlayInt.value in
+    let value = g.I.IntNumber.value in
     let rows = c.args.rows.now.items in
     let placed = rw c.deref.ensures.value at c.place_of-place.ensures in
     let below = rows_below (row_of value) rows (value c.args.y) c.place_of-place.result placed in

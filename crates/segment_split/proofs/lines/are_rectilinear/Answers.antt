@@ -17,19 +17,17 @@ loop-segment-smaller g c = omega (arith, c.loop-segment-test.true)
 
 pub loop-segment-preserved : goal.loop-segment-preserved
 loop-segment-preserved g c =
-    let value = g.I.OverlayInt.value in
     let segments = c.args.segments.now in
     let i = c.loop-segment.segment-index in
     let segment = c.segment-item.result in
-    let before = edges_of (entries_of value (take i segments)) in
-    let next : edges_of (entries_of value (take (i + 1) segments)) ≡ before ++ edge_of value segment.x_segment ∷ [] =
-    ap (λ l. edges_of (entries_of value l)) (taken_to segments i (i + 1) segment refl (omega (arith, c.loop-segment-test.true)) c.segment-item.is)
-    ∙ (ap edges_of (map-append (entry_of value) (take i segments) (segment ∷ [])) ∙ map-append (λ e. e.edge) (entries_of value (take i segments)) (entry_of value segment ∷ [])) in
-    rw next (All-push (λ (s : Edge). is_rectilinear s ≡ true) before (edge_of value segment.x_segment) c.loop-segment.invariant (sym c.is_rectilinear.ensures ∙ c.if-not-is_rectilinear.false))
+    let before = edges_of (entries_of (take i segments)) in
+    let next : edges_of (entries_of (take (i + 1) segments)) ≡ before ++ edge_of segment.x_segment ∷ [] =
+    ap (λ l. edges_of (entries_of l)) (taken_to segments i (i + 1) segment refl (omega (arith, c.loop-segment-test.true)) c.segment-item.is)
+    ∙ (ap edges_of (map-append entry_of (take i segments) (segment ∷ [])) ∙ map-append (λ e. e.edge) (entries_of (take i segments)) (entry_of segment ∷ [])) in
+    rw next (All-push (λ (s : Edge). is_rectilinear s ≡ true) before (edge_of segment.x_segment) c.loop-segment.invariant (rw (ap (λ s. s.x_segment) c.segment.view_is) at (sym c.is_rectilinear.ensures ∙ c.if-not-is_rectilinear.false)))
 
 pub returns : goal.returns
 returns g c =
-    let value = g.I.OverlayInt.value in
     let segments = c.args.segments.now in
     let all : take c.loop-segment.segment-index segments ≡ segments = take_all c.loop-segment.segment-index segments (omega (arith, c.loop-segment-test.false)) in
     let told = rw all at c.loop-segment.invariant in

@@ -6,4 +6,4 @@ use Rattle.segment_split.proofs.lines.are_rectilinear.Given as goal
 
 -- Those before this one run along x or y alone.
 abbrev pub invariant-loop-segment : goal.invariant-loop-segment
-invariant-loop-segment g l = AllRectilinear (edges_of (entries_of g.I.OverlayInt.value (take l.segment-index l.segments)))
+invariant-loop-segment g l = AllRectilinear (edges_of (entries_of (take l.segment-index l.segments)))

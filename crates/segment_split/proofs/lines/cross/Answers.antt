@@ -1,6 +1,5 @@
 use Rattle.std.proofs.Common.{◌≡◌, ◌∙◌, ◌<◌, ℕ, None, Some, sym, ap, arith}
 use Rattle.plane_base.specs.Plane.{Point}
-use Rattle.plane_base.specs.Views.{point_of}
 use Rattle.segment_split.specs.SegmentViews.{entries_of}
 use Rattle.segment_split.specs.Stops.{lines_of, next_of}
 use Rattle.segment_split.proofs.Stops.Onto.{crosses_none}
@@ -14,19 +13,18 @@ none_runs n e l = absurd (omega (arith, e, l))
 
 pub returns-then-lines-eq0-clause-crossed : goal.returns-then-lines-eq0-clause-crossed
 returns-then-lines-eq0-clause-crossed g c =
-    let value = g.I.OverlayInt.value in
-    crosses_none (point_of value c.args.point) (lines_of value c.args.lines.now) (entries_of value c.args.laid.now.items) c.args.steps.now.pairs (λ l q e. none_runs c.args.lines.now.column.running c.if-lines-eq0.true l)
+    let value = g.I.IntNumber.value in
+    crosses_none c.args.point (lines_of value c.args.lines.now) (entries_of c.args.laid.now.items) c.args.steps.now.pairs (λ l q e. none_runs c.args.lines.now.column.running c.if-lines-eq0.true l)
 
 pub returns-in_default-clause-crossed : goal.returns-in_default-clause-crossed
 returns-in_default-clause-crossed g c =
-    let value = g.I.OverlayInt.value in
-    crosses_none (point_of value c.args.point) (lines_of value c.args.lines.now) (entries_of value c.args.laid.now.items) c.args.steps.now.pairs (λ l q e. none_some q (sym (ap (next_of value) c.in_default.is) ∙ e))
+    let value = g.I.IntNumber.value in
+    crosses_none c.args.point (lines_of value c.args.lines.now) (entries_of c.args.laid.now.items) c.args.steps.now.pairs (λ l q e. none_some q (sym (ap next_of c.in_default.is) ∙ e))
 
 pub cross_from-requires-clause-placed : goal.cross_from-requires-clause-placed
 cross_from-requires-clause-placed g c =
-    let value = g.I.OverlayInt.value in
     record {
-      top = point_of value c.in-Some.last;
-      next = ap (next_of value) c.in-Some.is;
-      placed = rw c.deref-2.ensures.value at c.place_of-top.ensures;
+      top = c.in-Some.last;
+      next = ap next_of c.in-Some.is;
+      placed = rw (c.deref-2.ensures.value, ap (λ p. p.y) c.last.view_is) at c.place_of-top.ensures;
     }

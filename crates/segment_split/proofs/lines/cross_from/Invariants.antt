@@ -10,13 +10,13 @@ use Rattle.segment_split.proofs.lines.cross_from.Given as goal
 -- The sweep came to some crossings. In the end no row below the last of them is to be met.
 abbrev pub invariant-loop-next : goal.invariant-loop-next
 invariant-loop-next g l =
-    let value = g.I.OverlayInt.value in
-    let p = point_of value l.point in
+    let value = g.I.IntNumber.value in
+    let p = point_of l.point in
     AreRising (rows_of value l.lines.rows.items)
     × AreSeen value l.lines
     × IsPlaced (lines_of value l.lines) l.next.place
     × (0 < l.lines.column.running)
-    × Comes p (lines_of value l.initial.lines) (entries_of value l.initial.laid.items) l.initial.steps.pairs (lines_of value l.lines) (entries_of value l.laid.items) l.steps.pairs l.is_crossed
+    × Comes p (lines_of value l.initial.lines) (entries_of l.initial.laid.items) l.initial.steps.pairs (lines_of value l.lines) (entries_of l.laid.items) l.steps.pairs l.is_crossed
     × (l.next.is_done ≡ true → (q : Point) → (lines_of value l.lines).column.next ≡ Some q → All (λ r. p.y <ℤ r.y → r.y <ℤ q.y → is_met (lines_of value l.lines).column r.line ≡ false) (rows_of value l.lines.rows.items))
     × (l.steps.comparisons ≡ l.initial.steps.comparisons)
     × (heights_in (rows_of value l.lines.rows.items) ≡ heights_in (rows_of value l.initial.lines.rows.items))

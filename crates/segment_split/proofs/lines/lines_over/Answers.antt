@@ -6,7 +6,7 @@ use Rattle.segment_split.proofs.lines.lines_over.Goals as goal
 
 pub returns-clause-seen : goal.returns-clause-seen
 returns-clause-seen g c =
-    let value = g.I.OverlayInt.value in
+    let value = g.I.IntNumber.value in
     let rows = c.in_ok-rows.rows.items in
     let many : c.len.result ≡ length (rows_of value rows) = omega (arith, c.len.ensures, length-map rows (row_of value)) in
     let many_too : c.len-2.result ≡ length (rows_of value rows) = omega (arith, c.len-2.ensures, length-map rows (row_of value)) in

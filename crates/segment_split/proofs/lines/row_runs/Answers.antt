@@ -6,7 +6,7 @@ use Rattle.segment_split.proofs.lines.row_runs.Goals as goal
 
 pub returns-then-is_at : goal.returns-then-is_at
 returns-then-is_at g c =
-    let value = g.I.OverlayInt.value in
+    let value = g.I.IntNumber.value in
     let rows = c.args.rows.now in
     let y = value c.args.y in
     let within = c.is_at.ensures.at c.if-is_at.true in
@@ -17,7 +17,7 @@ returns-then-is_at g c =
 
 pub returns-else-is_at : goal.returns-else-is_at
 returns-else-is_at g c =
-    let value = g.I.OverlayInt.value in
+    let value = g.I.IntNumber.value in
     let rows = c.args.rows.now in
     let y = value c.args.y in
     let none = bare_apart y (rows_of value rows) (none_there (row_of value) rows c.args.place y c.requires.rising (rows_below (row_of value) rows y c.args.place c.requires.placed) (rows_from (row_of value) rows y c.args.place c.requires.placed) (c.is_at.ensures.other c.if-is_at.false)) in

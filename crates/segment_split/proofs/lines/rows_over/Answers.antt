@@ -9,7 +9,7 @@ use Rattle.segment_split.proofs.lines.rows_over.Goals as goal
 
 pub loop-y-preserved : goal.loop-y-preserved
 loop-y-preserved g c =
-    let value = g.I.OverlayInt.value in
+    let value = g.I.IntNumber.value in
     let i = c.loop-y.y-index in
     let heights = c.deref-y-items.result.now in
     let y = c.y-item.result in
@@ -25,11 +25,11 @@ loop-y-preserved g c =
 
 pub returns-clause-has : goal.returns-clause-has
 returns-clause-has g c =
-    let value = g.I.OverlayInt.value in
+    let value = g.I.IntNumber.value in
     let heights = c.deref-y-items.result.now in
     let rows = map (λ r. r.y) (rows_of value c.loop-y.rows.items) in
     let all : take c.loop-y.y-index heights ≡ heights = take_all c.loop-y.y-index heights (omega (arith, c.loop-y-test.false)) in
     let there = rw all at c.loop-y.invariant.2 in
     let has = rw (← c.deref-y-items.ensures.value) at c.in_ok-heights.ensures.has in
     All-weaker (λ (e : Entry Count). int_eq e.edge.a.x e.edge.b.x ≡ false → Contains (map value heights) e.edge.a.y) (λ (e : Entry Count). int_eq e.edge.a.x e.edge.b.x ≡ false → Contains rows e.edge.a.y)
-    (λ e h f. All-contains (Contains rows) (map value heights) e.edge.a.y there (h f)) (entries_of value c.args.keys.now) has
+    (λ e h f. All-contains (Contains rows) (map value heights) e.edge.a.y there (h f)) (entries_of c.args.keys.now) has

@@ -1,10 +1,10 @@
-use Rattle.std.proofs.Common.{rules, ◌≡◌, ◌∙◌, get_or, map, length, sym, ap, arith}
-use Rattle.std.proofs.lemmas.List.{get_or-map, get_or_default, length-map}
+use Rattle.std.proofs.Common.{rules, ◌≡◌, ◌∙◌, sym, ap, arith}
+use Rattle.std.proofs.lemmas.List.{get_or-map, length-map}
 use Rattle.segment_split.proofs.lines.stands_at.Goals as goal
 
 pub returns-then-place-heights : goal.returns-then-place-heights
 returns-then-place-heights g c = λ same.
-    let value = g.I.OverlayInt.value in
+    let value = g.I.IntNumber.value in
     let heights = c.args.heights.now in
     let place = c.args.place in
     let r = c.index-heights-place.result in

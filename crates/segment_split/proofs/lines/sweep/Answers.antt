@@ -1,4 +1,4 @@
-use Rattle.std.proofs.Common.{◌≡◌, ◌∙◌, ◌≤◌, ℕ, length, take, false, refl, sym, ap, subst, arith}
+use Rattle.std.proofs.Common.{◌≡◌, ◌∙◌, length, take, false, refl, sym, subst, arith}
 use Rattle.std.proofs.lemmas.List.{take_all, length-map}
 use Rattle.std.proofs.lemmas.Result.{err_from_is_err_and}
 use Rattle.segment_split.specs.SecondEnds.{entry_at, ended}
@@ -10,17 +10,17 @@ use Rattle.segment_split.proofs.lines.sweep.Goals as goal
 
 pub loop-left-init : goal.loop-left-init
 loop-left-init g c =
-    let value = g.I.OverlayInt.value in
+    let value = g.I.IntNumber.value in
     let keys = c.args.keys.now in
-    let es = entries_of value keys in
+    let es = entries_of keys in
     let ends = c.args.ends.now in
     let lines = lines_of value c.args.lines.now in
-    let laid = entries_of value c.args.laid.now.items in
-    let all = take_all (length keys) es (omega (arith, length-map keys (entry_of value))) in
+    let laid = entries_of c.args.laid.now.items in
+    let all = take_all (length keys) es (omega (arith, length-map keys entry_of)) in
     let all_ends = take_all (length ends) (ended es ends) (omega (arith, length-map ends (λ e. entry_at es e.key))) in (
       c.requires.rising,
       c.requires.seen,
-      omega (arith, length-map keys (entry_of value)),
+      omega (arith, length-map keys entry_of),
       omega arith,
       λ first is.
           subst (λ l. IsSwept es l (take (length ends) (ended es ends)) lines laid false first c.args.steps.now.pairs) (sym all)
@@ -46,12 +46,12 @@ loop-left-preserved g c = (
 
 pub returns-clause-swept : goal.returns-clause-swept
 returns-clause-swept g c = λ first is.
-    let value = g.I.OverlayInt.value in
-    let es = entries_of value c.args.keys.now in
+    let value = g.I.IntNumber.value in
+    let es = entries_of c.args.keys.now in
     let left = c.loop-left.left in
     let none : left.starts ≡ 0 = omega (arith, c.loop-left-test.false) in
     let more = take left.ends (ended es c.args.ends.now) in
-    (more, subst (λ n. IsSwept es (take n es) more (lines_of value c.loop-left.lines) (entries_of value c.loop-left.laid.items) left.is_marked first c.loop-left.steps.pairs) none (c.loop-left.invariant.4 first is))
+    (more, subst (λ n. IsSwept es (take n es) more (lines_of value c.loop-left.lines) (entries_of c.loop-left.laid.items) left.is_marked first c.loop-left.steps.pairs) none (c.loop-left.invariant.4 first is))
 
 pub returns-in_err-left-clause-some : goal.returns-in_err-left-clause-some
 returns-in_err-left-clause-some g c =

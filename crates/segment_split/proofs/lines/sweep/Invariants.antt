@@ -8,14 +8,14 @@ use Rattle.segment_split.proofs.lines.sweep.Given as goal
 -- The sweep came to where what is left begins and ends.
 abbrev pub invariant-loop-left : goal.invariant-loop-left
 invariant-loop-left g l =
-    let value = g.I.OverlayInt.value in
-    let es = entries_of value l.keys in
+    let value = g.I.IntNumber.value in
+    let es = entries_of l.keys in
     AreRising (rows_of value l.lines.rows.items)
     × AreSeen value l.lines
     × (l.left.starts ≤ length es)
     × (l.left.ends ≤ length l.ends)
-    × ((first : ℕ) → IsSwept es es (ended es l.ends) (lines_of value l.initial.lines) (entries_of value l.initial.laid.items) false first l.initial.steps.pairs
-    → IsSweptTo es l.ends (lines_of value l.lines) (entries_of value l.laid.items) l.left first l.steps.pairs)
+    × ((first : ℕ) → IsSwept es es (ended es l.ends) (lines_of value l.initial.lines) (entries_of l.initial.laid.items) false first l.initial.steps.pairs
+    → IsSweptTo es l.ends (lines_of value l.lines) (entries_of l.laid.items) l.left first l.steps.pairs)
     × (l.steps.comparisons ≡ l.initial.steps.comparisons)
 
 abbrev pub decreases-loop-left : goal.decreases-loop-left

@@ -7,10 +7,9 @@ use Rattle.segment_split.proofs.mark.lay_one.Goals as goal
 
 pub returns-clause-laid : goal.returns-clause-laid
 returns-clause-laid g c =
-    let value = g.I.OverlayInt.value in
     let number = g.I.Wide.WideIntNumber.number in
     let before = c.args.marks.now.items in
     let mark : Mark g.row.I.Denot g.row.I-Wide.Denot = record { segment = c.args.segment; place = c.place_along-place.result; point = c.args.point } in
-    ap (laid_marks value number) c.in_ok-push.ensures.items
-    ∙ (map-append (laid_of value number) before (mark ∷ [])
-    ∙ ap (λ z. laid_marks value number before ++ (record { segment = c.args.segment; place = z; point = point_of value c.args.point } ∷ [])) c.place_along-place.ensures)
+    ap (laid_marks number) c.in_ok-push.ensures.items
+    ∙ (map-append (laid_of number) before (mark ∷ [])
+    ∙ ap (λ z. laid_marks number before ++ (record { segment = c.args.segment; place = z; point = point_of c.args.point } ∷ [])) c.place_along-place.ensures)

@@ -8,9 +8,8 @@ use Rattle.segment_split.proofs.pairs.find_marks.Goals as goal
 
 pub returns-in-Tree-clause-found : goal.returns-in-Tree-clause-found
 returns-in-Tree-clause-found g c =
-    let value = g.I.OverlayInt.value in
-    let es = edges_of (entries_of value c.args.segments.now) in
-    let laid = laid_marks value g.I.Wide.WideIntNumber.number c.find_marks.new.marks.items in
+    let es = edges_of (entries_of c.args.segments.now) in
+    let laid = laid_marks g.I.Wide.WideIntNumber.number c.find_marks.new.marks.items in
     subst (λ m. OnOk c.find_marks.result (AreMarks g.I.OverlayInt.stride g.I.OverlayInt.least g.I.OverlayInt.greatest m es laid)) c.rounding_in.ensures c.find_marks.ensures.found
 
 pub returns-in-Tree-clause-whole : goal.returns-in-Tree-clause-whole
@@ -24,9 +23,8 @@ returns-in-Tree-clause-steps g c = grind (arith, common_steps)
 
 pub returns-in-Frag-clause-found : goal.returns-in-Frag-clause-found
 returns-in-Frag-clause-found g c =
-    let value = g.I.OverlayInt.value in
-    let es = edges_of (entries_of value c.args.segments.now) in
-    let laid = laid_marks value g.I.Wide.WideIntNumber.number c.find_marks-in-Frag.new.marks.items in
+    let es = edges_of (entries_of c.args.segments.now) in
+    let laid = laid_marks g.I.Wide.WideIntNumber.number c.find_marks-in-Frag.new.marks.items in
     subst (λ m. OnOk c.find_marks-in-Frag.result (AreMarks g.I.OverlayInt.stride g.I.OverlayInt.least g.I.OverlayInt.greatest m es laid)) c.rounding_in.ensures c.find_marks-in-Frag.ensures.found
 
 pub returns-in-Frag-clause-whole : goal.returns-in-Frag-clause-whole
@@ -40,9 +38,8 @@ returns-in-Frag-clause-steps g c = grind (arith, common_steps)
 
 pub returns-in-Auto-clause-found : goal.returns-in-Auto-clause-found
 returns-in-Auto-clause-found g c =
-    let value = g.I.OverlayInt.value in
-    let es = edges_of (entries_of value c.args.segments.now) in
-    let laid = laid_marks value g.I.Wide.WideIntNumber.number c.find_marks-in-Auto.new.marks.items in
+    let es = edges_of (entries_of c.args.segments.now) in
+    let laid = laid_marks g.I.Wide.WideIntNumber.number c.find_marks-in-Auto.new.marks.items in
     subst (λ m. OnOk c.find_marks-in-Auto.result (AreMarks g.I.OverlayInt.stride g.I.OverlayInt.least g.I.OverlayInt.greatest m es laid)) c.rounding_in.ensures c.find_marks-in-Auto.ensures.found
 
 pub returns-in-Auto-clause-whole : goal.returns-in-Auto-clause-whole
@@ -56,9 +53,8 @@ returns-in-Auto-clause-steps g c = grind (arith, common_steps)
 
 pub returns-in-Auto-2-clause-found : goal.returns-in-Auto-2-clause-found
 returns-in-Auto-2-clause-found g c =
-    let value = g.I.OverlayInt.value in
-    let es = edges_of (entries_of value c.args.segments.now) in
-    let laid = laid_marks value g.I.Wide.WideIntNumber.number c.find_marks-in-Auto-2.new.marks.items in
+    let es = edges_of (entries_of c.args.segments.now) in
+    let laid = laid_marks g.I.Wide.WideIntNumber.number c.find_marks-in-Auto-2.new.marks.items in
     subst (λ m. OnOk c.find_marks-in-Auto-2.result (AreMarks g.I.OverlayInt.stride g.I.OverlayInt.least g.I.OverlayInt.greatest m es laid)) c.rounding_in.ensures c.find_marks-in-Auto-2.ensures.found
 
 pub returns-in-Auto-2-clause-whole : goal.returns-in-Auto-2-clause-whole

@@ -9,12 +9,11 @@ use Rattle.segment_split.proofs.pairs.find_marks_among_new.Goals as goal
 
 pub returns-clause-found : goal.returns-clause-found
 returns-clause-found g c =
-    let value = g.I.OverlayInt.value in
     let number = g.I.Wide.WideIntNumber.number in
-    let es = edges_of (entries_of value c.args.segments.now) in
+    let es = edges_of (entries_of c.args.segments.now) in
     let told = c.args.next_new.now in
-    let before = laid_marks value number c.args.marks.now.items in
-    let laid = laid_marks value number c.find_marks_among_new.new.marks.items in
+    let before = laid_marks number c.args.marks.now.items in
+    let laid = laid_marks number c.find_marks_among_new.new.marks.items in
     subst (λ m. IfOk c.find_marks_among_new.result (λ off. Finds g.I.OverlayInt.stride g.I.OverlayInt.least g.I.OverlayInt.greatest m es (AreBothNew told) before laid off)) c.rounding_in.ensures
     c.find_marks_among_new.ensures.found
 

@@ -9,16 +9,15 @@ use Rattle.segment_split.proofs.pairs.find_marks_of_new.Goals as goal
 
 pub returns-clause-found : goal.returns-clause-found
 returns-clause-found g c =
-    let value = g.I.OverlayInt.value in
     let number = g.I.Wide.WideIntNumber.number in
     let stride = g.I.OverlayInt.stride in
     let least = g.I.OverlayInt.least in
     let greatest = g.I.OverlayInt.greatest in
-    let es = edges_of (entries_of value c.args.segments.now) in
+    let es = edges_of (entries_of c.args.segments.now) in
     let told = c.args.next_new.now in
-    let laid = laid_marks value number c.find_marks_of_new.new.marks.items in
+    let laid = laid_marks number c.find_marks_of_new.new.marks.items in
     subst (λ m. IfOk c.find_marks_of_new.result (λ off. Finds stride least greatest m es (IsNewPair told) [] laid (off.among_new || off.with_old))) c.rounding_in.ensures
-    (subst (λ ms. IfOk c.find_marks_of_new.result (λ off. Finds stride least greatest (marks_by c.rounding_in.result) es (IsNewPair told) (laid_marks value number ms) laid (off.among_new || off.with_old)))
+    (subst (λ ms. IfOk c.find_marks_of_new.result (λ off. Finds stride least greatest (marks_by c.rounding_in.result) es (IsNewPair told) (laid_marks number ms) laid (off.among_new || off.with_old)))
     c.clear.ensures.items c.find_marks_of_new.ensures.found)
 
 pub returns-clause-whole : goal.returns-clause-whole

@@ -31,18 +31,17 @@ use Rattle.segment_split.proofs.pass.cut_at_marks.Goals.{In_ok-cut_all}
 use Rattle.segment_split.proofs.pass.cut_at_marks.Goals as goal
 
 -- the marks that were found, in order
-sorted : (g : Over) (c : In_ok-cut_all g) → AreMarks g.I.OverlayInt.stride g.I.OverlayInt.least g.I.OverlayInt.greatest (marks_in c.args.this.solver.precision c.args.this.number) (edges_of (entries_of g.I.OverlayInt.value c.args.segments.now.items)) (laid_marks g.I.OverlayInt.value g.I.Wide.WideIntNumber.number c.put_in_order.new.marks.items)
+sorted : (g : Over) (c : In_ok-cut_all g) → AreMarks g.I.OverlayInt.stride g.I.OverlayInt.least g.I.OverlayInt.greatest (marks_in c.args.this.solver.precision c.args.this.number) (edges_of (entries_of c.args.segments.now.items)) (laid_marks g.I.Wide.WideIntNumber.number c.put_in_order.new.marks.items)
 sorted g c =
-    let value = g.I.OverlayInt.value in
     let found = c.args.room.now.marks.items in
     let ordered = c.put_in_order.new.marks.items in
-    marks_permuted g.I.OverlayInt.stride g.I.OverlayInt.least g.I.OverlayInt.greatest (marks_in c.args.this.solver.precision c.args.this.number) (edges_of (entries_of value c.args.segments.now.items)) (laid_marks value g.I.Wide.WideIntNumber.number found) (laid_marks value g.I.Wide.WideIntNumber.number ordered)
-    (IsPermutation-map (laid_of value g.I.Wide.WideIntNumber.number) found ordered c.in_ok-put_in_order.ensures.same) c.requires.found
+    marks_permuted g.I.OverlayInt.stride g.I.OverlayInt.least g.I.OverlayInt.greatest (marks_in c.args.this.solver.precision c.args.this.number) (edges_of (entries_of c.args.segments.now.items)) (laid_marks g.I.Wide.WideIntNumber.number found) (laid_marks g.I.Wide.WideIntNumber.number ordered)
+    (IsPermutation-map (laid_of g.I.Wide.WideIntNumber.number) found ordered c.in_ok-put_in_order.ensures.same) c.requires.found
 
 -- the map, cut at them
 parted : (g : Over) (c : In_ok-cut_all g) →
-    AreParts g.C.WindingCount.counting c.args.this.solver.precision c.args.this.number (entries_of g.I.OverlayInt.value c.args.segments.now.items)
-    (entries_of g.I.OverlayInt.value c.cut_all.new.kept.items) (entries_of g.I.OverlayInt.value c.cut_all.new.pieces.items)
+    AreParts g.C.WindingCount.counting c.args.this.solver.precision c.args.this.number (entries_of c.args.segments.now.items)
+    (entries_of c.cut_all.new.kept.items) (entries_of c.cut_all.new.pieces.items)
 parted g c =
     let cut = rw (c.deref.ensures.value, c.deref-2.ensures.value) at c.in_ok-cut_all.ensures.cut in
     cut c.args.this.solver.precision c.args.this.number (sorted g c)
@@ -51,19 +50,18 @@ parted g c =
 
 pub returns-then-is_empty : goal.returns-then-is_empty
 returns-then-is_empty g c = λ before after own.
-    let value = g.I.OverlayInt.value in
     let kind = g.C.WindingCount.counting in
     let least = g.I.OverlayInt.least in
     let greatest = g.I.OverlayInt.greatest in
     let precision = c.args.this.solver.precision in
     let k = c.args.this.number in
-    let entries = entries_of value c.args.segments.now.items in
-    let found : AreMarks g.I.OverlayInt.stride least greatest (marks_in precision k) (edges_of entries) (laid_marks value g.I.Wide.WideIntNumber.number c.args.room.now.marks.items) = c.requires.found in
+    let entries = entries_of c.args.segments.now.items in
+    let found : AreMarks g.I.OverlayInt.stride least greatest (marks_in precision k) (edges_of entries) (laid_marks g.I.Wide.WideIntNumber.number c.args.room.now.marks.items) = c.requires.found in
     let marks = c.args.room.now.marks in
-    let none : laid_marks value g.I.Wide.WideIntNumber.number marks.items ≡ [] = ap (laid_marks value g.I.Wide.WideIntNumber.number) (no_items marks.items marks.len (omega (arith, marks.ok.0)) (none_first marks.len c.is_empty.ensures c.if-is_empty.true)) in
+    let none : laid_marks g.I.Wide.WideIntNumber.number marks.items ≡ [] = ap (laid_marks g.I.Wide.WideIntNumber.number) (no_items marks.items marks.len (omega (arith, marks.ok.0)) (none_first marks.len c.is_empty.ensures c.if-is_empty.true)) in
     record {
       few = c.requires.can.few;
-      marked = unmarked_by_none g.I.OverlayInt.stride least greatest precision k (edges_of entries) (edges_rising entries c.requires.can.normal) (laid_marks value g.I.Wide.WideIntNumber.number marks.items) none found;
+      marked = unmarked_by_none g.I.OverlayInt.stride least greatest precision k (edges_of entries) (edges_rising entries c.requires.can.normal) (laid_marks g.I.Wide.WideIntNumber.number marks.items) none found;
       passed = λ e. absurd (false≢true e);
       with_data = λ e. absurd (false≢true e);
       skips = λ e. absurd (false≢true e);
@@ -77,9 +75,8 @@ returns-then-is_empty g c = λ before after own.
 
 pub returns-in_err-put_in_order : goal.returns-in_err-put_in_order
 returns-in_err-put_in_order g c = λ before after own.
-    let value = g.I.OverlayInt.value in
     let joins = g.D.OverlayEdgeData.JOINS in
-    let given = listed value joins c.args.segments.now.items in
+    let given = listed joins c.args.segments.now.items in
     let p = err_from_is_err_and c.from_residual.result c.from_residual.ensures.1 in
     rw p.1 (pass_without_memory (work_of g.C.WindingCount.counting g.C.WindingCount.fits joins g.D.OverlayEdgeData.join c.args.this.solver) c.args.this.number
     given given _ before after own p.0 (p.2 ∙ c.in_err-put_in_order.ensures.memory))
@@ -90,41 +87,38 @@ cut_all-requires-clause-in_place g c =
 
 pub cut_all-requires-clause-within : goal.cut_all-requires-clause-within
 cut_all-requires-clause-within g c =
-    let value = g.I.OverlayInt.value in
     let number = g.I.Wide.WideIntNumber.number in
     let segments = c.args.segments.now.items in
     let found = c.args.room.now.marks.items in
     let ordered = c.put_in_order.new.marks.items in
-    rw (c.deref.ensures.value, c.deref-2.ensures.value) (All-permutation (λ m. m.segment < length segments) (laid_marks value number found) (laid_marks value number ordered)
-    (IsPermutation-map (laid_of value number) found ordered c.in_ok-put_in_order.ensures.same)
-    (marks_within (entry_of value) segments g.I.OverlayInt.stride g.I.OverlayInt.least g.I.OverlayInt.greatest (marks_in c.args.this.solver.precision c.args.this.number) (laid_marks value number found) c.requires.found))
+    rw (c.deref.ensures.value, c.deref-2.ensures.value) (All-permutation (λ m. m.segment < length segments) (laid_marks number found) (laid_marks number ordered)
+    (IsPermutation-map (laid_of number) found ordered c.in_ok-put_in_order.ensures.same)
+    (marks_within entry_of segments g.I.OverlayInt.stride g.I.OverlayInt.least g.I.OverlayInt.greatest (marks_in c.args.this.solver.precision c.args.this.number) (laid_marks number found) c.requires.found))
 
 pub cut_all-requires-clause-normal : goal.cut_all-requires-clause-normal
 cut_all-requires-clause-normal g c = rw c.deref.ensures.value c.requires.can.normal
 
 pub returns-in_err-cut_all : goal.returns-in_err-cut_all
 returns-in_err-cut_all g c = λ before after own.
-    let value = g.I.OverlayInt.value in
     let joins = g.D.OverlayEdgeData.JOINS in
-    let given = listed value joins c.args.segments.now.items in
+    let given = listed joins c.args.segments.now.items in
     let p = err_from_is_err_and c.from_residual-in_err-cut_all.result c.from_residual-in_err-cut_all.ensures.1 in
     rw p.1 (pass_without_memory (work_of g.C.WindingCount.counting g.C.WindingCount.fits joins g.D.OverlayEdgeData.join c.args.this.solver) c.args.this.number
     given given _ before after own p.0 (p.2 ∙ c.in_err-cut_all.ensures.memory))
 
 pub returns-then-saturating_add-ge-TOO_MANY : goal.returns-then-saturating_add-ge-TOO_MANY
 returns-then-saturating_add-ge-TOO_MANY g c = λ before after own.
-    let value = g.I.OverlayInt.value in
     let kind = g.C.WindingCount.counting in
     let precision = c.args.this.solver.precision in
     let k = c.args.this.number in
-    let entries = entries_of value c.args.segments.now.items in
+    let entries = entries_of c.args.segments.now.items in
     let parts = c.cut_all.new in
     let steps = steps_in kind precision entries k in
     let cut = parted g (goal.at.returns-then-saturating_add-ge-TOO_MANY g c).In_ok-cut_all in
     let kept = parts.kept in
     let pieces = parts.pieces in
     let joins = g.D.OverlayEdgeData.JOINS in
-    let given = listed value joins c.args.segments.now.items in
+    let given = listed joins c.args.segments.now.items in
     let many : 2 ^ 31 ≤ length steps =
     omega (
       arith,
@@ -134,10 +128,10 @@ returns-then-saturating_add-ge-TOO_MANY g c = λ before after own.
       c.if-saturating_add-ge-TOO_MANY.true,
       kept.ok.0,
       pieces.ok.0,
-      length-map kept.items (entry_of value),
-      length-map pieces.items (entry_of value),
-      length-append (entries_of value kept.items) (entries_of value pieces.items),
-      length_permutation steps (entries_of value kept.items ++ entries_of value pieces.items) cut.steps,
+      length-map kept.items entry_of,
+      length-map pieces.items entry_of,
+      length-append (entries_of kept.items) (entries_of pieces.items),
+      length_permutation steps (entries_of kept.items ++ entries_of pieces.items) cut.steps,
     ) in
     pass_refused (work_of g.C.WindingCount.counting g.C.WindingCount.fits joins g.D.OverlayEdgeData.join c.args.this.solver) k given given _ before after
     own Edges many
@@ -149,11 +143,10 @@ sort_and_merge-requires g c =
 
 pub returns-in_err-sort_and_merge : goal.returns-in_err-sort_and_merge
 returns-in_err-sort_and_merge g c = λ before after own.
-    let value = g.I.OverlayInt.value in
     let kind = g.C.WindingCount.counting in
     let precision = c.args.this.solver.precision in
     let k = c.args.this.number in
-    let entries = entries_of value c.args.segments.now.items in
+    let entries = entries_of c.args.segments.now.items in
     let parts = c.cut_all.new in
     let steps = steps_in kind precision entries k in
     let cut = parted g (goal.at.returns-in_err-sort_and_merge g c).In_ok-cut_all in
@@ -161,22 +154,22 @@ returns-in_err-sort_and_merge g c = λ before after own.
     let refused = rw c.deref-3.ensures.value at c.in_err-sort_and_merge.ensures.refused in
     let p = err_from_is_err_and c.from_residual-in_err-sort_and_merge.result c.from_residual-in_err-sort_and_merge.ensures.1 in
     rw p.1 (pass_refused (work_of g.C.WindingCount.counting g.C.WindingCount.fits joins g.D.OverlayEdgeData.join c.args.this.solver) k
-    (listed value joins c.args.segments.now.items) _ _ before after own p.0
+    (listed joins c.args.segments.now.items) _ _ before after own p.0
     (handed_on c.in_err-sort_and_merge.field-0.0 p.0 p.2
-    (overfull_before kind g.C.WindingCount.fits steps (entries_of value parts.kept.items ++ entries_of value parts.pieces.items) cut.steps) (λ e. absurd e) refused))
+    (overfull_before kind g.C.WindingCount.fits steps (entries_of parts.kept.items ++ entries_of parts.pieces.items) cut.steps) (λ e. absurd e) refused))
 
 -- ---- marked
 
 pub returns : goal.returns
 returns g c = λ before after own.
-    let value = g.I.OverlayInt.value in
+    let value = g.I.IntNumber.value in
     let kind = g.C.WindingCount.counting in
     let least = g.I.OverlayInt.least in
     let greatest = g.I.OverlayInt.greatest in
     let precision = c.args.this.solver.precision in
     let k = c.args.this.number in
-    let entries = entries_of value c.args.segments.now.items in
-    let found : AreMarks g.I.OverlayInt.stride least greatest (marks_in precision k) (edges_of entries) (laid_marks value g.I.Wide.WideIntNumber.number c.args.room.now.marks.items) = c.requires.found in
+    let entries = entries_of c.args.segments.now.items in
+    let found : AreMarks g.I.OverlayInt.stride least greatest (marks_in precision k) (edges_of entries) (laid_marks g.I.Wide.WideIntNumber.number c.args.room.now.marks.items) = c.requires.found in
     let parts = c.cut_all.new in
     let steps = steps_in kind precision entries k in
     let cut = parted g (goal.at.returns g c).In_ok-cut_all in
@@ -184,30 +177,30 @@ returns g c = λ before after own.
     let join = g.D.OverlayEdgeData.join in
     let carried_kind = carrying kind joins join in
     let segments = c.args.segments.now.items in
-    let seen_entries = seen_entries_of value joins segments in
-    let marks = laid_marks value g.I.Wide.WideIntNumber.number c.put_in_order.new.marks.items in
+    let seen_entries = seen_entries_of joins segments in
+    let marks = laid_marks g.I.Wide.WideIntNumber.number c.put_in_order.new.marks.items in
     let seen_sorted : AreMarks g.I.OverlayInt.stride least greatest (marks_in precision k) (edges_of seen_entries) marks = subst (λ l. AreMarks g.I.OverlayInt.stride least greatest (marks_in precision k) l marks) (sym (seen_edges value joins segments)) (sorted g (goal.at.returns g c).In_ok-cut_all) in
-    let seen_kept = seen_entries_of value joins parts.kept.items in
-    let seen_pieces = seen_entries_of value joins parts.pieces.items in
+    let seen_kept = seen_entries_of joins parts.kept.items in
+    let seen_pieces = seen_entries_of joins parts.pieces.items in
     let seen_steps = steps_in carried_kind precision seen_entries k in
     let seen_cut : IsCut g.I.OverlayInt.stride least greatest carried_kind marks seen_entries seen_kept seen_pieces = rw (c.deref.ensures.value, c.deref-2.ensures.value) at c.in_ok-cut_all.ensures.«data» in
     let seen_laid : IsPermutation seen_steps (seen_kept ++ seen_pieces) = (seen_cut precision k seen_sorted).steps in
     let seen_joined = rw c.deref-3.ensures.value at c.in_ok-sort_and_merge.ensures.«data» in
-    let all = entries_of value parts.kept.items ++ entries_of value parts.pieces.items in
+    let all = entries_of parts.kept.items ++ entries_of parts.pieces.items in
     let joined = c.sort_and_merge.new.joined in
-    let is : entries_of value joined.items ≡ normal kind all = rw c.deref-3.ensures.value at c.in_ok-sort_and_merge.ensures.normal in
-    let skips : AllParted (edges_of (entries_of value parts.kept.items)) → SkipsOld (edges_of (entries_of value joined.items)) c.sort_and_merge.new.next_new.items =
+    let is : entries_of joined.items ≡ normal kind all = rw c.deref-3.ensures.value at c.in_ok-sort_and_merge.ensures.normal in
+    let skips : AllParted (edges_of (entries_of parts.kept.items)) → SkipsOld (edges_of (entries_of joined.items)) c.sort_and_merge.new.next_new.items =
     rw c.deref-3.ensures.value at c.in_ok-sort_and_merge.ensures.skips in
     let found_marks = c.args.room.now.marks in
-    let some : 0 < length (laid_marks value g.I.Wide.WideIntNumber.number found_marks.items) = omega (arith, found_marks.ok.0, some_first found_marks.len c.is_empty.ensures c.if-is_empty.false, length-map found_marks.items (laid_of value g.I.Wide.WideIntNumber.number)) in
-    let few : length (entries_of value joined.items) < 2 ^ 31 =
+    let some : 0 < length (laid_marks g.I.Wide.WideIntNumber.number found_marks.items) = omega (arith, found_marks.ok.0, some_first found_marks.len c.is_empty.ensures c.if-is_empty.false, length-map found_marks.items (laid_of g.I.Wide.WideIntNumber.number)) in
+    let few : length (entries_of joined.items) < 2 ^ 31 =
     omega (
       arith,
       ap length is,
       normal_length kind all,
-      length-map parts.kept.items (entry_of value),
-      length-map parts.pieces.items (entry_of value),
-      length-append (entries_of value parts.kept.items) (entries_of value parts.pieces.items),
+      length-map parts.kept.items entry_of,
+      length-map parts.pieces.items entry_of,
+      length-append (entries_of parts.kept.items) (entries_of parts.pieces.items),
       c.len.ensures,
       c.len-2.ensures,
       c.saturating_add.ensures,
@@ -217,11 +210,11 @@ returns g c = λ before after own.
     ) in
     record {
       few = few;
-      marked = marked_by_some g.I.OverlayInt.stride least greatest precision k (edges_of entries) (edges_rising entries c.requires.can.normal) (laid_marks value g.I.Wide.WideIntNumber.number found_marks.items) some found;
+      marked = marked_by_some g.I.OverlayInt.stride least greatest precision k (edges_of entries) (edges_rising entries c.requires.can.normal) (laid_marks g.I.Wide.WideIntNumber.number found_marks.items) some found;
       passed = λ up. is ∙ normal_permutation g.met.C.WindingCount.lawful steps all cut.steps;
       with_data = λ up. seen_joined
           ∙ data_permutation kind (seen_join joins join) g.met.C.WindingCount.lawful (seen_joins join joins g.met.D.OverlayEdgeData.lawful) seen_steps (seen_kept ++ seen_pieces) seen_laid;
-      skips = λ up. skips (unmarked_parted precision k (edges_of entries) (edges_of (entries_of value parts.kept.items)) cut.unmarked);
+      skips = λ up. skips (unmarked_parted precision k (edges_of entries) (edges_of (entries_of parts.kept.items)) cut.unmarked);
       kept = λ e. absurd (false≢true (sym e));
       last = λ up. c.requires.whole (not_true c.args.is_off_grid up);
       refused = tt;

@@ -11,9 +11,8 @@ find_marks-requires g c = rw (c.deref.ensures.value, c.deref-2.ensures.value) c.
 
 pub returns-in_err-is_off_grid : goal.returns-in_err-is_off_grid
 returns-in_err-is_off_grid g c =
-    let value = g.I.OverlayInt.value in
     let joins = g.D.OverlayEdgeData.JOINS in
-    let given = listed value joins c.args.segments.now.items in
+    let given = listed joins c.args.segments.now.items in
     let p = err_from_is_err_and c.from_residual.result c.from_residual.ensures.1 in
     rw p.1 (pass_without_memory (work_of g.C.WindingCount.counting g.C.WindingCount.fits joins g.D.OverlayEdgeData.join c.args.this.solver) c.args.this.number
     given given _ c.args.steps.now c.find_marks.new.steps (rw c.deref.ensures.value at c.find_marks.ensures.steps) p.0 (p.2 ∙ c.in_err-is_off_grid.ensures.memory))

@@ -11,24 +11,22 @@ use Rattle.segment_split.proofs.pass.redraw_by_passes.Given as goal
 -- The segments are those before pass k, in whatever redrawing those that were given were before the first pass here.
 abbrev pub invariant-loop-k : goal.invariant-loop-k
 invariant-loop-k g l =
-    let value = g.I.OverlayInt.value in
     let joins = g.D.OverlayEdgeData.JOINS in
     let work = work_of g.C.WindingCount.counting g.C.WindingCount.fits joins g.D.OverlayEdgeData.join l.solver in
     ((given : Listed g.row.C.Denot g.row.D.Denot joins) (first : Counts)
-    → IsPassedTo g.I.OverlayInt.least g.I.OverlayInt.greatest work given (listed value joins l.initial.segments.items) l.fn.from.number first l.fn.steps
-    → IsBefore work given (listed value joins l.segments.items) l.k first l.steps)
-    × IsPass g.I.OverlayInt.least g.I.OverlayInt.greatest g.C.WindingCount.counting (entries_of value l.segments.items) l.room.next_new.items
+    → IsPassedTo g.I.OverlayInt.least g.I.OverlayInt.greatest work given (listed joins l.initial.segments.items) l.fn.from.number first l.fn.steps
+    → IsBefore work given (listed joins l.segments.items) l.k first l.steps)
+    × IsPass g.I.OverlayInt.least g.I.OverlayInt.greatest g.C.WindingCount.counting (entries_of l.segments.items) l.room.next_new.items
 
 -- The segments are those before some late pass.
 abbrev pub invariant-loop-passed : goal.invariant-loop-passed
 invariant-loop-passed g l =
-    let value = g.I.OverlayInt.value in
     let joins = g.D.OverlayEdgeData.JOINS in
     let work = work_of g.C.WindingCount.counting g.C.WindingCount.fits joins g.D.OverlayEdgeData.join l.solver in
     ((n : ℕ) × (early_passes ≤ n) × ((given : Listed g.row.C.Denot g.row.D.Denot joins) (first : Counts)
-    → IsPassedTo g.I.OverlayInt.least g.I.OverlayInt.greatest work given (listed value joins l.fn.segments.items) l.fn.from.number first l.fn.steps
-    → IsBefore work given (listed value joins l.segments.items) n first l.steps))
-    × IsPass g.I.OverlayInt.least g.I.OverlayInt.greatest g.C.WindingCount.counting (entries_of value l.segments.items) l.room.next_new.items
+    → IsPassedTo g.I.OverlayInt.least g.I.OverlayInt.greatest work given (listed joins l.fn.segments.items) l.fn.from.number first l.fn.steps
+    → IsBefore work given (listed joins l.segments.items) n first l.steps))
+    × IsPass g.I.OverlayInt.least g.I.OverlayInt.greatest g.C.WindingCount.counting (entries_of l.segments.items) l.room.next_new.items
 
 abbrev pub decreases-loop-passed : goal.decreases-loop-passed
-decreases-loop-passed g l = spread (edges_of (entries_of g.I.OverlayInt.value l.segments.items))
+decreases-loop-passed g l = spread (edges_of (entries_of l.segments.items))

@@ -12,15 +12,16 @@ use Rattle.segment_split.proofs.split.can_be_split.Goals as goal
 
 pub loop-segment-preserved : goal.loop-segment-preserved
 loop-segment-preserved g c =
-    let value = g.I.OverlayInt.value in
     let i = c.loop-segment.segment-index in
     let segment = c.segment-item.result in
-    let before = entries_of value (take i c.args.segments.now) in
-    let next : entries_of value (take (i + 1) c.args.segments.now) ≡ before ++ entry_of value segment ∷ [] =
-    ap (entries_of value) (taken_to c.args.segments.now i (i + 1) segment refl (omega (arith, c.loop-segment-test.true)) c.segment-item.is) ∙ map-append (entry_of value) (take i c.args.segments.now) (segment ∷ []) in
+    let before = entries_of (take i c.args.segments.now) in
+    let next : entries_of (take (i + 1) c.args.segments.now) ≡ before ++ entry_of segment ∷ [] =
+    ap entries_of (taken_to c.args.segments.now i (i + 1) segment refl (omega (arith, c.loop-segment-test.true)) c.segment-item.is) ∙ map-append entry_of (take i c.args.segments.now) (segment ∷ []) in
+    let edge = ap (λ s. s.x_segment) c.segment.view_is in
+    let count = ap (λ s. s.count) c.segment.view_is in
     rw next (
-      All-push (λ (e : Entry g.row.C.Denot). IsEdgeWithin g.I.OverlayInt.least g.I.OverlayInt.greatest e.edge) before (entry_of value segment) c.loop-segment.invariant.0 (c.is_within.ensures.0 c.if-not-is_within.false),
-      All-push (λ (e : Entry g.row.C.Denot). g.C.WindingCount.counting.is_empty e.count ≡ false) before (entry_of value segment) c.loop-segment.invariant.1 (sym c.is_empty.ensures ∙ c.if-is_empty.false),
+      All-push (λ (e : Entry g.row.C.Denot). IsEdgeWithin g.I.OverlayInt.least g.I.OverlayInt.greatest e.edge) before (entry_of segment) c.loop-segment.invariant.0 (rw edge at (c.is_within.ensures.0 c.if-not-is_within.false)),
+      All-push (λ (e : Entry g.row.C.Denot). g.C.WindingCount.counting.is_empty e.count ≡ false) before (entry_of segment) c.loop-segment.invariant.1 (rw count at (sym c.is_empty.ensures ∙ c.if-is_empty.false)),
     )
 
 pub returns-clause-in_range : goal.returns-clause-in_range
@@ -37,16 +38,18 @@ returns-clause-counted g c =
 
 pub returns-then-not-is_within-clause-passes : goal.returns-then-not-is_within-clause-passes
 returns-then-not-is_within-clause-passes g c = λ within counted.
-    let f = entry_of g.I.OverlayInt.value in
+    let f = entry_of in
     let segments = c.args.segments.now in
     let segment = c.segment-item.result in
+    let edge = ap (λ s. s.x_segment) c.segment.view_is in
+    let count = ap (λ s. s.count) c.segment.view_is in
     elim c.then-not-is_within.branch [
       | then-not-is_within-via-then-not-is_within w ↦
           let here = All-mapped (λ (e : Entry g.row.C.Denot). IsEdgeWithin g.I.OverlayInt.least g.I.OverlayInt.greatest e.edge) f segments c.loop-segment.segment-index segment c.loop-segment-test.true c.segment-item.is within in
-          absurd (false≢true (sym w.if-not-is_within.true ∙ c.is_within.ensures.1 here))
+          absurd (false≢true (sym w.if-not-is_within.true ∙ c.is_within.ensures.1 (rw edge here)))
       | then-not-is_within-via-else-not-is_within+then-is_empty w ↦
           let here = All-mapped (λ (e : Entry g.row.C.Denot). g.C.WindingCount.counting.is_empty e.count ≡ false) f segments c.loop-segment.segment-index segment c.loop-segment-test.true c.segment-item.is counted in
-          absurd (false≢true (sym here ∙ (sym w.is_empty.ensures ∙ w.if-is_empty.true)))
+          absurd (false≢true (sym here ∙ ap g.C.WindingCount.counting.is_empty (sym count) ∙ sym w.is_empty.ensures ∙ w.if-is_empty.true))
     ]
 
 pub is_within-requires : goal.is_within-requires

@@ -9,7 +9,6 @@ ghost use Rattle.std.specs.Int.{int_min, int_max};
 ghost use Rattle.std.specs.Ordering.{int_cmp};
 ghost use Rattle.i_tree.specs.Layout.{IsAccepted};
 ghost use Rattle.i_tree.specs.Bag.{BagHasRoom, IsAdded, IsInTime, IsPassed, empty_bag};
-ghost use Rattle.plane_base.specs.SegmentViews.{edge_of};
 ghost use Rattle.segment_split.specs.Passes.{edges_of};
 ghost use Rattle.segment_split.specs.SegmentViews.{entries_of, AreWithin};
 ghost use Rattle.segment_split.specs.StepBounds.{y_range, all_values, has_layout};
@@ -57,11 +56,11 @@ impl Trees {
         alloc: Global,
         segments: &[Segment<C, I, D>],
     ) -> Result<Option<Trees>, Fault>
-        requires in_range { AreWithin I.least I.greatest (entries_of I.value segments.now) }
-        ensures none { IfOk result (λ made. IfNone made (has_layout (all_values y_range (edges_of (entries_of I.value segments.now))) ≡ false)) }
-        ensures some { IfOk result (λ made. IfSome made (λ trees. has_layout (all_values y_range (edges_of (entries_of I.value segments.now))) ≡ true)) }
-        ensures new_ones { IfOk result (λ made. IfSome made (λ trees. trees.new_ones ≡ empty_bag (y_buckets (edges_of (entries_of I.value segments.now))))) }
-        ensures old_ones { IfOk result (λ made. IfSome made (λ trees. trees.old_ones ≡ empty_bag (y_buckets (edges_of (entries_of I.value segments.now))))) }
+        requires in_range { AreWithin I.least I.greatest (entries_of segments.now) }
+        ensures none { IfOk result (λ made. IfNone made (has_layout (all_values y_range (edges_of (entries_of segments.now))) ≡ false)) }
+        ensures some { IfOk result (λ made. IfSome made (λ trees. has_layout (all_values y_range (edges_of (entries_of segments.now))) ≡ true)) }
+        ensures new_ones { IfOk result (λ made. IfSome made (λ trees. trees.new_ones ≡ empty_bag (y_buckets (edges_of (entries_of segments.now))))) }
+        ensures old_ones { IfOk result (λ made. IfSome made (λ trees. trees.old_ones ≡ empty_bag (y_buckets (edges_of (entries_of segments.now))))) }
         ensures memory { IsOkUnless result Fault.Memory }
     {
         let range = all_y(segments);
@@ -77,10 +76,10 @@ impl Trees {
 
 // What a segment meets in a tree.
 pub(super) fn find_met<I: OverlayInt>(tree: &mut Tree, s: XSegment<I>) -> Result<Vec<Passed>, Fault>
-    requires in_time { IsInTime int_cmp (I.value s.a.x) tree.old }
-    requires accepted { IsAccepted (y_range (edge_of I.value s)).least (y_range (edge_of I.value s)).greatest tree.old.buckets }
-    ensures found { IfOk result (λ found. IsPermutation (met_in tree.old (edge_of I.value s)) found.items) }
-    ensures passed { IsPassed int_cmp (λ p. p.end) (I.value s.a.x) tree.old tree.new }
+    requires in_time { IsInTime int_cmp s.a.x tree.old }
+    requires accepted { IsAccepted (y_range s).least (y_range s).greatest tree.old.buckets }
+    ensures found { IfOk result (λ found. IsPermutation (met_in tree.old s) found.items) }
+    ensures passed { IsPassed int_cmp (λ p. p.end) s.a.x tree.old tree.new }
     ensures memory { IsOkUnless result Fault.Memory }
 {
     let (min, max) = rows(s);
@@ -96,8 +95,8 @@ pub(super) fn put<I: OverlayInt>(
     s: XSegment<I>,
 ) -> Result<(), Fault>
     requires room { BagHasRoom tree.old }
-    requires accepted { IsAccepted (y_range (edge_of I.value s)).least (y_range (edge_of I.value s)).greatest tree.old.buckets }
-    ensures added { OnOk result (IsAdded int_cmp (λ p. p.end) (insertion_of tree.old.buckets number (edge_of I.value s)) tree.old tree.new) }
+    requires accepted { IsAccepted (y_range s).least (y_range s).greatest tree.old.buckets }
+    ensures added { OnOk result (IsAdded int_cmp (λ p. p.end) (insertion_of tree.old.buckets number s) tree.old tree.new) }
     ensures memory { IsOkUnless result Fault.Memory }
 {
     let (min, max) = rows(s);
@@ -108,16 +107,16 @@ pub(super) fn put<I: OverlayInt>(
 
 // The least and the greatest x of a segment.
 fn columns<I: OverlayInt>(s: XSegment<I>) -> (i64, i64)
-    ensures least { result.0 ≡ I.value s.a.x }
-    ensures greatest { result.1 ≡ I.value s.b.x }
+    ensures least { result.0 ≡ s.a.x }
+    ensures greatest { result.1 ≡ s.b.x }
 {
     (s.a.x.to_i64(), s.b.x.to_i64())
 }
 
 // From the least y of the segments to the greatest. Where there are no segments there is no y between the two.
 fn all_y<C: WindingCount, I: OverlayInt, D>(segments: &[Segment<C, I, D>]) -> SegRange<i64>
-    ensures least { result.min ≡ fold int_min (pos 9223372036854775807) (map (λ s. (y_range s).least) (edges_of (entries_of I.value segments.now))) }
-    ensures greatest { result.max ≡ fold int_max (negsuc 9223372036854775807) (map (λ s. (y_range s).greatest) (edges_of (entries_of I.value
+    ensures least { result.min ≡ fold int_min (pos 9223372036854775807) (map (λ s. (y_range s).least) (edges_of (entries_of segments.now))) }
+    ensures greatest { result.max ≡ fold int_max (negsuc 9223372036854775807) (map (λ s. (y_range s).greatest) (edges_of (entries_of
         segments.now))) }
 {
     let mut range = SegRange {
@@ -132,8 +131,8 @@ fn all_y<C: WindingCount, I: OverlayInt, D>(segments: &[Segment<C, I, D>]) -> Se
 
 // The range, widened to the y of a segment.
 fn with_y<I: OverlayInt>(range: SegRange<i64>, s: XSegment<I>) -> SegRange<i64>
-    ensures least { result.min ≡ int_min range.min (y_range (edge_of I.value s)).least }
-    ensures greatest { result.max ≡ int_max range.max (y_range (edge_of I.value s)).greatest }
+    ensures least { result.min ≡ int_min range.min (y_range s).least }
+    ensures greatest { result.max ≡ int_max range.max (y_range s).greatest }
 {
     let (low, high) = rows(s);
     SegRange {

@@ -1,10 +1,8 @@
 //! How far new segments extend in rows. An old segment is looked for only in rows where it shares an x with what extends there.
 //! Degenerate cases: nothing is near to a row that no new segment reaches. It takes a step for each row that a segment reaches.
 
-ghost use Rattle.std.specs.Prelude.{◌≡◌, ◌<◌, ◌≤◌, ◌^◌, ◌≤ℤ◌, true, ℕ, ℤ, length, IfOk, OnOk, IsOkUnless, IsFalse};
-ghost use Rattle.segment_split.specs.Passes.{edges_of};
-ghost use Rattle.segment_split.specs.SegmentViews.{entries_of, AreWithin};
-ghost use Rattle.segment_split.specs.Rows.{is_old, Covers, IsNear, AreExtentsTo};
+ghost use Rattle.std.specs.Prelude.{◌<◌, ◌≤◌, ◌^◌, ◌≤ℤ◌, ℕ, ℤ, length, OnOk, IsOkUnless, IsFalse};
+ghost use Rattle.segment_split.specs.Rows.{Covers, IsNear};
 
 use super::layout::RowLayout;
 use crate::count::WindingCount;

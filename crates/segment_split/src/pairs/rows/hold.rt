@@ -53,7 +53,7 @@ pub(super) fn hold_all<C: WindingCount, I: OverlayInt, D, L: Ledger>(
     ensures found { IfOk result (λ off. Finds I.stride I.least I.greatest (marks_by pass.now.rounding) pass.now.edges
         (FollowsAmong (all_reaches pass.now.edges reaches.now) rows.now.fresh.begins.items rows.now.fresh.passes.items
         rows.now.old.begins.items rows.now.old.passes.items)
-        (laid_marks I.value I.Wide.number marks.old.items) (laid_marks I.value I.Wide.number marks.new.items) (off.among_new || off.with_old)) }
+        (laid_marks I.Wide.number marks.old.items) (laid_marks I.Wide.number marks.new.items) (off.among_new || off.with_old)) }
     ensures whole { IfOk result (λ off. off.with_old ≡ false → CrossWhole pass.now.edges
         (FollowsBetween (all_reaches pass.now.edges reaches.now) rows.now.fresh.begins.items rows.now.fresh.passes.items
         rows.now.old.begins.items rows.now.old.passes.items)) }
@@ -90,7 +90,7 @@ pub(super) fn hold_rows<C: WindingCount, I: OverlayInt, D, L: Ledger>(
     requires to_rows { AreRows (length pass.now.edges) to.now.begins.items to.now.passes.items }
     ensures found { IfOk result (λ own. Finds I.stride I.least I.greatest (marks_by pass.now.rounding) pass.now.edges
         (FollowsInRows (all_reaches pass.now.edges reaches.now) from.now.begins.items from.now.passes.items to.now.begins.items to.now.passes.items)
-        (laid_marks I.value I.Wide.number marks.old.items) (laid_marks I.value I.Wide.number marks.new.items) own) }
+        (laid_marks I.Wide.number marks.old.items) (laid_marks I.Wide.number marks.new.items) own) }
     ensures memory { IsOkUnless result Fault.Memory }
     ensures steps { CountsPairsUpTo steps.old steps.new (row_followers (all_reaches pass.now.edges reaches.now)
         from.now.begins.items from.now.passes.items to.now.begins.items to.now.passes.items) }
@@ -117,7 +117,7 @@ fn hold_places<C: WindingCount, I: OverlayInt, D, L: Ledger>(
     requires to_sorted { IsNonDecreasing to.now }
     ensures found { IfOk result (λ own. Finds I.stride I.least I.greatest (marks_by pass.now.rounding) pass.now.edges
         (Follows (all_reaches pass.now.edges reaches.now) from.now to.now)
-        (laid_marks I.value I.Wide.number marks.old.items) (laid_marks I.value I.Wide.number marks.new.items) own) }
+        (laid_marks I.Wide.number marks.old.items) (laid_marks I.Wide.number marks.new.items) own) }
     ensures memory { IsOkUnless result Fault.Memory }
     ensures steps { CountsPairsUpTo steps.old steps.new (all_followers (all_reaches pass.now.edges reaches.now) from.now to.now) }
 {
@@ -196,7 +196,7 @@ fn hold_one<C: WindingCount, I: OverlayInt, D, L: Ledger>(
     requires first { IsFirstAfter to.now (place_in seat.row seat.number) first }
     ensures found { IfOk result (λ own. Finds I.stride I.least I.greatest (marks_by pass.now.rounding) pass.now.edges
         (FollowsIn to.now seat.row (slice_index_or (all_reaches pass.now.edges reaches.now) seat.number 0) seat.number)
-        (laid_marks I.value I.Wide.number marks.old.items) (laid_marks I.value I.Wide.number marks.new.items) own) }
+        (laid_marks I.Wide.number marks.old.items) (laid_marks I.Wide.number marks.new.items) own) }
     ensures memory { IsOkUnless result Fault.Memory }
     ensures steps { CountsPairsUpTo steps.old steps.new (between to.now (place_in seat.row seat.number)
         (place_in seat.row (slice_index_or (all_reaches pass.now.edges reaches.now) seat.number 0))) }
@@ -210,7 +210,8 @@ fn hold_one<C: WindingCount, I: OverlayInt, D, L: Ledger>(
     if !has_before(to, first, end) {
         return Ok(false);
     }
-    let s = segments[seat.number].x_segment;
+    let segment = &segments[seat.number];
+    let s = segment.x_segment;
     let mut is_off_grid = false;
     for k in first..to.len() {
         if to[k] >= end {

@@ -5,14 +5,13 @@
 //! Degenerate cases: segments all at one height are one row. There are fewer than 2^31 rows. It takes linear time, and what it tells
 //! is of speed alone.
 
-ghost use Rattle.std.specs.Prelude.{◌≡◌, ◌⊎◌, ◌/◌, ◌<◌, ◌≤◌, ◌<ℤ◌, ◌≤ℤ◌, ◌^◌, ℕ, pos, negsuc, neg_ℤ, map, fold, All};
+ghost use Rattle.std.specs.Prelude.{◌≡◌, ◌/◌, ◌<◌, ◌≤◌, ◌<ℤ◌, ◌≤ℤ◌, ◌^◌, pos, negsuc, neg_ℤ, map, fold, All};
 ghost use Rattle.std.specs.Int.{int_min, int_max};
 ghost use Rattle.i_tree.specs.Layout.{offset_of};
 ghost use Rattle.segment_split.specs.Passes.{edges_of};
 ghost use Rattle.segment_split.specs.SegmentViews.{entries_of, AreWithin};
 ghost use Rattle.segment_split.specs.StepBounds.{y_range};
 ghost use Rattle.plane_base.specs.Segments.{IsEdgeWithin};
-ghost use Rattle.plane_base.specs.SegmentViews.{edge_of};
 ghost use Rattle.segment_split.specs.Rows.{row_of, lowest_row, highest_row, HasFewRows};
 
 use crate::count::WindingCount;
@@ -47,8 +46,8 @@ impl RowLayout {
     pub(super) fn over<C: WindingCount, I: OverlayInt, D>(
         segments: &[Segment<C, I, D>],
     ) -> RowLayout
-        requires in_range { AreWithin I.least I.greatest (entries_of I.value segments.now) }
-        ensures few { All (HasFewRows result.least result.width) (edges_of (entries_of I.value segments.now)) }
+        requires in_range { AreWithin I.least I.greatest (entries_of segments.now) }
+        ensures few { All (HasFewRows result.least result.width) (edges_of (entries_of segments.now)) }
     {
         let measure = Measure::of(segments);
         let shift = measure.shift(Sample::of(segments));
@@ -62,10 +61,10 @@ impl RowLayout {
     // The lowest and the highest row of a segment.
     #[inline(always)]
     pub(super) fn rows<I: OverlayInt>(self, s: XSegment<I>) -> (u64, u64)
-        requires in_range { IsEdgeWithin I.least I.greatest (edge_of I.value s) }
-        requires few { HasFewRows self.least self.width (edge_of I.value s) }
-        ensures lowest { result.0 ≡ lowest_row self.least self.width (edge_of I.value s) }
-        ensures highest { result.1 ≡ highest_row self.least self.width (edge_of I.value s) }
+        requires in_range { IsEdgeWithin I.least I.greatest s }
+        requires few { HasFewRows self.least self.width s }
+        ensures lowest { result.0 ≡ lowest_row self.least self.width s }
+        ensures highest { result.1 ≡ highest_row self.least self.width s }
         ensures few { (result.0 < 2 ^ 31) × (result.1 < 2 ^ 31) }
     {
         let (low, high) = rows(s);
@@ -102,9 +101,9 @@ struct Measure {
 
 impl Measure {
     fn of<C: WindingCount, I: OverlayInt, D>(segments: &[Segment<C, I, D>]) -> Measure
-        requires in_range { AreWithin I.least I.greatest (entries_of I.value segments.now) }
-        ensures least { result.least ≡ fold int_min (pos 9223372036854775807) (map (λ s. (y_range s).least) (edges_of (entries_of I.value segments.now))) }
-        ensures greatest { result.greatest ≡ fold int_max (negsuc 9223372036854775807) (map (λ s. (y_range s).greatest) (edges_of (entries_of I.value
+        requires in_range { AreWithin I.least I.greatest (entries_of segments.now) }
+        ensures least { result.least ≡ fold int_min (pos 9223372036854775807) (map (λ s. (y_range s).least) (edges_of (entries_of segments.now))) }
+        ensures greatest { result.greatest ≡ fold int_max (negsuc 9223372036854775807) (map (λ s. (y_range s).greatest) (edges_of (entries_of
             segments.now))) }
     {
         let mut measure = Measure {
@@ -118,8 +117,8 @@ impl Measure {
     }
 
     fn with<I: OverlayInt>(self, s: XSegment<I>) -> Measure
-        ensures least { result.least ≡ int_min self.least (y_range (edge_of I.value s)).least }
-        ensures greatest { result.greatest ≡ int_max self.greatest (y_range (edge_of I.value s)).greatest }
+        ensures least { result.least ≡ int_min self.least (y_range s).least }
+        ensures greatest { result.greatest ≡ int_max self.greatest (y_range s).greatest }
     {
         let (low, high) = rows(s);
         Measure {
@@ -180,7 +179,8 @@ impl Sample {
         };
         let mut i = 0;
         while i < segments.len() {
-            sample = sample.with(segments[i].x_segment);
+            let segment = &segments[i];
+            sample = sample.with(segment.x_segment);
             i = i.saturating_add(step);
         }
         sample

@@ -54,7 +54,8 @@ impl Starts {
             starts.shift = shift_to(span, segments.len());
         }
         for i in 0..segments.len() {
-            let end = starts.past(segments[i].x_segment.a.x);
+            let segment = &segments[i];
+            let end = starts.past(segment.x_segment.a.x);
             if starts.firsts.len() < end {
                 starts.firsts.resize(end, i)?;
             }
@@ -102,8 +103,8 @@ pub(super) fn find_reaches<C: WindingCount, I: OverlayInt, D>(
     segments: &[Segment<C, I, D>],
     next_new: &[usize],
 ) -> Result<Vec<usize>, Fault>
-    requires normal { IsNormal C.counting (entries_of I.value segments.now) }
-    ensures told { IfOk result (λ reaches. AreTold (edges_of (entries_of I.value segments.now)) reaches.items) }
+    requires normal { IsNormal C.counting (entries_of segments.now) }
+    ensures told { IfOk result (λ reaches. AreTold (edges_of (entries_of segments.now)) reaches.items) }
     ensures memory { IsOkUnless result Fault.Memory }
 {
     if are_few(next_new, segments.len()) {
@@ -113,7 +114,8 @@ pub(super) fn find_reaches<C: WindingCount, I: OverlayInt, D>(
     let starts = Starts::of(alloc, segments)?;
     let runs = find_runs(alloc, segments)?;
     for i in 0..segments.len() {
-        let guess = starts.guess(segments.len(), segments[i].x_segment.b.x);
+        let segment = &segments[i];
+        let guess = starts.guess(segments.len(), segment.x_segment.b.x);
         let past = find_reach(segments, i, guess);
         let reach = without_run(segments, &runs, i, past);
         reaches.push_reserved(reach);
@@ -126,7 +128,7 @@ fn find_runs<C: WindingCount, I: OverlayInt, D>(
     alloc: Global,
     segments: &[Segment<C, I, D>],
 ) -> Result<Vec<usize>, Fault>
-    ensures runs { IfOk result (λ runs. AreRuns (edges_of (entries_of I.value segments.now)) runs.items) }
+    ensures runs { IfOk result (λ runs. AreRuns (edges_of (entries_of segments.now)) runs.items) }
     ensures long { IfOk result (λ runs. length runs.items ≡ length segments.now) }
     ensures memory { IsOkUnless result Fault.Memory }
 {
@@ -148,18 +150,20 @@ fn run_to<C: WindingCount, I: OverlayInt, D>(
 ) -> usize
     requires within { i < length segments.now }
     requires upto { first ≤ i }
-    requires before { (j : ℕ) → j + 1 ≡ i → IsRun (edges_of (entries_of I.value segments.now)) j first }
+    requires before { (j : ℕ) → j + 1 ≡ i → IsRun (edges_of (entries_of segments.now)) j first }
     ensures upto { result ≤ i + 1 }
-    ensures is { IsRun (edges_of (entries_of I.value segments.now)) i result }
+    ensures is { IsRun (edges_of (entries_of segments.now)) i result }
 {
-    let s = segments[i].x_segment;
+    let segment = &segments[i];
+    let s = segment.x_segment;
     if !is_wide(s) {
         return i + 1;
     }
     if i == 0 {
         return i;
     }
-    if begins_at(segments[i - 1].x_segment, s.a.x) {
+    let before = &segments[i - 1];
+    if begins_at(before.x_segment, s.a.x) {
         return first;
     }
     i
@@ -173,14 +177,15 @@ fn without_run<C: WindingCount, I: OverlayInt, D>(
     past: usize,
 ) -> usize
     requires within { i < length segments.now }
-    requires normal { IsNormal C.counting (entries_of I.value segments.now) }
-    requires runs { AreRuns (edges_of (entries_of I.value segments.now)) runs.now }
+    requires normal { IsNormal C.counting (entries_of segments.now) }
+    requires runs { AreRuns (edges_of (entries_of segments.now)) runs.now }
     requires long { length runs.now ≡ length segments.now }
     requires upto { past ≤ length segments.now }
-    requires past { past ≡ slice_index_or (reaches_of (edges_of (entries_of I.value segments.now))) i 0 }
-    ensures { (s : Edge) → IsAt (edges_of (entries_of I.value segments.now)) i s → IsReach (edges_of (entries_of I.value segments.now)) s result }
+    requires past { past ≡ slice_index_or (reaches_of (edges_of (entries_of segments.now))) i 0 }
+    ensures { (s : Edge) → IsAt (edges_of (entries_of segments.now)) i s → IsReach (edges_of (entries_of segments.now)) s result }
 {
-    let s = segments[i].x_segment;
+    let segment = &segments[i];
+    let s = segment.x_segment;
     if past == 0 {
         return past;
     }
@@ -188,7 +193,8 @@ fn without_run<C: WindingCount, I: OverlayInt, D>(
         return past;
     }
     let last = past - 1;
-    if begins_at(segments[last].x_segment, s.b.x) {
+    let end = &segments[last];
+    if begins_at(end.x_segment, s.b.x) {
         return runs[last];
     }
     past
@@ -196,14 +202,14 @@ fn without_run<C: WindingCount, I: OverlayInt, D>(
 
 // Whether a segment isn't vertical.
 fn is_wide<I: OverlayInt>(s: XSegment<I>) -> bool
-    ensures wide { IsTrue result → I.value s.a.x <ℤ I.value s.b.x }
+    ensures wide { IsTrue result → s.a.x <ℤ s.b.x }
 {
     s.a.x.to_i64() < s.b.x.to_i64()
 }
 
 // Whether a segment begins at x.
 fn begins_at<I: OverlayInt>(s: XSegment<I>, x: I) -> bool
-    ensures at { IsTrue result → I.value s.a.x ≡ I.value x }
+    ensures at { IsTrue result → s.a.x ≡ I.value x }
 {
     s.a.x.to_i64() == x.to_i64()
 }
@@ -215,9 +221,9 @@ pub(super) fn reach_of<C: WindingCount, I: OverlayInt, D>(
     i: usize,
 ) -> usize
     requires within { i < length segments.now }
-    requires normal { IsNormal C.counting (entries_of I.value segments.now) }
-    requires told { AreTold (edges_of (entries_of I.value segments.now)) reaches.now }
-    ensures { result ≡ slice_index_or (all_reaches (edges_of (entries_of I.value segments.now)) reaches.now) i 0 }
+    requires normal { IsNormal C.counting (entries_of segments.now) }
+    requires told { AreTold (edges_of (entries_of segments.now)) reaches.now }
+    ensures { result ≡ slice_index_or (all_reaches (edges_of (entries_of segments.now)) reaches.now) i 0 }
 {
     if i < reaches.len() {
         return reaches[i];
@@ -232,10 +238,11 @@ fn find_reach<C: WindingCount, I: OverlayInt, D>(
     guess: usize,
 ) -> usize
     requires within { i < length segments.now }
-    requires normal { IsNormal C.counting (entries_of I.value segments.now) }
-    ensures { result ≡ slice_index_or (reaches_of (edges_of (entries_of I.value segments.now))) i 0 }
+    requires normal { IsNormal C.counting (entries_of segments.now) }
+    ensures { result ≡ slice_index_or (reaches_of (edges_of (entries_of segments.now))) i 0 }
 {
-    first_past(segments, i + 1, guess, segments[i].x_segment.b.x)
+    let segment = &segments[i];
+    first_past(segments, i + 1, guess, segment.x_segment.b.x)
 }
 
 // The number of the first segment from this number on that begins past x: sought by a few steps down from the guess, or from the end
@@ -247,10 +254,10 @@ fn first_past<C: WindingCount, I: OverlayInt, D>(
     x: I,
 ) -> usize
     requires within { from ≤ length segments.now }
-    requires normal { IsNormal C.counting (entries_of I.value segments.now) }
+    requires normal { IsNormal C.counting (entries_of segments.now) }
     ensures within { (from ≤ result) × (result ≤ length segments.now) }
-    ensures near { (j : ℕ) (t : Edge) → from ≤ j → j < result → IsAt (edges_of (entries_of I.value segments.now)) j t → t.a.x ≤ℤ I.value x }
-    ensures past { (j : ℕ) (t : Edge) → result ≤ j → IsAt (edges_of (entries_of I.value segments.now)) j t → I.value x <ℤ t.a.x }
+    ensures near { (j : ℕ) (t : Edge) → from ≤ j → j < result → IsAt (edges_of (entries_of segments.now)) j t → t.a.x ≤ℤ I.value x }
+    ensures past { (j : ℕ) (t : Edge) → result ≤ j → IsAt (edges_of (entries_of segments.now)) j t → I.value x <ℤ t.a.x }
 {
     let mut high = upper(segments, from, guess, x);
     for _ in 0..NEAR {
@@ -262,7 +269,8 @@ fn first_past<C: WindingCount, I: OverlayInt, D>(
     let mut low = from;
     while low < high {
         let middle = low + (high - low) / 2;
-        if begins_past(segments[middle].x_segment, x) {
+        let segment = &segments[middle];
+        if begins_past(segment.x_segment, x) {
             high = middle;
         } else {
             low = middle + 1;
@@ -280,15 +288,16 @@ fn reaches_to<C: WindingCount, I: OverlayInt, D>(
     x: I,
 ) -> bool
     requires within { to ≤ length segments.now }
-    requires normal { IsNormal C.counting (entries_of I.value segments.now) }
-    ensures near { IsTrue result → (j : ℕ) (t : Edge) → from ≤ j → j < to → IsAt (edges_of (entries_of I.value segments.now)) j t → t.a.x ≤ℤ I.value x }
+    requires normal { IsNormal C.counting (entries_of segments.now) }
+    ensures near { IsTrue result → (j : ℕ) (t : Edge) → from ≤ j → j < to → IsAt (edges_of (entries_of segments.now)) j t → t.a.x ≤ℤ I.value x }
     ensures later { IsFalse result → from < to }
-    ensures past { IsFalse result → (j : ℕ) (t : Edge) → to ≤ j + 1 → IsAt (edges_of (entries_of I.value segments.now)) j t → I.value x <ℤ t.a.x }
+    ensures past { IsFalse result → (j : ℕ) (t : Edge) → to ≤ j + 1 → IsAt (edges_of (entries_of segments.now)) j t → I.value x <ℤ t.a.x }
 {
     if to <= from {
         return true;
     }
-    if begins_past(segments[to - 1].x_segment, x) {
+    let last = &segments[to - 1];
+    if begins_past(last.x_segment, x) {
         return false;
     }
     true
@@ -302,12 +311,13 @@ fn upper<C: WindingCount, I: OverlayInt, D>(
     x: I,
 ) -> usize
     requires within { from ≤ length segments.now }
-    requires normal { IsNormal C.counting (entries_of I.value segments.now) }
+    requires normal { IsNormal C.counting (entries_of segments.now) }
     ensures within { (from ≤ result) × (result ≤ length segments.now) }
-    ensures past { (j : ℕ) (t : Edge) → result ≤ j → IsAt (edges_of (entries_of I.value segments.now)) j t → I.value x <ℤ t.a.x }
+    ensures past { (j : ℕ) (t : Edge) → result ≤ j → IsAt (edges_of (entries_of segments.now)) j t → I.value x <ℤ t.a.x }
 {
     if from <= guess && guess < segments.len() {
-        if begins_past(segments[guess].x_segment, x) {
+        let segment = &segments[guess];
+        if begins_past(segment.x_segment, x) {
             return guess;
         }
     }
@@ -316,8 +326,8 @@ fn upper<C: WindingCount, I: OverlayInt, D>(
 
 // Whether a segment begins past x.
 pub(super) fn begins_past<I: OverlayInt>(s: XSegment<I>, x: I) -> bool
-    ensures past { IsTrue result → I.value x <ℤ I.value s.a.x }
-    ensures reached { IsFalse result → I.value s.a.x ≤ℤ I.value x }
+    ensures past { IsTrue result → I.value x <ℤ s.a.x }
+    ensures reached { IsFalse result → s.a.x ≤ℤ I.value x }
 {
     x.to_i64() < s.a.x.to_i64()
 }

@@ -62,7 +62,8 @@ impl Spread {
         };
         let mut i = 0;
         while i < segments.len() {
-            spread = spread.with(segments[i].x_segment);
+            let segment = &segments[i];
+            spread = spread.with(segment.x_segment);
             i = i.saturating_add(step);
         }
         spread
@@ -182,7 +183,8 @@ pub(super) fn may_cross_often<C: WindingCount, I: OverlayInt, D>(
     let mut lengths = Lengths::over(alloc, segments, step)?;
     let mut i = 0;
     while i < segments.len() {
-        lengths.add(segments[i].x_segment);
+        let segment = &segments[i];
+        lengths.add(segment.x_segment);
         i = i.saturating_add(step);
     }
     let scale = (step as u64).wrapping_mul(step as u64).wrapping_mul(100);

@@ -10,7 +10,7 @@ loop-place-preserved g c =
     let inside : c.loop-place.place < length c.args.lines.now = omega (arith, c.loop-place-test.true, c.loop-place.invariant.0) in
     let P = All (IsWithin g.I.OverlayInt.least g.I.OverlayInt.greatest) in (
       c.loop-place.invariant.0,
-      All-taken_more (points_of g.I.OverlayInt.value) c.args.lines.now c.loop-place.place c.index-lines-place.result inside c.index-lines-place.is
+      All-taken_more points_of c.args.lines.now c.loop-place.place c.index-lines-place.result inside c.index-lines-place.is
           P c.loop-place.invariant.1 (c.all_in_range.ensures.0 c.if-not-all_in_range.false),
     )
 

@@ -7,5 +7,5 @@ use Rattle.shape_rows.proofs.simplified.are_left.Goals as goal
 pub simplify_flat_buffer-requires-clause-in_range : goal.simplify_flat_buffer-requires-clause-in_range
 simplify_flat_buffer-requires-clause-in_range g c =
     let buffer = c.in_ok-buffer.buffer in
-    all_parts (point_of g.I.OverlayInt.value) (All (IsWithin g.I.OverlayInt.least g.I.OverlayInt.greatest)) buffer.points.items buffer.ranges.items
+    all_parts point_of (All (IsWithin g.I.OverlayInt.least g.I.OverlayInt.greatest)) buffer.points.items buffer.ranges.items
     (c.source_in_range.ensures.0 c.if-not-source_in_range.false)

@@ -7,8 +7,7 @@ use Rattle.shape_rows.proofs.slices.doubled_area_of.Goals as goal
 
 pub area_of-requires : goal.area_of-requires
 area_of-requires g c =
-    let value = g.I.OverlayInt.value in
     let within = All (IsWithin g.I.OverlayInt.least g.I.OverlayInt.greatest) in
-    subst (λ points. within (points_of value points)) (sym c.deref.ensures.value)
-    (All-mapped within (λ contour. points_of value contour.points.items) c.deref-contour-items.result.now c.loop-contour.contour-index c.contour-item.result
-    c.loop-contour-test.true c.contour-item.is (subst (λ contours. All within (contours_of value contours)) (sym c.deref-contour-items.ensures.value) c.requires))
+    subst (λ points. within (points_of points)) (sym c.deref.ensures.value)
+    (All-mapped within (λ contour. points_of contour.points.items) c.deref-contour-items.result.now c.loop-contour.contour-index c.contour-item.result
+    c.loop-contour-test.true c.contour-item.is (subst (λ contours. All within (contours_of contours)) (sym c.deref-contour-items.ensures.value) c.requires))

@@ -16,4 +16,4 @@ returns-in_err-view g c = rw ((err_from_is_err_and c.from_residual.result c.from
 pub returns-in-None : goal.returns-in-None
 returns-in-None g c =
     let within = All (IsWithin g.I.OverlayInt.least g.I.OverlayInt.greatest) in
-    subst (λ items. All within (all_contours (shapes_of g.I.OverlayInt.value items))) (sym c.new.ensures.items) (All-nil within)
+    subst (λ items. All within (all_contours (shapes_of items))) (sym c.new.ensures.items) (All-nil within)

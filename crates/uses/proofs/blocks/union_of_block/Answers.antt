@@ -37,11 +37,10 @@ each (Err e) f h = tt
 
 pub returns : goal.returns
 returns g c =
-    let value = g.I.OverlayInt.value in
     record {
       block = each c.overlay.result
-          (λ found single. of_block g.I.OverlayInt.least g.I.OverlayInt.greatest (contours_of value (paths_of_shapes c.args.subject.now.shapes.items))
-          (contours_of value (paths_of_shapes c.args.clip.now.shapes.items)) (shapes_of value found.shapes.items) c.holding_goes_on.ensures c.sources_are_held.ensures
+          (λ found single. of_block g.I.OverlayInt.least g.I.OverlayInt.greatest (contours_of (paths_of_shapes c.args.subject.now.shapes.items))
+          (contours_of (paths_of_shapes c.args.clip.now.shapes.items)) (shapes_of found.shapes.items) c.holding_goes_on.ensures c.sources_are_held.ensures
           c.tiles_answer_alike.ensures single)
           c.overlay.ensures.answered;
     }

@@ -62,10 +62,9 @@ module _ (least greatest : ℤ) (subjects clips : List (List Point)) (goes_on : 
 
 pub returns : goal.returns
 returns g c =
-    let value = g.I.OverlayInt.value in
     record {
-      add_up = dry_area g.I.OverlayInt.least g.I.OverlayInt.greatest (contours_of value (paths_of_shapes c.args.land.now.shapes.items))
-          (contours_of value (paths_of_shapes c.args.flood.now.shapes.items)) c.holding_goes_on.ensures c.sources_are_held.ensures c.order_does_not_matter.ensures
+      add_up = dry_area g.I.OverlayInt.least g.I.OverlayInt.greatest (contours_of (paths_of_shapes c.args.land.now.shapes.items))
+          (contours_of (paths_of_shapes c.args.flood.now.shapes.items)) c.holding_goes_on.ensures c.sources_are_held.ensures c.order_does_not_matter.ensures
           c.areas_add_up.ensures c.requires.land_in_range c.requires.flood_in_range c.in_ok-whole.ensures.answered c.in_ok-dry.ensures.answered
           c.in_ok-flooded.ensures.answered;
     }

@@ -36,6 +36,6 @@ returns g c =
     let map = c.args.map.now in
     record {
       told = by_region (answering_of map.options) NonZero Intersect map.solver.precision (held_by map) (λ inside. inside.items) c.contains_points.result
-          (points_of g.I.OverlayInt.value c.args.wells.now) c.answers_contain.ensures map.balanced c.requires.not_parted c.requires.all_areas c.in_ok-flooded.ensures.answered.canonical
+          (points_of c.args.wells.now) c.answers_contain.ensures map.balanced c.requires.not_parted c.requires.all_areas c.in_ok-flooded.ensures.answered.canonical
           c.contains_points.ensures.located;
     }

@@ -6,7 +6,7 @@ use Rattle.uses.proofs.masks.can_be_checked.Goals as goal
 
 pub returns : goal.returns
 returns g c =
-    let mask = contours_of g.I.OverlayInt.value (paths_of_shapes c.args.mask.now.shapes.items) in (
+    let mask = contours_of (paths_of_shapes c.args.mask.now.shapes.items) in (
       λ h. record {
         is_side = c.is_side.ensures.0 c.if-not-is_side.false;
         is_mask = c.is_mask.ensures.0 c.if-not-is_mask.false;

@@ -6,7 +6,7 @@ use Rattle.uses.proofs.masks.can_be_enclosed.Goals as goal
 
 pub returns : goal.returns
 returns g c =
-    let inner = contours_of g.I.OverlayInt.value (paths_of_shapes c.args.inner.now.shapes.items) in (
+    let inner = contours_of (paths_of_shapes c.args.inner.now.shapes.items) in (
       λ h. record {
         some = c.is_distance.ensures.0 c.if-not-is_distance.false;
         inner_mask = c.is_mask.ensures.0 c.if-not-is_mask.false;

@@ -7,10 +7,9 @@ use Rattle.uses.proofs.masks.rest.Goals as goal
 
 pub returns-clause-rest : goal.returns-clause-rest
 returns-clause-rest g c =
-    let value = g.I.OverlayInt.value in
     if_answered c.overlay.result
     (λ found answered.
     are_rest c.straight_maps_answer_their_region.ensures c.holding_goes_on.ensures c.sources_are_held.ensures g.I.OverlayInt.least g.I.OverlayInt.greatest
-    (contours_of value (paths_of_shapes c.args.one.now.shapes.items)) (contours_of value (paths_of_shapes c.args.other.now.shapes.items)) c.requires.one_is
-    c.requires.other_is (shapes_of value found.shapes.items) answered)
+    (contours_of (paths_of_shapes c.args.one.now.shapes.items)) (contours_of (paths_of_shapes c.args.other.now.shapes.items)) c.requires.one_is
+    c.requires.other_is (shapes_of found.shapes.items) answered)
     c.overlay.ensures.answered

@@ -9,9 +9,9 @@ use Rattle.uses.proofs.masks.width_errors.Goals as goal
 
 pub returns-clause-told : goal.returns-clause-told
 returns-clause-told g c =
-    let value = g.I.OverlayInt.value in
+    let value = g.I.IntNumber.value in
     subst (λ options. AreWidthErrors g.I.OverlayInt.least g.I.OverlayInt.greatest (value c.args.width) options NonZero default_precision
-    (contours_of value (paths_of_shapes c.args.mask.now.shapes.items)) (shapes_of value c.in_ok-width_errors.field-0.shapes.items)) c.default-options.ensures
+    (contours_of (paths_of_shapes c.args.mask.now.shapes.items)) (shapes_of c.in_ok-width_errors.field-0.shapes.items)) c.default-options.ensures
     (subst (λ solver. AreWidthErrors g.I.OverlayInt.least g.I.OverlayInt.greatest (value c.args.width) c.default-options.result NonZero solver.precision
-    (contours_of value (paths_of_shapes c.args.mask.now.shapes.items)) (shapes_of value c.in_ok-width_errors.field-0.shapes.items)) c.default-solver.ensures
+    (contours_of (paths_of_shapes c.args.mask.now.shapes.items)) (shapes_of c.in_ok-width_errors.field-0.shapes.items)) c.default-solver.ensures
     c.in_ok-width_errors.ensures.told)

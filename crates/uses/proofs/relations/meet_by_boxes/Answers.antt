@@ -52,7 +52,7 @@ never_meets least greatest parcel zone fill precision held law is_held boxed tel
 
 pub returns-then-share_no_point : goal.returns-then-share_no_point
 returns-then-share_no_point g c =
-    let value = g.I.OverlayInt.value in
+    let value = g.I.IntNumber.value in
     let relations = c.args.relations.now in
     never_meets g.I.OverlayInt.least g.I.OverlayInt.greatest (bounds_of value c.args.parcel) (bounds_of value c.args.zone) (fill_rule_of relations.fill_rule)
     relations.solver.precision (held_by relations) c.apart_is_disjoint.ensures relations.balanced c.requires c.share_no_point.ensures

@@ -46,20 +46,18 @@ around goes_on law ones others answer related =
 
 pub returns-clause-forth : goal.returns-clause-forth
 returns-clause-forth g c =
-    let value = g.I.OverlayInt.value in
     let both = c.in_ok-both.both in
     let made = c.in_ok-both.ensures.made in
-    told within (contours_of value (paths_of_shapes c.args.one.now.shapes.items)) (contours_of value (paths_of_shapes c.args.other.now.shapes.items))
+    told within (contours_of (paths_of_shapes c.args.one.now.shapes.items)) (contours_of (paths_of_shapes c.args.other.now.shapes.items))
     (fill_rule_of both.fill_rule) both.solver.precision (held_by both) c.in_ok-found.found.within made.held (ap fill_rule_of made.fill_rule)
     (ap (λ s. s.precision) made.solver) (ap (λ r. r.within) c.in_ok-found.ensures.is)
 
 pub returns-clause-back : goal.returns-clause-back
 returns-clause-back g c =
-    let value = g.I.OverlayInt.value in
     let both = c.in_ok-both.both in
     let made = c.in_ok-both.ensures.made in
-    let ones = contours_of value (paths_of_shapes c.args.one.now.shapes.items) in
-    let others = contours_of value (paths_of_shapes c.args.other.now.shapes.items) in
+    let ones = contours_of (paths_of_shapes c.args.one.now.shapes.items) in
+    let others = contours_of (paths_of_shapes c.args.other.now.shapes.items) in
     around c.holding_goes_on.ensures c.covers_is_within_exchanged.ensures ones others c.in_ok-found.found.covers
     (told covers ones others (fill_rule_of both.fill_rule) both.solver.precision (held_by both) c.in_ok-found.found.covers made.held (ap fill_rule_of made.fill_rule)
     (ap (λ s. s.precision) made.solver) (ap (λ r. r.covers) c.in_ok-found.ensures.is))

@@ -28,8 +28,8 @@ in_frame least greatest box subjects clips shapes goes_on are_held stay subjects
 
 pub returns-clause-framed : goal.returns-clause-framed
 returns-clause-framed g c =
-    let value = g.I.OverlayInt.value in
-    in_frame g.I.OverlayInt.least g.I.OverlayInt.greatest (bounds_of value c.args.frame) (contours_of value (paths_of_shapes c.args.one.now.shapes.items))
-    (contours_of value (paths_of_shapes c.args.other.now.shapes.items)) (shapes_of value c.in_ok-map.map.shapes.items) c.holding_goes_on.ensures
+    let value = g.I.IntNumber.value in
+    in_frame g.I.OverlayInt.least g.I.OverlayInt.greatest (bounds_of value c.args.frame) (contours_of (paths_of_shapes c.args.one.now.shapes.items))
+    (contours_of (paths_of_shapes c.args.other.now.shapes.items)) (shapes_of c.in_ok-map.map.shapes.items) c.holding_goes_on.ensures
     c.sources_are_held.ensures c.answers_stay_in_the_box.ensures c.requires.one_in_range c.requires.other_in_range c.requires.one_framed c.requires.other_framed
     c.in_ok-map.ensures.answered

@@ -7,4 +7,4 @@ use Rattle.uses.proofs.slices.are_equal_halves.Goals as goal
 pub are_halves-requires : goal.are_halves-requires
 are_halves-requires g c =
     let within = All (IsWithin g.I.OverlayInt.least g.I.OverlayInt.greatest) in
-    subst (λ pieces. All within (all_contours (shapes_of g.I.OverlayInt.value pieces))) (sym c.deref.ensures.value) c.requires
+    subst (λ pieces. All within (all_contours (shapes_of pieces))) (sym c.deref.ensures.value) c.requires

@@ -6,7 +6,6 @@ use Rattle.uses.proofs.slices.area_of.Goals as goal
 
 pub area_of_outline-requires : goal.area_of_outline-requires
 area_of_outline-requires g c =
-    let value = g.I.OverlayInt.value in
     let within = All (IsWithin g.I.OverlayInt.least g.I.OverlayInt.greatest) in
-    subst (λ points. within (points_of value points)) (sym (c.deref.ensures.value ∙ ap (λ contour. contour.points.items) (sym c.index-contours-0.is)))
-    (contour_keeps within (λ contour. points_of value contour.points.items) c.args.contours.now 0 c.index-contours-0.result (omega (arith, c.if-contours-eq1.true)) c.index-contours-0.is c.requires)
+    subst (λ points. within (points_of points)) (sym (c.deref.ensures.value ∙ ap (λ contour. contour.points.items) (sym c.index-contours-0.is)))
+    (contour_keeps within (λ contour. points_of contour.points.items) c.args.contours.now 0 c.index-contours-0.result (omega (arith, c.if-contours-eq1.true)) c.index-contours-0.is c.requires)

@@ -43,16 +43,15 @@ each (Err e) f h = tt
 
 pub returns : goal.returns
 returns g c =
-    let value = g.I.OverlayInt.value in
     let shapes = c.args.stored.now.shapes.items in
     let map = c.in_ok-map.map in
     let made = c.in_ok-map.ensures.made in
     record {
       same = each c.overlay.result
           (λ found answered kept. answered.canonical
-          ∙ come_again c.keep_all_points-options.result map.options map.solver.precision (contours_of value (paths_of_shapes shapes)) (held_by map)
-          (shapes_of value shapes) c.holding_goes_on.ensures c.answers_come_back.ensures
-          (same_contours (λ s. s.contours.items) (λ path. path.points.items) (points_of value) shapes) c.keep_all_points-options.ensures made.options made.held
+          ∙ come_again c.keep_all_points-options.result map.options map.solver.precision (contours_of (paths_of_shapes shapes)) (held_by map)
+          (shapes_of shapes) c.holding_goes_on.ensures c.answers_come_back.ensures
+          (same_contours (λ s. s.contours.items) (λ path. path.points.items) points_of shapes) c.keep_all_points-options.ensures made.options made.held
           kept)
           c.overlay.ensures.answered;
     }

@@ -3,7 +3,6 @@ use Rattle.std.proofs.Math.ListN.{set}
 use Rattle.std.proofs.lemmas.List.{length-map, map-set, map-append, get_or-map, get_or_default}
 use Rattle.std.proofs.lemmas.List.Elements.{All-nil, All-set}
 use Rattle.plane_base.specs.Plane.{IsWithin}
-use Rattle.plane_base.specs.Views.{points_of}
 use Rattle.plane_base.specs.GivenViews.{contours_of}
 use Rattle.plane_base.proofs.Facts.Lists.Views.{All-mapped}
 use Rattle.contour_walk.specs.Walks.{Contour}
@@ -15,7 +14,7 @@ use Rattle.contour_walk.proofs.bind.assembly.join_hole.Goals as goal
 
 pub returns-then-not-contours-hole-clause-is : goal.returns-then-not-contours-hole-clause-is
 returns-then-not-contours-hole-clause-is g c = λ links cs held own is.
-    let f = contour_of g.I.OverlayInt.value in
+    let f = contour_of in
     let x = get_or c.args.contours.now c.args.hole c.index-contours-hole.result in
     let is_x = get_or_default c.args.contours.now c.args.hole c.index-contours-hole.result x c.requires.within in
     let at = held_at f c.args.contours.now c.args.hole x c.requires.within is_x cs held in
@@ -24,7 +23,7 @@ returns-then-not-contours-hole-clause-is g c = λ links cs held own is.
 
 pub returns-in_default-clause-is : goal.returns-in_default-clause-is
 returns-in_default-clause-is g c = λ links cs held own is.
-    let f = contour_of g.I.OverlayInt.value in
+    let f = contour_of in
     let x = get_or c.args.contours.now c.args.hole c.index-contours-hole.result in
     let is_x = get_or_default c.args.contours.now c.args.hole c.index-contours-hole.result x c.requires.within in
     let at = held_at f c.args.contours.now c.args.hole x c.requires.within is_x cs held in
@@ -33,7 +32,7 @@ returns-in_default-clause-is g c = λ links cs held own is.
 
 pub returns-then-owner-shapes-clause-is : goal.returns-then-owner-shapes-clause-is
 returns-then-owner-shapes-clause-is g c = λ links cs held own is.
-    let f = contour_of g.I.OverlayInt.value in
+    let f = contour_of in
     let x = get_or c.args.contours.now c.args.hole c.index-contours-hole.result in
     let is_x = get_or_default c.args.contours.now c.args.hole c.index-contours-hole.result x c.requires.within in
     let at = held_at f c.args.contours.now c.args.hole x c.requires.within is_x cs held in
@@ -44,13 +43,12 @@ returns-then-owner-shapes-clause-is g c = λ links cs held own is.
 pub take_path-path-requires : goal.take_path-path-requires
 take_path-path-requires g c =
     let y = get_or c.args.contours.now c.args.hole c.index-contours-hole-2.result in
-    All-mapped (λ (k : Contour). All (IsWithin g.I.OverlayInt.least g.I.OverlayInt.greatest) k.points) (contour_of g.I.OverlayInt.value) c.args.contours.now c.args.hole y c.requires.within
+    All-mapped (λ (k : Contour). All (IsWithin g.I.OverlayInt.least g.I.OverlayInt.greatest) k.points) contour_of c.args.contours.now c.args.hole y c.requires.within
     (get_or_default c.args.contours.now c.args.hole c.index-contours-hole-2.result y c.requires.within) c.requires.in_range
 
 pub returns-clause-is : goal.returns-clause-is
 returns-clause-is g c = λ links cs held own is.
-    let value = g.I.OverlayInt.value in
-    let f = contour_of value in
+    let f = contour_of in
     let finish = finished c.args.keep_all in
     let contours = c.args.contours.now in
     let hole = c.args.hole in
@@ -65,30 +63,29 @@ returns-clause-is g c = λ links cs held own is.
     let same : get_or cs hole (f x) ≡ f y = held_same f contours hole x c.requires.within is_x cs held c.if-not-contours-hole.false ∙ ap f one in
     let join = hole_joins links cs c.args.owners.now own hole (get_or cs hole (f x)) at None (kind ∙ c.if-not-contours-hole.false) m c.in-Some.is in
     let inside : m < length shapes = omega (arith, c.if-owner-shapes.false) in
-    let points : points_of value c.take_path-path.result.points.items ≡ finish (get_or cs hole (f x)).points =
+    let points : c.take_path-path.result.points.items ≡ finish (get_or cs hole (f x)).points =
     c.take_path-path.ensures.is ∙ ap (λ (k : Contour). finish k.points) (sym same) in
     let old = get_or shapes m c.index-shapes-owner.result in
-    let holes : contours_of value c.push.new.self.items ≡ contours_of value old.contours.items ++ finish (get_or cs hole (f x)).points ∷ [] =
-    ap (contours_of value) c.in_ok-push.ensures.items
-    ∙ (map-append (λ contour. points_of value contour.points.items) old.contours.items (c.take_path-path.result ∷ [])
-    ∙ ap (λ ps. contours_of value old.contours.items ++ ps ∷ []) points) in
-    let here = sym (get_or-map (λ shape. contours_of value shape.contours.items) shapes m c.index-shapes-owner.result [] inside) in
-    map-set (λ shape. contours_of value shape.contours.items) shapes m (record { contours = c.push.new.self })
-    ∙ (ap (λ t. set (shapes_of value shapes) m t) holes
-    ∙ joined finish (shapes_of value shapes) (places_from links cs (take hole cs) 0 cs) (places_from links cs (take (hole + 1) cs) 0 cs) m (get_or cs hole (f x)).points _ [] (omega (arith, inside, length-map shapes (λ shape. contours_of value shape.contours.items))) here is join)
+    let holes : contours_of c.push.new.self.items ≡ contours_of old.contours.items ++ finish (get_or cs hole (f x)).points ∷ [] =
+    ap contours_of c.in_ok-push.ensures.items
+    ∙ (map-append (λ contour. contour.points.items) old.contours.items (c.take_path-path.result ∷ [])
+    ∙ ap (λ ps. contours_of old.contours.items ++ ps ∷ []) points) in
+    let here = sym (get_or-map (λ shape. contours_of shape.contours.items) shapes m c.index-shapes-owner.result [] inside) in
+    map-set (λ shape. contours_of shape.contours.items) shapes m (record { contours = c.push.new.self })
+    ∙ (ap (λ t. set (shapes_of shapes) m t) holes
+    ∙ joined finish (shapes_of shapes) (places_from links cs (take hole cs) 0 cs) (places_from links cs (take (hole + 1) cs) 0 cs) m (get_or cs hole (f x)).points _ [] (omega (arith, inside, length-map shapes (λ shape. contours_of shape.contours.items))) here is join)
 
 pub returns-clause-holes : goal.returns-clause-holes
 returns-clause-holes g c = λ cs held.
     let y = get_or c.args.contours.now c.args.hole c.index-contours-hole-2.result in
     let is_y = get_or_default c.args.contours.now c.args.hole c.index-contours-hole-2.result y c.requires.within in
-    changed (contour_of g.I.OverlayInt.value) c.args.contours.now c.args.hole (c.args.hole + 1) c.args.hole y c.take_path-path.new.contour cs c.requires.within is_y (omega arith) c.take_path-path.ensures.same
+    changed contour_of c.args.contours.now c.args.hole (c.args.hole + 1) c.args.hole y c.take_path-path.new.contour cs c.requires.within is_y (omega arith) c.take_path-path.ensures.same
     (λ later. absurd (omega (arith, later))) held
 
 pub returns-clause-in_range : goal.returns-clause-in_range
 returns-clause-in_range g c =
-    let value = g.I.OverlayInt.value in
-    let f = contour_of value in
+    let f = contour_of in
     let is_within = IsWithin g.I.OverlayInt.least g.I.OverlayInt.greatest in
     let v = c.take_path-path.new.contour in
     subst (All (λ (k : Contour). All is_within k.points)) (sym (map-set f c.args.contours.now c.args.hole v))
-    (All-set (λ (k : Contour). All is_within k.points) (map f c.args.contours.now) c.args.hole (f v) (subst (λ ps. All is_within (points_of value ps)) (sym c.take_path-path.ensures.none) (All-nil is_within)) c.requires.in_range)
+    (All-set (λ (k : Contour). All is_within k.points) (map f c.args.contours.now) c.args.hole (f v) (subst (λ ps. All is_within ps) (sym c.take_path-path.ensures.none) (All-nil is_within)) c.requires.in_range)

@@ -15,9 +15,8 @@ use Rattle.contour_walk.proofs.bind.assembly.places.Goals as goal
 
 pub loop-number-init : goal.loop-number-init
 loop-number-init g c =
-    let value = g.I.OverlayInt.value in
     record {
-      so_far = λ links. ap (λ ss. shapes_of value ss ++ map (map (finished c.args.keep_all)) (places_from links (walks_of value c.args.contours.now) [] 0 (walks_of value c.args.contours.now))) c.in_ok-shapes.ensures.items;
+      so_far = λ links. ap (λ ss. shapes_of ss ++ map (map (finished c.args.keep_all)) (places_from links (walks_of c.args.contours.now) [] 0 (walks_of c.args.contours.now))) c.in_ok-shapes.ensures.items;
       many = refl;
       rest = refl;
       held = (refl, λ i d. refl, λ i d later hole. refl);
@@ -28,15 +27,14 @@ pub place-requires : goal.place-requires
 place-requires g c =
     let inside : c.loop-number.number < length c.loop-number.contours = omega (arith, c.loop-number-test.true, c.loop-number.invariant.many) in
     let x = get_or c.loop-number.contours c.loop-number.number c.index-contours-number.result in
-    All-mapped (λ (k : Contour). All (IsWithin g.I.OverlayInt.least g.I.OverlayInt.greatest) k.points) (contour_of g.I.OverlayInt.value) c.loop-number.contours c.loop-number.number x inside (get_or_default c.loop-number.contours c.loop-number.number c.index-contours-number.result x inside) c.loop-number.invariant.in_range
+    All-mapped (λ (k : Contour). All (IsWithin g.I.OverlayInt.least g.I.OverlayInt.greatest) k.points) contour_of c.loop-number.contours c.loop-number.number x inside (get_or_default c.loop-number.contours c.loop-number.number c.index-contours-number.result x inside) c.loop-number.invariant.in_range
 
 pub loop-number-preserved : goal.loop-number-preserved
 loop-number-preserved g c =
-    let value = g.I.OverlayInt.value in
-    let f = contour_of value in
+    let f = contour_of in
     let given = c.args.contours.now in
     let now = c.loop-number.contours in
-    let contours = walks_of value given in
+    let contours = walks_of given in
     let inv = c.loop-number.invariant in
     let i = c.loop-number.number in
     let x = get_or now i c.index-contours-number.result in
@@ -49,8 +47,8 @@ loop-number-preserved g c =
     record {
       so_far = λ links.
           let rest = map (map finish) (places_from links contours [] (i + 1) (drop (i + 1) contours)) in
-          ap (λ ss. ss ++ rest) (ap (shapes_of value) c.in_ok-push.ensures.items ∙ map-append (λ shape. contours_of value shape.contours.items) c.loop-number.shapes.items (c.in_ok-place.field-0 ∷ []))
-          ∙ (places_more f given links finish i x (contours_of value c.in_ok-place.field-0.contours.items) (shapes_of value c.loop-number.shapes.items) inside at c.in_ok-place.ensures.hole c.in_ok-place.ensures.outline
+          ap (λ ss. ss ++ rest) (ap shapes_of c.in_ok-push.ensures.items ∙ map-append (λ shape. contours_of shape.contours.items) c.loop-number.shapes.items (c.in_ok-place.field-0 ∷ []))
+          ∙ (places_more f given links finish i x (contours_of c.in_ok-place.field-0.contours.items) (shapes_of c.loop-number.shapes.items) inside at c.in_ok-place.ensures.hole c.in_ok-place.ensures.outline
           ∙ inv.so_far links);
       many = length-set now i v ∙ inv.many;
       rest = drop-set-lt (i + 1) now i v (omega arith) ∙ alike_later now given i (i + 1) (omega arith) inv.rest;
@@ -61,9 +59,8 @@ loop-number-preserved g c =
 
 pub returns-clause-is : goal.returns-clause-is
 returns-clause-is g c = λ links.
-    let value = g.I.OverlayInt.value in
-    let contours = walks_of value c.args.contours.now in
-    let long : length contours ≤ c.loop-number.number = omega (arith, c.loop-number-test.false, length-map c.args.contours.now (contour_of value)) in
-    sym (append-nil (shapes_of value c.loop-number.shapes.items))
-    ∙ (ap (λ cs. shapes_of value c.loop-number.shapes.items ++ map (map (finished c.args.keep_all)) (places_from links contours [] c.loop-number.number cs)) (sym (drop_of_length-le contours long))
+    let contours = walks_of c.args.contours.now in
+    let long : length contours ≤ c.loop-number.number = omega (arith, c.loop-number-test.false, length-map c.args.contours.now contour_of) in
+    sym (append-nil (shapes_of c.loop-number.shapes.items))
+    ∙ (ap (λ cs. shapes_of c.loop-number.shapes.items ++ map (map (finished c.args.keep_all)) (places_from links contours [] c.loop-number.number cs)) (sym (drop_of_length-le contours long))
     ∙ c.loop-number.invariant.so_far links)

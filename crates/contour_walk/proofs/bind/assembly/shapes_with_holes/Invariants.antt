@@ -8,13 +8,12 @@ use Rattle.contour_walk.proofs.bind.assembly.shapes_with_holes.Given as goal
 -- The holes before this one are joined.
 abbrev pub invariant-loop-hole : goal.invariant-loop-hole
 invariant-loop-hole g l =
-    let value = g.I.OverlayInt.value in
-    let contours = walks_of value l.fn.contours in
+    let contours = walks_of l.fn.contours in
     record {
       many : length l.shapes.items ≡ length l.contours;
       same : length l.contours ≡ length l.initial.contours;
-      held : HoldsHoles l.hole contours (walks_of value l.contours);
-      in_range : ContoursAreWithin g.I.OverlayInt.least g.I.OverlayInt.greatest (walks_of value l.contours);
+      held : HoldsHoles l.hole contours (walks_of l.contours);
+      in_range : ContoursAreWithin g.I.OverlayInt.least g.I.OverlayInt.greatest (walks_of l.contours);
       joined : (links : List Border) → AreOwners links contours l.owners
-          → shapes_of value l.shapes.items ≡ map (map (finished l.keep_all)) (places_from links contours (take l.hole contours) 0 contours);
+          → shapes_of l.shapes.items ≡ map (map (finished l.keep_all)) (places_from links contours (take l.hole contours) 0 contours);
     }

@@ -11,27 +11,27 @@ use Rattle.contour_walk.proofs.bind.below.make_live.Goals as goal
 
 pub returns-then-begins_beyond-clause-later : goal.returns-then-begins_beyond-clause-later
 returns-then-begins_beyond-clause-later g c =
-    let value = g.I.OverlayInt.value in
+    let value = g.I.IntNumber.value in
     let s = c.index-edges-place.result in
     let i = c.loop-place.place in
-    let within : i < length (owned_edges_of value c.args.edges.now) = omega (arith, c.loop-place-test.true, length-map c.args.edges.now (owned_of value)) in
-    let same = get_or-map (owned_of value) c.args.edges.now i s (owned_of value s) c.loop-place-test.true in
-    later_ones (owned_edges_of value c.args.edges.now) c.requires.sweepable.rising i (owned_of value s) (value c.args.x) within
-    (subst (λ (o : Owned). value c.args.x <ℤ o.edge.a.x) (sym same) (lt_tells (value c.args.x) (value (get_or c.args.edges.now i s).edge.a.x) (sym c.begins_beyond.ensures ∙ c.if-begins_beyond.true)))
+    let within : i < length (owned_edges_of c.args.edges.now) = omega (arith, c.loop-place-test.true, length-map c.args.edges.now owned_of) in
+    let same = get_or-map owned_of c.args.edges.now i s (owned_of s) c.loop-place-test.true in
+    later_ones (owned_edges_of c.args.edges.now) c.requires.sweepable.rising i (owned_of s) (value c.args.x) within
+    (subst (λ (o : Owned). value c.args.x <ℤ o.edge.a.x) (sym same) (lt_tells (value c.args.x) (get_or c.args.edges.now i s).edge.a.x (sym c.begins_beyond.ensures ∙ c.if-begins_beyond.true)))
 
 pub insert_edge-requires-clause-begun : goal.insert_edge-requires-clause-begun
 insert_edge-requires-clause-begun g c d =
-    let value = g.I.OverlayInt.value in
+    let value = g.I.IntNumber.value in
     let s = c.index-edges-place.result in
     let i = c.loop-place.place in
-    subst (λ o. value o.edge.a.x ≤ℤ value c.args.x) (get_or_default c.args.edges.now i s d c.loop-place-test.true)
-    (lt_tells_not (value c.args.x) (value (get_or c.args.edges.now i s).edge.a.x) (sym c.begins_beyond.ensures ∙ c.if-begins_beyond.false))
+    subst (λ o. o.edge.a.x ≤ℤ value c.args.x) (get_or_default c.args.edges.now i s d c.loop-place-test.true)
+    (lt_tells_not (value c.args.x) (get_or c.args.edges.now i s).edge.a.x (sym c.begins_beyond.ensures ∙ c.if-begins_beyond.false))
 
 pub returns-clause-swept : goal.returns-clause-swept
 returns-clause-swept g c =
-    let value = g.I.OverlayInt.value in
+    let value = g.I.IntNumber.value in
     let all : c.loop-place.place ≡ length c.args.edges.now = omega (arith, c.loop-place-test.false, c.loop-place.auto.place-end c.requires.within) in
-    subst (λ n. IsSwept value g.I.Ord.cmp (λ k. k.b.x) (edge_of value) (owned_edges_of value c.args.edges.now) n (value c.args.x) (g.C.KeyExpCollection.live_list c.loop-place.live)) all c.loop-place.invariant
+    subst (λ n. IsSwept value g.I.Ord.cmp (λ k. g.I.IntNumber.of_value k.b.x) edge_of (owned_edges_of c.args.edges.now) n (value c.args.x) (g.C.KeyExpCollection.live_list c.loop-place.live)) all c.loop-place.invariant
 
 pub returns-in_err-insert_edge-clause-within : goal.returns-in_err-insert_edge-clause-within
 returns-in_err-insert_edge-clause-within g c = rw ((err_from_is_err_and c.from_residual.result c.from_residual.ensures.1).1) tt

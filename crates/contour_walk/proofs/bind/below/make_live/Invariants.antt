@@ -6,4 +6,4 @@ use Rattle.contour_walk.proofs.bind.below.make_live.Given as goal
 -- The edges before this one were swept up to the column.
 abbrev pub invariant-loop-place : goal.invariant-loop-place
 invariant-loop-place g l =
-    IsSwept g.I.OverlayInt.value g.I.Ord.cmp (λ k. k.b.x) (edge_of g.I.OverlayInt.value) (owned_edges_of g.I.OverlayInt.value l.edges) l.place (g.I.OverlayInt.value l.x) (g.C.KeyExpCollection.live_list l.live)
+    IsSwept g.I.IntNumber.value g.I.Ord.cmp (λ k. g.I.IntNumber.of_value k.b.x) edge_of (owned_edges_of l.edges) l.place (g.I.IntNumber.value l.x) (g.C.KeyExpCollection.live_list l.live)

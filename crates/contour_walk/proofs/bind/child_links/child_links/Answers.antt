@@ -14,11 +14,10 @@ use Rattle.contour_walk.proofs.bind.child_links.child_links.Goals as goal
 
 pub owners_among-requires : goal.owners_among-requires
 owners_among-requires g c =
-    let value = g.I.OverlayInt.value in
     let least = g.I.OverlayInt.least in
     let greatest = g.I.OverlayInt.greatest in
-    let shapes = shapes_of value c.args.shapes.now in
-    let given : walks_of value c.deref.result.now ≡ map inside_out (contours_in shapes) = ap (walks_of value) c.deref.ensures.value ∙ c.in_ok-contours.ensures.is in
+    let shapes = shapes_of c.args.shapes.now in
+    let given : walks_of c.deref.result.now ≡ map inside_out (contours_in shapes) = ap walks_of c.deref.ensures.value ∙ c.in_ok-contours.ensures.is in
     record {
       in_range = subst (ContoursAreWithin least greatest) (sym given) (within_turned least greatest shapes c.requires.in_range);
       bound = subst (CanBeBound (not c.args.clockwise)) (sym given) (bound_turned c.args.clockwise (contours_in shapes) c.requires.can_be_bound);
@@ -27,11 +26,10 @@ owners_among-requires g c =
 -- there are as many numbers of shapes as contours
 pub links_of_contours-requires : goal.links_of_contours-requires
 links_of_contours-requires g c =
-    let value = g.I.OverlayInt.value in
-    let shapes = shapes_of value c.args.shapes.now in
+    let shapes = shapes_of c.args.shapes.now in
     let contours = c.in_ok-contours.contours.items in
     let turned = ap length c.in_ok-contours.ensures.is in
-    let seen = length-map contours (contour_of value) in
+    let seen = length-map contours contour_of in
     let as_many = length-map (contours_in shapes) inside_out in
     let many = many_contours shapes in
     let numbers = ap length (c.deref-5.ensures.value ∙ c.in_ok-numbers.ensures.is) in
@@ -40,16 +38,15 @@ links_of_contours-requires g c =
 
 pub returns-clause-is : goal.returns-clause-is
 returns-clause-is g c =
-    let value = g.I.OverlayInt.value in
     let clockwise = c.args.clockwise in
-    let shapes = shapes_of value c.args.shapes.now in
+    let shapes = shapes_of c.args.shapes.now in
     let cs = contours_in shapes in
     let os = edges_in clockwise shapes in
     let owner = parent_below os cs (length cs) in
-    let given : walks_of value c.deref.result.now ≡ map inside_out cs = ap (walks_of value) c.deref.ensures.value ∙ c.in_ok-contours.ensures.is in
-    let given_2 : walks_of value c.deref-2.result.now ≡ map inside_out cs = ap (walks_of value) c.deref-2.ensures.value ∙ c.in_ok-contours.ensures.is in
-    let size : length c.deref.result.now ≡ length cs = sym (length-map c.deref.result.now (contour_of value)) ∙ (ap length given ∙ length-map cs inside_out) in
-    let owned : (n : ℕ) (d : Option ℕ) → IsHole (walks_of value c.deref-2.result.now) n → get_or c.deref-3.result.now n d ≡ owner n =
+    let given : walks_of c.deref.result.now ≡ map inside_out cs = ap walks_of c.deref.ensures.value ∙ c.in_ok-contours.ensures.is in
+    let given_2 : walks_of c.deref-2.result.now ≡ map inside_out cs = ap walks_of c.deref-2.ensures.value ∙ c.in_ok-contours.ensures.is in
+    let size : length c.deref.result.now ≡ length cs = sym (length-map c.deref.result.now contour_of) ∙ (ap length given ∙ length-map cs inside_out) in
+    let owned : (n : ℕ) (d : Option ℕ) → IsHole (walks_of c.deref-2.result.now) n → get_or c.deref-3.result.now n d ≡ owner n =
     λ n d hole. ap (λ ns. get_or ns n d) c.deref-3.ensures.value
     ∙ (c.in_ok-owners.ensures.is n d (subst (λ ws. IsHole ws n) (given_2 ∙ sym given) hole)
     ∙ (ap (λ ws. owner_below (stepped_from (not clockwise) 0 ws) ws (length c.deref.result.now) n) given

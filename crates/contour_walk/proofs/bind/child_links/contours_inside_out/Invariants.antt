@@ -7,5 +7,4 @@ use Rattle.contour_walk.proofs.bind.child_links.contours_inside_out.Given as goa
 -- The contours of the shapes before this one stand there.
 abbrev pub invariant-loop-shape : goal.invariant-loop-shape
 invariant-loop-shape g l =
-    let value = g.I.OverlayInt.value in
-    walks_of value l.contours.items ≡ map inside_out (contours_in (take l.shape (shapes_of value l.shapes)))
+    walks_of l.contours.items ≡ map inside_out (contours_in (take l.shape (shapes_of l.shapes)))

@@ -12,9 +12,9 @@ use Rattle.contour_walk.proofs.bind.child_links.owners_of_holes.Goals.{then-cont
 
 pub loop-number-preserved : goal.loop-number-preserved
 loop-number-preserved g c =
-    let f = contour_of g.I.OverlayInt.value in
+    let f = contour_of in
     let xs = c.args.contours.now in
-    let cs = walks_of g.I.OverlayInt.value xs in
+    let cs = walks_of xs in
     let i = c.loop-number.number in
     let x = c.index-contours-number.result in
     let there : contour_at cs i ≡ Some (f x) = contour_is f xs i x c.loop-number-test.true c.index-contours-number.is in
@@ -34,7 +34,7 @@ loop-number-preserved g c =
 
 pub returns-clause-is : goal.returns-clause-is
 returns-clause-is g c = λ owner told.
-    let f = contour_of g.I.OverlayInt.value in
-    let cs = walks_of g.I.OverlayInt.value c.args.contours.now in
+    let f = contour_of in
+    let cs = walks_of c.args.contours.now in
     let none : length cs ≤ c.loop-number.number = omega (arith, c.loop-number-test.false, length-map c.args.contours.now f) in
     c.loop-number.invariant owner told ∙ ap (λ ds. map owner (hole_numbers 0 ds)) (take_all c.loop-number.number cs none)

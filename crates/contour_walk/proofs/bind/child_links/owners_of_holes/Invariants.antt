@@ -8,5 +8,5 @@ use Rattle.contour_walk.proofs.bind.child_links.owners_of_holes.Given as goal
 -- The owners of the holes before this contour are found.
 abbrev pub invariant-loop-number : goal.invariant-loop-number
 invariant-loop-number g l =
-    let cs = walks_of g.I.OverlayInt.value l.contours in
+    let cs = walks_of l.contours in
     (owner : ℕ → Option ℕ) → ((n : ℕ) (d : _) → IsHole cs n → get_or l.owners n d ≡ owner n) → l.found.items ≡ map owner (hole_numbers 0 (take l.number cs))

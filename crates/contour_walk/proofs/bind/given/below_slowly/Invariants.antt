@@ -5,6 +5,5 @@ use Rattle.contour_walk.proofs.bind.given.below_slowly.Given as goal
 -- What lies below the contours so far is known.
 abbrev pub invariant-loop-number : goal.invariant-loop-number
 invariant-loop-number g l =
-    let value = g.I.OverlayInt.value in
     (length l.below.items ≡ l.number)
-    × ((n : ℕ) (d : _) → n < l.number → get_or l.below.items n d ≡ contour_below (owned_edges_of value l.edges) (walks_of value l.contours) n)
+    × ((n : ℕ) (d : _) → n < l.number → get_or l.below.items n d ≡ contour_below (owned_edges_of l.edges) (walks_of l.contours) n)

@@ -7,7 +7,7 @@ use Rattle.contour_walk.proofs.bind.given.has_vertical.Goals as goal
 
 pub returns : goal.returns
 returns g c = λ no.
-    All-map (λ (o : Owned). int_lt o.edge.a.x o.edge.b.x ≡ true) (owned_of g.I.OverlayInt.value) c.args.edges.now
+    All-map (λ (o : Owned). int_lt o.edge.a.x o.edge.b.x ≡ true) owned_of c.args.edges.now
     (λ k d l. c.loop-place.invariant k d (omega (arith, l, c.loop-place-test.false)))
 
 pub loop-place-init : goal.loop-place-init

@@ -7,7 +7,7 @@ use Rattle.contour_walk.proofs.bind.given.owners_among.Goals as goal
 
 pub returns-clause-is : goal.returns-clause-is
 returns-clause-is g c =
-    let cs = walks_of g.I.OverlayInt.value c.args.contours.now in
+    let cs = walks_of c.args.contours.now in
     let os = stepped_from c.args.clockwise 0 cs in
     c.owners_by.ensures.is os (subst (AreBelow os cs) (sym c.deref.ensures.value) c.in_ok-below.ensures.is)
 

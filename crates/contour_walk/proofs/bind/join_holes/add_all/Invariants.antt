@@ -5,5 +5,4 @@ use Rattle.contour_walk.proofs.bind.join_holes.add_all.Given as goal
 -- The holes before this one are added.
 abbrev pub invariant-loop-hole : goal.invariant-loop-hole
 invariant-loop-hole g l =
-    let value = g.I.OverlayInt.value in
-    contours_of value l.shape.contours.items ≡ contours_of value l.fn.shape.contours.items ++ take l.hole (contours_of value l.holes)
+    contours_of l.shape.contours.items ≡ contours_of l.fn.shape.contours.items ++ take l.hole (contours_of l.holes)

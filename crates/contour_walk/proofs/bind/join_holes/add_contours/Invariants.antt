@@ -6,6 +6,5 @@ use Rattle.contour_walk.proofs.bind.join_holes.add_contours.Given as goal
 -- The contours before this one are added.
 abbrev pub invariant-loop-place : goal.invariant-loop-place
 invariant-loop-place g l =
-    let value = g.I.OverlayInt.value in
-    walks_of value l.contours.items
-    ≡ walks_of value l.fn.contours.items ++ take l.place (map (λ points. record { points = points; is_hole = l.is_hole }) (contours_of value l.added))
+    walks_of l.contours.items
+    ≡ walks_of l.fn.contours.items ++ take l.place (map (λ points. record { points = points; is_hole = l.is_hole }) (contours_of l.added))

@@ -9,20 +9,18 @@ use Rattle.contour_walk.proofs.bind.join_holes.contours_among.Goals as goal
 
 pub loop-shape-preserved : goal.loop-shape-preserved
 loop-shape-preserved g c =
-    let value = g.I.OverlayInt.value in
     let shapes = c.args.shapes.now in
     let x = c.index-shapes-shape.result in
     let read : c.deref.result.now ≡ x.contours.items = rw (← c.index-shapes-shape.is) at c.deref.ensures.value in
     c.in_ok-add_contours.ensures.is
-    ∙ (ap₂ (λ before more. before ++ map as_bound (contours_of value more)) c.loop-shape.invariant read
-    ∙ sym (all_grown (λ shape. contours_of value shape.contours.items) shapes c.loop-shape.shape x c.loop-shape-test.true c.index-shapes-shape.is))
+    ∙ (ap₂ (λ before more. before ++ map as_bound (contours_of more)) c.loop-shape.invariant read
+    ∙ sym (all_grown (λ shape. contours_of shape.contours.items) shapes c.loop-shape.shape x c.loop-shape-test.true c.index-shapes-shape.is))
 
 pub returns-clause-is : goal.returns-clause-is
 returns-clause-is g c =
-    let value = g.I.OverlayInt.value in
-    let shapes = shapes_of value c.args.shapes.now in
+    let shapes = shapes_of c.args.shapes.now in
     let none : length shapes ≤ c.loop-shape.shape =
-    omega (arith, c.loop-shape-test.false, length-map c.args.shapes.now (λ shape. contours_of value shape.contours.items)) in
+    omega (arith, c.loop-shape-test.false, length-map c.args.shapes.now (λ shape. contours_of shape.contours.items)) in
     c.in_ok-add_contours-2.ensures.is
-    ∙ ap (λ before. before ++ map as_hole (contours_of value c.args.holes.now))
+    ∙ ap (λ before. before ++ map as_hole (contours_of c.args.holes.now))
     (c.loop-shape.invariant ∙ ap (λ ss. map as_bound (all_contours ss)) (take_all c.loop-shape.shape shapes none))

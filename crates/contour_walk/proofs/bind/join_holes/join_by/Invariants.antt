@@ -7,7 +7,6 @@ use Rattle.contour_walk.proofs.bind.join_holes.join_by.Given as goal
 -- The holes before this one are joined.
 abbrev pub invariant-loop-hole : goal.invariant-loop-hole
 invariant-loop-hole g l =
-    let value = g.I.OverlayInt.value in
     (length l.shapes ≡ length l.fn.shapes)
     × ((owner : ℕ → ℕ) → ((n : ℕ) (d : _) → n < length l.holes → shape_met l.numbers (get_or l.owners (length l.numbers + n) d) ≡ owner n)
-    → shapes_of value l.shapes ≡ joined_by owner (take l.hole (contours_of value l.holes)) 0 (shapes_of value l.fn.shapes))
+    → shapes_of l.shapes ≡ joined_by owner (take l.hole (contours_of l.holes)) 0 (shapes_of l.fn.shapes))

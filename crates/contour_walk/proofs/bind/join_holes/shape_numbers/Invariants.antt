@@ -5,4 +5,4 @@ use Rattle.contour_walk.proofs.bind.join_holes.shape_numbers.Given as goal
 
 -- The numbers of the shapes before this one stand there.
 abbrev pub invariant-loop-shape : goal.invariant-loop-shape
-invariant-loop-shape g l = l.numbers.items ≡ shape_numbers 0 (take l.shape (shapes_of g.I.OverlayInt.value l.shapes))
+invariant-loop-shape g l = l.numbers.items ≡ shape_numbers 0 (take l.shape (shapes_of l.shapes))

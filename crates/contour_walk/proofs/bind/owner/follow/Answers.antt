@@ -11,22 +11,22 @@ pub loop-step-init : goal.loop-step-init
 loop-step-init g c = record {
   within = c.requires.within;
   same = λ edges lies known hole.
-      let cs = walks_of g.I.OverlayInt.value c.args.contours.now in
-      let start : length c.args.contours.now - 0 ≡ length cs = omega (arith, length-map c.args.contours.now (contour_of g.I.OverlayInt.value)) in
+      let cs = walks_of c.args.contours.now in
+      let start : length c.args.contours.now - 0 ≡ length cs = omega (arith, length-map c.args.contours.now contour_of) in
       (hole, refl, ap (λ k. owner_below edges cs k c.args.hole) start);
 }
 
 pub returns-then-at-hole : goal.returns-then-at-hole
 returns-then-at-hole g c = λ edges lies known hole.
-    let cs = walks_of g.I.OverlayInt.value c.args.contours.now in
-    let many : length cs ≡ length c.args.contours.now = length-map c.args.contours.now (contour_of g.I.OverlayInt.value) in
+    let cs = walks_of c.args.contours.now in
+    let many : length cs ≡ length c.args.contours.now = length-map c.args.contours.now contour_of in
     let here = c.loop-step.invariant.same edges lies known hole in
     known c.loop-step.at None c.if-at-hole.true here.0 ∙ (here.1 ∙ ap (λ k. owner_below edges cs k c.args.hole) many)
 
 pub returns-in_default : goal.returns-in_default
 returns-in_default g c = λ edges lies known hole.
-    let cs = walks_of g.I.OverlayInt.value c.args.contours.now in
-    let many : length cs ≡ length c.args.contours.now = length-map c.args.contours.now (contour_of g.I.OverlayInt.value) in
+    let cs = walks_of c.args.contours.now in
+    let many : length cs ≡ length c.args.contours.now = length-map c.args.contours.now contour_of in
     let n = length c.args.contours.now in
     let more : n - c.loop-step._step ≡ suc (n - (c.loop-step._step + 1)) = omega (arith, c.loop-step-test.true) in
     let here = c.loop-step.invariant.same edges lies known hole in
@@ -36,20 +36,20 @@ returns-in_default g c = λ edges lies known hole.
 
 pub returns-then-next-contours : goal.returns-then-next-contours
 returns-then-next-contours g c = λ edges lies known hole.
-    let cs = walks_of g.I.OverlayInt.value c.args.contours.now in
-    let many : length cs ≡ length c.args.contours.now = length-map c.args.contours.now (contour_of g.I.OverlayInt.value) in
+    let cs = walks_of c.args.contours.now in
+    let many : length cs ≡ length c.args.contours.now = length-map c.args.contours.now contour_of in
     let n = length c.args.contours.now in
     let more : n - c.loop-step._step ≡ suc (n - (c.loop-step._step + 1)) = omega (arith, c.loop-step-test.true) in
     let here = c.loop-step.invariant.same edges lies known hole in
     let below = sym (lies c.loop-step.at None here.0) ∙ c.in-Some.is in
     sym (met_lost edges cs (n - (c.loop-step._step + 1)) (n - c.loop-step._step) c.loop-step.at more c.in-Some.next below
-    (no_contour (contour_of g.I.OverlayInt.value) c.args.contours.now c.in-Some.next c.if-next-contours.true))
+    (no_contour contour_of c.args.contours.now c.in-Some.next c.if-next-contours.true))
     ∙ (here.2 ∙ ap (λ k. owner_below edges cs k c.args.hole) many)
 
 pub returns-then-not-contours-next : goal.returns-then-not-contours-next
 returns-then-not-contours-next g c = λ edges lies known hole.
-    let f = contour_of g.I.OverlayInt.value in
-    let cs = walks_of g.I.OverlayInt.value c.args.contours.now in
+    let f = contour_of in
+    let cs = walks_of c.args.contours.now in
     let many : length cs ≡ length c.args.contours.now = length-map c.args.contours.now f in
     let n = length c.args.contours.now in
     let more : n - c.loop-step._step ≡ suc (n - (c.loop-step._step + 1)) = omega (arith, c.loop-step-test.true) in
@@ -65,8 +65,8 @@ pub loop-step-preserved : goal.loop-step-preserved
 loop-step-preserved g c = record {
   within = omega (arith, c.if-next-contours.false);
   same = λ edges lies known hole.
-      let f = contour_of g.I.OverlayInt.value in
-      let cs = walks_of g.I.OverlayInt.value c.args.contours.now in
+      let f = contour_of in
+      let cs = walks_of c.args.contours.now in
       let n = length c.args.contours.now in
       let more : n - c.loop-step._step ≡ suc (n - (c.loop-step._step + 1)) = omega (arith, c.loop-step-test.true) in
       let here = c.loop-step.invariant.same edges lies known hole in
@@ -83,8 +83,8 @@ loop-step-preserved g c = record {
 
 pub returns : goal.returns
 returns g c = λ edges lies known hole.
-    let cs = walks_of g.I.OverlayInt.value c.args.contours.now in
-    let many : length cs ≡ length c.args.contours.now = length-map c.args.contours.now (contour_of g.I.OverlayInt.value) in
+    let cs = walks_of c.args.contours.now in
+    let many : length cs ≡ length c.args.contours.now = length-map c.args.contours.now contour_of in
     let end : 0 ≡ length c.args.contours.now - c.loop-step._step = omega (arith, c.loop-step-test.false) in
     ap (λ k. owner_below edges cs k c.loop-step.at) end
     ∙ ((c.loop-step.invariant.same edges lies known hole).2 ∙ ap (λ k. owner_below edges cs k c.args.hole) many)

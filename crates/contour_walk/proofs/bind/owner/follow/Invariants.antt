@@ -7,7 +7,7 @@ use Rattle.contour_walk.proofs.bind.owner.follow.Given as goal
 -- The owner of this hole is the owner of the first, also in the steps that are left.
 abbrev pub invariant-loop-step : goal.invariant-loop-step
 invariant-loop-step g l =
-    let cs = walks_of g.I.OverlayInt.value l.contours in
+    let cs = walks_of l.contours in
     record {
       within : l.at < length l.contours;
       same : (edges : List Owned) → AreBelow edges cs l.below → AreKnown edges cs l.hole l.owners → IsHole cs l.hole

@@ -26,9 +26,9 @@ either f g (inr e) = g e
 
 pub loop-hole-preserved : goal.loop-hole-preserved
 loop-hole-preserved g c =
-    let f = contour_of g.I.OverlayInt.value in
+    let f = contour_of in
     let xs = c.args.contours.now in
-    let cs = walks_of g.I.OverlayInt.value xs in
+    let cs = walks_of xs in
     let i = c.loop-hole.hole in
     let many : length cs ≡ length xs = length-map xs f in
     let old = c.loop-hole.owners.items in
@@ -56,8 +56,8 @@ loop-hole-preserved g c =
 
 pub returns-clause-is : goal.returns-clause-is
 returns-clause-is g c = λ edges lies n d hole.
-    let cs = walks_of g.I.OverlayInt.value c.args.contours.now in
-    let many : length cs ≡ length c.args.contours.now = length-map c.args.contours.now (contour_of g.I.OverlayInt.value) in
+    let cs = walks_of c.args.contours.now in
+    let many : length cs ≡ length c.args.contours.now = length-map c.args.contours.now contour_of in
     let within = contour_within cs n hole.0 hole.1 in
     c.loop-hole.invariant.right edges lies n d (omega (arith, within, c.loop-hole-test.false, many)) hole ∙ ap (λ k. owner_below edges cs k n) many
 

@@ -7,7 +7,7 @@ use Rattle.contour_walk.proofs.bind.owner.owners_by.Given as goal
 -- The owners of the holes before this one are known.
 abbrev pub invariant-loop-hole : goal.invariant-loop-hole
 invariant-loop-hole g l =
-    let cs = walks_of g.I.OverlayInt.value l.contours in
+    let cs = walks_of l.contours in
     record {
       many : length l.owners.items ≡ length l.contours;
       right : (edges : List Owned) → AreBelow edges cs l.below → AreKnown edges cs l.hole l.owners.items;

@@ -3,9 +3,8 @@ use contract.BorrowLft.{⊑_static}
 use Rattle.contour_walk.proofs.Lives.{link_lives, segment_lives, within_segment, within_link, within_push, within_vec}
 use Rattle.std.proofs.lemmas.Result.{err_from_is_err_and}
 use Rattle.std.proofs.lemmas.List.{map-append, take_more, take_all}
-use Rattle.plane_base.specs.SegmentViews.{edge_of}
 use Rattle.contour_walk.specs.WalkViews.{borders_of}
-use Rattle.contour_walk.specs.ShapeViews.{edges_of, owned, owned_of, owned_edges_of}
+use Rattle.contour_walk.specs.ShapeViews.{owned, owned_of, owned_edges_of}
 use Rattle.contour_walk.proofs.bind.ray.add_owned.Goals as goal
 
 pub returns-in_err-contour_edges-clause-is : goal.returns-in_err-contour_edges-clause-is
@@ -54,31 +53,29 @@ pub bounds-edge-items-edge-index : goal.bounds-edge-items-edge-index
 bounds-edge-items-edge-index g c = c.loop-edge-test.true
 
 pub loop-edge-init : goal.loop-edge-init
-loop-edge-init g c = sym (append-nil (owned_edges_of g.I.OverlayInt.value c.args.edges.now.items))
+loop-edge-init g c = sym (append-nil (owned_edges_of c.args.edges.now.items))
 
 pub loop-edge-preserved : goal.loop-edge-preserved
 loop-edge-preserved g c =
-    let value = g.I.OverlayInt.value in
     let items = c.deref-edge-items.result.now in
     let i = c.loop-edge.edge-index in
     let e = c.edge-item.result in
-    let own = owned (borders_of value c.args.links.now) c.args.number in
-    let before = owned_edges_of value c.args.edges.now.items in
-    let pushed = ap (owned_edges_of value) c.in_ok-push.ensures.items ∙ map-append (owned_of value) c.loop-edge.edges.items (c.owned.result ∷ []) in
+    let own = owned (borders_of c.args.links.now) c.args.number in
+    let before = owned_edges_of c.args.edges.now.items in
+    let pushed = ap owned_edges_of c.in_ok-push.ensures.items ∙ map-append owned_of c.loop-edge.edges.items (c.owned.result ∷ []) in
     let more : take (i + 1) items ≡ take i items ++ e ∷ [] = take_more items i e c.loop-edge-test.true ∙ ap (λ x. take i items ++ x ∷ []) (sym c.edge-item.is) in
-    let parts : map own (edges_of value (take (i + 1) items)) ≡ map own (edges_of value (take i items)) ++ own (edge_of value e) ∷ [] =
-    ap (λ xs. map own (edges_of value xs)) more
-    ∙ (ap (map own) (map-append (edge_of value) (take i items) (e ∷ [])) ∙ map-append own (edges_of value (take i items)) (edge_of value e ∷ [])) in
+    let parts : map own (take (i + 1) items) ≡ map own (take i items) ++ own e ∷ [] =
+    ap (map own) more
+    ∙ map-append own (take i items) (e ∷ []) in
     pushed
     ∙ (ap₂ (λ xs x. xs ++ x ∷ []) c.loop-edge.invariant c.owned.ensures
-    ∙ (append_assoc before (map own (edges_of value (take i items))) (own (edge_of value e) ∷ []) ∙ ap (λ xs. before ++ xs) (sym parts)))
+    ∙ (append_assoc before (map own (take i items)) (own e ∷ []) ∙ ap (λ xs. before ++ xs) (sym parts)))
 
 pub returns-clause-is : goal.returns-clause-is
 returns-clause-is g c =
-    let value = g.I.OverlayInt.value in
     let items = c.deref-edge-items.result.now in
-    let own = owned (borders_of value c.args.links.now) c.args.number in
+    let own = owned (borders_of c.args.links.now) c.args.number in
     let none : length items ≤ c.loop-edge.edge-index = omega (arith, c.loop-edge-test.false) in
     c.loop-edge.invariant
-    ∙ ap (λ es. owned_edges_of value c.args.edges.now.items ++ map own es)
-    (ap (edges_of value) (take_all c.loop-edge.edge-index items none) ∙ (ap (edges_of value) c.deref-edge-items.ensures.value ∙ c.in_ok-contour_edges.ensures.is))
+    ∙ ap (λ es. owned_edges_of c.args.edges.now.items ++ map own es)
+    (take_all c.loop-edge.edge-index items none ∙ (c.deref-edge-items.ensures.value ∙ c.in_ok-contour_edges.ensures.is))

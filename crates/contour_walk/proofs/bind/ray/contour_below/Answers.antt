@@ -1,7 +1,5 @@
 use Rattle.std.proofs.Common.{◌≡◌, ◌∙◌, sym, ap, All, Some, None, arith}
 use Rattle.plane_base.specs.Plane.{IsWithin}
-use Rattle.plane_base.specs.Views.{points_of}
-use Rattle.plane_base.specs.SegmentViews.{edge_of}
 use Rattle.plane_base.proofs.Facts.Lists.Views.{All-mapped}
 use Rattle.contour_walk.specs.Walks.{Contour}
 use Rattle.contour_walk.specs.Binding.{anchor}
@@ -11,41 +9,37 @@ use Rattle.contour_walk.proofs.bind.ray.contour_below.Goals as goal
 
 pub returns-then-number-contours-clause-is : goal.returns-then-number-contours-clause-is
 returns-then-number-contours-clause-is g c =
-    let value = g.I.OverlayInt.value in
-    sym (below_none (owned_edges_of value c.args.edges.now) (walks_of value c.args.contours.now) c.args.number (no_contour (contour_of value) c.args.contours.now c.args.number c.if-number-contours.true))
+    sym (below_none (owned_edges_of c.args.edges.now) (walks_of c.args.contours.now) c.args.number (no_contour contour_of c.args.contours.now c.args.number c.if-number-contours.true))
 
 pub anchor-requires : goal.anchor-requires
 anchor-requires g c =
     rw (c.deref.ensures.value, ← c.index-contours-number.is)
-    (All-mapped (λ (k : Contour). All (IsWithin g.I.OverlayInt.least g.I.OverlayInt.greatest) k.points) (contour_of g.I.OverlayInt.value) c.args.contours.now c.args.number c.index-contours-number.result (omega (arith, c.if-number-contours.false)) c.index-contours-number.is c.requires.contours_in_range)
+    (All-mapped (λ (k : Contour). All (IsWithin g.I.OverlayInt.least g.I.OverlayInt.greatest) k.points) contour_of c.args.contours.now c.args.number c.index-contours-number.result (omega (arith, c.if-number-contours.false)) c.index-contours-number.is c.requires.contours_in_range)
 
 pub returns-in_default-clause-is : goal.returns-in_default-clause-is
 returns-in_default-clause-is g c =
-    let value = g.I.OverlayInt.value in
-    let here = contour_of value c.index-contours-number.result in
-    let at = contour_is (contour_of value) c.args.contours.now c.args.number c.index-contours-number.result (omega (arith, c.if-number-contours.false)) c.index-contours-number.is in
+    let here = contour_of c.index-contours-number.result in
+    let at = contour_is contour_of c.args.contours.now c.args.number c.index-contours-number.result (omega (arith, c.if-number-contours.false)) c.index-contours-number.is in
     let read : c.deref.result.now ≡ c.index-contours-number.result.points.items = rw (← c.index-contours-number.is) at c.deref.ensures.value in
-    let none : anchor here.points ≡ None = sym (ap (edge_if_any value) (sym c.in_default.is) ∙ (c.in_ok-edge.ensures.is ∙ ap (λ ps. anchor (points_of value ps)) read)) in
-    sym (below_no_anchor (owned_edges_of value c.args.edges.now) (walks_of value c.args.contours.now) c.args.number here at none)
+    let none : anchor here.points ≡ None = sym (ap edge_if_any (sym c.in_default.is) ∙ (c.in_ok-edge.ensures.is ∙ ap (λ ps. anchor ps) read)) in
+    sym (below_no_anchor (owned_edges_of c.args.edges.now) (walks_of c.args.contours.now) c.args.number here at none)
 
 pub returns-in_default-way_down-clause-is : goal.returns-in_default-way_down-clause-is
 returns-in_default-way_down-clause-is g c =
-    let value = g.I.OverlayInt.value in
-    let edges = owned_edges_of value c.args.edges.now in
-    let here = contour_of value c.index-contours-number.result in
-    let at = contour_is (contour_of value) c.args.contours.now c.args.number c.index-contours-number.result (omega (arith, c.if-number-contours.false)) c.index-contours-number.is in
-    let e = edge_of value c.in-Some.edge in
+    let edges = owned_edges_of c.args.edges.now in
+    let here = contour_of c.index-contours-number.result in
+    let at = contour_is contour_of c.args.contours.now c.args.number c.index-contours-number.result (omega (arith, c.if-number-contours.false)) c.index-contours-number.is in
+    let e = c.in-Some.edge in
     let read : c.deref.result.now ≡ c.index-contours-number.result.points.items = rw (← c.index-contours-number.is) at c.deref.ensures.value in
-    let there : anchor here.points ≡ Some e = sym (ap (edge_if_any value) (sym c.in-Some.is) ∙ (c.in_ok-edge.ensures.is ∙ ap (λ ps. anchor (points_of value ps)) read)) in
-    sym (below_nothing edges (walks_of value c.args.contours.now) c.args.number here at e there (sym c.in_default-way_down.ensures.is))
+    let there : anchor here.points ≡ Some e = sym (ap edge_if_any (sym c.in-Some.is) ∙ (c.in_ok-edge.ensures.is ∙ ap (λ ps. anchor ps) read)) in
+    sym (below_nothing edges (walks_of c.args.contours.now) c.args.number here at e there (sym c.in_default-way_down.ensures.is))
 
 pub returns-clause-is : goal.returns-clause-is
 returns-clause-is g c =
-    let value = g.I.OverlayInt.value in
-    let edges = owned_edges_of value c.args.edges.now in
-    let here = contour_of value c.index-contours-number.result in
-    let at = contour_is (contour_of value) c.args.contours.now c.args.number c.index-contours-number.result (omega (arith, c.if-number-contours.false)) c.index-contours-number.is in
-    let e = edge_of value c.in-Some.edge in
+    let edges = owned_edges_of c.args.edges.now in
+    let here = contour_of c.index-contours-number.result in
+    let at = contour_is contour_of c.args.contours.now c.args.number c.index-contours-number.result (omega (arith, c.if-number-contours.false)) c.index-contours-number.is in
+    let e = c.in-Some.edge in
     let read : c.deref.result.now ≡ c.index-contours-number.result.points.items = rw (← c.index-contours-number.is) at c.deref.ensures.value in
-    let there : anchor here.points ≡ Some e = sym (ap (edge_if_any value) (sym c.in-Some.is) ∙ (c.in_ok-edge.ensures.is ∙ ap (λ ps. anchor (points_of value ps)) read)) in
-    sym (below_met edges (walks_of value c.args.contours.now) c.args.number here at e (owned_of value c.in-Some-way_down.met) there (sym c.in-Some-way_down.ensures.is))
+    let there : anchor here.points ≡ Some e = sym (ap edge_if_any (sym c.in-Some.is) ∙ (c.in_ok-edge.ensures.is ∙ ap (λ ps. anchor ps) read)) in
+    sym (below_met edges (walks_of c.args.contours.now) c.args.number here at e (owned_of c.in-Some-way_down.met) there (sym c.in-Some-way_down.ensures.is))

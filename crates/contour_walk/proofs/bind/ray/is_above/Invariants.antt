@@ -1,5 +1,4 @@
 use Rattle.std.proofs.Common.{◌≡◌, drop}
-use Rattle.plane_base.specs.SegmentViews.{edge_of}
 use Rattle.contour_walk.specs.Binding.{is_above}
 use Rattle.contour_walk.specs.WalkViews.{borders_of}
 use Rattle.contour_walk.proofs.bind.ray.is_above.Given as goal
@@ -7,5 +6,5 @@ use Rattle.contour_walk.proofs.bind.ray.is_above.Given as goal
 -- None of the links before this one is the edge.
 abbrev pub invariant-loop-i : goal.invariant-loop-i
 invariant-loop-i g l =
-    is_above (borders_of g.I.OverlayInt.value l.links) (edge_of g.I.OverlayInt.value l.edge)
-    ≡ is_above (drop l.i (borders_of g.I.OverlayInt.value l.links)) (edge_of g.I.OverlayInt.value l.edge)
+    is_above (borders_of l.links) l.edge
+    ≡ is_above (drop l.i (borders_of l.links)) l.edge

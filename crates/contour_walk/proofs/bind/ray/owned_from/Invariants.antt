@@ -7,6 +7,6 @@ use Rattle.contour_walk.proofs.bind.ray.owned_from.Given as goal
 -- The edges so far and those of the contours from this one on are all.
 abbrev pub invariant-loop-number : goal.invariant-loop-number
 invariant-loop-number g l =
-    let links = borders_of g.I.OverlayInt.value l.links in
-    let contours = walks_of g.I.OverlayInt.value l.contours in
-    owned_edges_of g.I.OverlayInt.value l.edges.items ++ owned_from links l.number (drop l.number contours) ≡ owned_from links 0 contours
+    let links = borders_of l.links in
+    let contours = walks_of l.contours in
+    owned_edges_of l.edges.items ++ owned_from links l.number (drop l.number contours) ≡ owned_from links 0 contours

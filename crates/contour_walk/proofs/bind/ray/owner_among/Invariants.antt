@@ -7,6 +7,6 @@ use Rattle.contour_walk.proofs.bind.ray.owner_among.Given as goal
 -- The owner of this hole is the owner of the first.
 abbrev pub invariant-loop-step : goal.invariant-loop-step
 invariant-loop-step g l =
-    let contours = walks_of g.I.OverlayInt.value l.contours in
-    (links : List Border) → owned_edges_of g.I.OverlayInt.value l.edges ≡ owned_from links 0 contours
+    let contours = walks_of l.contours in
+    (links : List Border) → owned_edges_of l.edges ≡ owned_from links 0 contours
     → hole_owner links contours (length l.contours - l._step) l.at ≡ hole_owner links contours (length l.contours) l.hole

@@ -1,6 +1,4 @@
 use Rattle.std.proofs.Common.{◌∙◌, sym, ap, ◌++◌, ◌∷◌, ◌+◌, map, filter, append-nil, arith}
-use Rattle.std.proofs.lemmas.List.{length-map}
-use Rattle.plane_base.specs.Views.{point_of, points_of}
 use Rattle.contour_walk.specs.ShapeViews.{owned_of, owned_edges_of}
 use Rattle.contour_walk.specs.BinderSweep.{owned_step, is_swept}
 use Rattle.contour_walk.proofs.Binder.Steps.{steps_left, all_steps_left, steps_left_more, no_steps_left, one_filtered}
@@ -8,26 +6,22 @@ use Rattle.contour_walk.proofs.bind.segment.add_swept.Goals as goal
 
 pub loop-place-init : goal.loop-place-init
 loop-place-init g c =
-    let value = g.I.OverlayInt.value in
-    ap (λ ss. owned_edges_of value c.args.edges.now.items ++ filter is_swept (map (owned_step c.args.output c.args.number) ss)) (all_steps_left (points_of value c.args.points.now))
+    ap (λ ss. owned_edges_of c.args.edges.now.items ++ filter is_swept (map (owned_step c.args.output c.args.number) ss)) (all_steps_left c.args.points.now)
 
 pub loop-place-preserved : goal.loop-place-preserved
 loop-place-preserved g c =
-    let value = g.I.OverlayInt.value in
-    let f = point_of value in
     let points = c.args.points.now in
     let i = c.loop-place.place in
-    let so_far = owned_edges_of value c.loop-place.edges.items in
-    let after = f c.point_after.result in
-    let step = steps_left_more f points i c.index-points-place.result after c.loop-place-test.true c.index-points-place.is c.point_after.ensures.is in
-    let rest = map (owned_step c.args.output c.args.number) (steps_left (points_of value points) (i + 1)) in
-    one_filtered is_swept so_far _ rest (owned_of value c.owned_step-edge.result) _ c.in_ok-keep_swept.ensures.is
+    let so_far = owned_edges_of c.loop-place.edges.items in
+    let after = c.point_after.result in
+    let step = steps_left_more points i c.index-points-place.result after c.loop-place-test.true c.index-points-place.is c.point_after.ensures.is in
+    let rest = map (owned_step c.args.output c.args.number) (steps_left points (i + 1)) in
+    one_filtered is_swept so_far _ rest (owned_of c.owned_step-edge.result) _ c.in_ok-keep_swept.ensures.is
     (ap (λ os. so_far ++ filter is_swept os) (ap (λ o. o ∷ rest) c.owned_step-edge.ensures ∙ sym (ap (map (owned_step c.args.output c.args.number)) step))
     ∙ c.loop-place.invariant)
 
 pub returns-clause-is : goal.returns-clause-is
 returns-clause-is g c =
-    let value = g.I.OverlayInt.value in
-    let so_far = owned_edges_of value c.loop-place.edges.items in
-    let end = no_steps_left (points_of value c.args.points.now) c.loop-place.place (omega (arith, length-map c.args.points.now (point_of value), c.loop-place-test.false)) in
+    let so_far = owned_edges_of c.loop-place.edges.items in
+    let end = no_steps_left c.args.points.now c.loop-place.place (omega (arith, c.loop-place-test.false)) in
     sym (append-nil so_far) ∙ (ap (λ ss. so_far ++ filter is_swept (map (owned_step c.args.output c.args.number) ss)) (sym end) ∙ c.loop-place.invariant)

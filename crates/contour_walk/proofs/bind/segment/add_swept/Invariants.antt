@@ -1,5 +1,4 @@
 use Rattle.std.proofs.Common.{◌≡◌, ◌++◌, map, filter}
-use Rattle.plane_base.specs.Views.{points_of}
 use Rattle.contour_walk.specs.WalkLaws.{contour_steps}
 use Rattle.contour_walk.specs.ShapeViews.{owned_edges_of}
 use Rattle.contour_walk.specs.BinderSweep.{owned_step, is_swept}
@@ -9,6 +8,5 @@ use Rattle.contour_walk.proofs.bind.segment.add_swept.Given as goal
 -- The edges so far and those of the steps from this point on are all.
 abbrev pub invariant-loop-place : goal.invariant-loop-place
 invariant-loop-place g l =
-    let value = g.I.OverlayInt.value in
-    owned_edges_of value l.edges.items ++ filter is_swept (map (owned_step l.output l.number) (steps_left (points_of value l.points) l.place))
-    ≡ owned_edges_of value l.fn.edges.items ++ filter is_swept (map (owned_step l.output l.number) (contour_steps (points_of value l.points)))
+    owned_edges_of l.edges.items ++ filter is_swept (map (owned_step l.output l.number) (steps_left l.points l.place))
+    ≡ owned_edges_of l.fn.edges.items ++ filter is_swept (map (owned_step l.output l.number) (contour_steps l.points))

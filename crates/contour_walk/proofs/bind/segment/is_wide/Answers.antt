@@ -1,4 +1,4 @@
 use Rattle.contour_walk.proofs.bind.segment.is_wide.Goals as goal
 
 pub returns : goal.returns
-returns g c = c.is_less.ensures
+returns g c = rw (← c.edge.view_is, ← c.edge-inside.view_is) c.is_less.ensures

@@ -6,5 +6,4 @@ use Rattle.contour_walk.proofs.bind.segment.sorted_anchors.Given as goal
 -- The anchors so far and those of the contours from this one on are all.
 abbrev pub invariant-loop-number : goal.invariant-loop-number
 invariant-loop-number g l =
-    let value = g.I.OverlayInt.value in
-    owned_edges_of value l.anchors.items ++ hole_anchors l.number (drop l.number (walks_of value l.contours)) ≡ hole_anchors 0 (walks_of value l.contours)
+    owned_edges_of l.anchors.items ++ hole_anchors l.number (drop l.number (walks_of l.contours)) ≡ hole_anchors 0 (walks_of l.contours)

@@ -6,6 +6,5 @@ use Rattle.contour_walk.proofs.bind.segment.swept_edges.Given as goal
 -- The edges so far and those of the contours from this one on are all.
 abbrev pub invariant-loop-number : goal.invariant-loop-number
 invariant-loop-number g l =
-    let value = g.I.OverlayInt.value in
-    owned_edges_of value l.edges.items ++ filter is_swept (stepped_from l.output l.number (drop l.number (walks_of value l.contours)))
-    ≡ filter is_swept (stepped_from l.output 0 (walks_of value l.contours))
+    owned_edges_of l.edges.items ++ filter is_swept (stepped_from l.output l.number (drop l.number (walks_of l.contours)))
+    ≡ filter is_swept (stepped_from l.output 0 (walks_of l.contours))

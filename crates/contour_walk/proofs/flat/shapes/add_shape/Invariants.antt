@@ -7,5 +7,4 @@ use Rattle.contour_walk.proofs.flat.shapes.add_shape.Given as goal
 -- The contours before this one are laid.
 abbrev pub invariant-loop-contour : goal.invariant-loop-contour
 invariant-loop-contour g l =
-    let value = g.I.OverlayInt.value in
-    LaysBehind value (map (finished l.keep_all) (take l.contour (contours_of value l.shape))) l.fn.laid l.laid
+    LaysBehind (map (finished l.keep_all) (take l.contour (contours_of l.shape))) l.fn.laid l.laid

@@ -8,9 +8,8 @@ use Rattle.contour_walk.proofs.flat.shapes.laid_flat.Given as goal
 -- The shapes before this one are laid, each with a range of its contours.
 abbrev pub invariant-loop-shape : goal.invariant-loop-shape
 invariant-loop-shape g l =
-    let value = g.I.OverlayInt.value in
-    let done = map (map (finished l.keep_all)) (take l.shape (shapes_of value l.shapes)) in
+    let done = map (map (finished l.keep_all)) (take l.shape (shapes_of l.shapes)) in
     record {
-      contours : IsLaidFlat value (all_contours done) l.laid;
+      contours : IsLaidFlat (all_contours done) l.laid;
       shapes : AreLaid done (all_contours done) l.ranges.items;
     }

@@ -9,13 +9,12 @@ use Rattle.contour_walk.proofs.loops.least.shapes_reaching.Given as goal
 -- What is kept and left so far, and of the shapes from this one on, is all. The shapes from this one on stand as they stood.
 abbrev pub invariant-loop-place : goal.invariant-loop-place
 invariant-loop-place g l =
-    let value = g.I.OverlayInt.value in
     let finish = finished l.options.preserve_output_collinear in
     let least = l.options.min_output_area in
     let given = l.fn.shapes in
     record {
-      so_far : shapes_of value l.kept.items ++ map (map finish) (kept least (drop l.place (shapes_of value given))) ≡ map (map finish) (kept least (shapes_of value given));
-      behind : contours_of value l.left.items ++ map finish (holes_left least (drop l.place (shapes_of value given))) ≡ map finish (holes_left least (shapes_of value given));
+      so_far : shapes_of l.kept.items ++ map (map finish) (kept least (drop l.place (shapes_of given))) ≡ map (map finish) (kept least (shapes_of given));
+      behind : contours_of l.left.items ++ map finish (holes_left least (drop l.place (shapes_of given))) ≡ map finish (holes_left least (shapes_of given));
       many : length l.shapes ≡ length given;
       rest : drop l.place l.shapes ≡ drop l.place given;
     }

@@ -1,9 +1,8 @@
-use Rattle.std.proofs.Common.{◌≡◌, ◌<◌, ◌≤◌, ◌+◌, ◌++◌, ◌∷◌, [], ◌∙◌, sym, ap, subst, map, drop, length, get_or, All, append-nil, arith}
+use Rattle.std.proofs.Common.{◌≡◌, ◌<◌, ◌≤◌, ◌+◌, ◌++◌, ◌∷◌, [], ◌∙◌, sym, ap, subst, map, length, get_or, All, append-nil, arith}
 use Rattle.std.proofs.Math.ListN.{drop_of_length-le}
 use Rattle.std.proofs.lemmas.List.{length-map, length-set, map-append, drop-set-lt, get_or_default}
 use Rattle.std.proofs.lemmas.List.Elements.{All-push}
 use Rattle.plane_base.specs.Plane.{IsWithin}
-use Rattle.plane_base.specs.Views.{points_of}
 use Rattle.plane_base.specs.GivenViews.{contours_of}
 use Rattle.plane_base.proofs.Facts.Lists.Views.{All-mapped}
 use Rattle.contour_walk.specs.Walks.{Contour}
@@ -16,7 +15,6 @@ use Rattle.contour_walk.proofs.loops.parted.add_loops.Goals as goal
 
 pub part_of-requires : goal.part_of-requires
 part_of-requires g c =
-    let value = g.I.OverlayInt.value in
     let is_within = IsWithin g.I.OverlayInt.least g.I.OverlayInt.greatest in
     let given = c.args.loops.now in
     let now = c.loop-number.loops in
@@ -27,13 +25,12 @@ part_of-requires g c =
     let at : x ≡ get_or given i x = get_or_default now i c.index-loops-number.result x there ∙ alike_at now given i x c.loop-number.invariant.rest in
     record {
       in_range =
-          subst (λ v. All is_within (points_of value v)) (sym (ap (λ v. v.items) c.replace-points.ensures.value))
-          (All-mapped (All is_within) (λ contour. points_of value contour.points.items) given i x inside at c.requires.in_range);
+          subst (λ v. All is_within v) (sym (ap (λ v. v.items) c.replace-points.ensures.value))
+          (All-mapped (All is_within) (λ contour. contour.points.items) given i x inside at c.requires.in_range);
     }
 
 pub loop-number-preserved : goal.loop-number-preserved
 loop-number-preserved g c =
-    let value = g.I.OverlayInt.value in
     let is_within = IsWithin g.I.OverlayInt.least g.I.OverlayInt.greatest in
     let given = c.args.loops.now in
     let now = c.loop-number.loops in
@@ -43,16 +40,16 @@ loop-number-preserved g c =
     let there : i < length now = omega (arith, inside, inv.many) in
     let x = get_or now i c.index-loops-number.result in
     let at : x ≡ get_or given i x = get_or_default now i c.index-loops-number.result x there ∙ alike_at now given i x inv.rest in
-    let read : points_of value c.replace-points.result.items ≡ points_of value x.points.items = ap (λ v. points_of value v.items) c.replace-points.ensures.value in
-    let so_far = walks_of value c.loop-number.contours.items in
-    let part = contour_of value c.part_of.result in
-    let pushed : walks_of value c.push.new.self.items ≡ so_far ++ part ∷ [] =
-    ap (walks_of value) c.in_ok-push.ensures.items ∙ map-append (contour_of value) c.loop-number.contours.items (c.part_of.result ∷ []) in
+    let read : c.replace-points.result.items ≡ x.points.items = ap (λ v. v.items) c.replace-points.ensures.value in
+    let so_far = walks_of c.loop-number.contours.items in
+    let part = contour_of c.part_of.result in
+    let pushed : walks_of c.push.new.self.items ≡ so_far ++ part ∷ [] =
+    ap walks_of c.in_ok-push.ensures.items ∙ map-append contour_of c.loop-number.contours.items (c.part_of.result ∷ []) in
     record {
       so_far = λ links cut.
-          let told = loop_tells (λ contour. points_of value contour.points.items) given i x c.args.output links inside at cut in
-          one_part_more (λ contour. points_of value contour.points.items) (part_of c.args.output links) given i x part so_far (walks_of value c.push.new.self.items)
-          (walks_of value c.args.contours.now.items ++ map (part_of c.args.output links) (contours_of value given)) inside at pushed
+          let told = loop_tells (λ contour. contour.points.items) given i x c.args.output links inside at cut in
+          one_part_more (λ contour. contour.points.items) (part_of c.args.output links) given i x part so_far (walks_of c.push.new.self.items)
+          (walks_of c.args.contours.now.items ++ map (part_of c.args.output links) (contours_of given)) inside at pushed
           (c.part_of.ensures.is links (subst (IsTold c.args.output links) (sym read) told) ∙ ap (part_of c.args.output links) read)
           (inv.so_far links cut);
       many = length-set now i (record { points = c.replace-points.new.dest }) ∙ inv.many;
@@ -64,10 +61,9 @@ loop-number-preserved g c =
 
 pub returns-clause-is : goal.returns-clause-is
 returns-clause-is g c = λ links cut.
-    let value = g.I.OverlayInt.value in
     let given = c.args.loops.now in
     let part = part_of c.args.output links in
-    let so_far = walks_of value c.loop-number.contours.items in
-    let over : length (contours_of value given) ≤ c.loop-number.number = omega (arith, c.loop-number-test.false, length-map given (λ contour. points_of value contour.points.items)) in
+    let so_far = walks_of c.loop-number.contours.items in
+    let over : length (contours_of given) ≤ c.loop-number.number = omega (arith, c.loop-number-test.false, length-map given (λ contour. contour.points.items)) in
     sym (append-nil so_far)
-    ∙ (ap (λ ls. so_far ++ map part ls) (sym (drop_of_length-le (contours_of value given) over)) ∙ c.loop-number.invariant.so_far links cut)
+    ∙ (ap (λ ls. so_far ++ map part ls) (sym (drop_of_length-le (contours_of given) over)) ∙ c.loop-number.invariant.so_far links cut)

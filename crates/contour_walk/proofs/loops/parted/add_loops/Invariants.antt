@@ -9,13 +9,12 @@ use Rattle.contour_walk.proofs.loops.parted.add_loops.Given as goal
 -- The parts so far and those of the loops from this one on are all. The loops from this one on stand as they stood.
 abbrev pub invariant-loop-number : goal.invariant-loop-number
 invariant-loop-number g l =
-    let value = g.I.OverlayInt.value in
     let given = l.fn.loops in
     record {
-      so_far : (links : List Border) → AreCut l.output links (contours_of value given)
-          → walks_of value l.contours.items ++ map (part_of l.output links) (drop l.number (contours_of value given))
-          ≡ walks_of value l.fn.contours.items ++ map (part_of l.output links) (contours_of value given);
+      so_far : (links : List Border) → AreCut l.output links (contours_of given)
+          → walks_of l.contours.items ++ map (part_of l.output links) (drop l.number (contours_of given))
+          ≡ walks_of l.fn.contours.items ++ map (part_of l.output links) (contours_of given);
       many : length l.loops ≡ length given;
       rest : drop l.number l.loops ≡ drop l.number given;
-      in_range : ContoursAreWithin g.I.OverlayInt.least g.I.OverlayInt.greatest (walks_of value l.contours.items);
+      in_range : ContoursAreWithin g.I.OverlayInt.least g.I.OverlayInt.greatest (walks_of l.contours.items);
     }

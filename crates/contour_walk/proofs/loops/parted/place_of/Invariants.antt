@@ -1,8 +1,7 @@
 use Rattle.std.proofs.Common.{◌≡◌, take, None}
-use Rattle.plane_base.specs.Views.{point_of, points_of}
 use Rattle.contour_walk.specs.Loops.{place_of}
 use Rattle.contour_walk.proofs.loops.parted.place_of.Given as goal
 
 -- The point stands nowhere before this place.
 abbrev pub invariant-loop-place : goal.invariant-loop-place
-invariant-loop-place g l = place_of (point_of g.I.OverlayInt.value l.point) (points_of g.I.OverlayInt.value (take l.place l.points)) ≡ None
+invariant-loop-place g l = place_of l.point (take l.place l.points) ≡ None

@@ -1,7 +1,6 @@
 use Rattle.std.proofs.Common.{◌≡◌, pos, Bool, true, false, cond, ◌||◌, ◌&&◌, List, ◌∷◌, map, Some, sym, ap, ap₂, ◌∙◌, int_lt}
 use Rattle.std.specs.Prelude.{nat_lt, ◌==◌}
 use Rattle.plane_base.specs.Plane.{Point}
-use Rattle.plane_base.specs.Views.{point_of}
 use Rattle.contour_walk.specs.Turning.{turned, is_met_before, met_first, first_by_turn}
 use Rattle.contour_walk.specs.Nearest.{Numbered, nearer, nearest}
 use Rattle.contour_walk.specs.NearestViews.{numbered, HasSeen}
@@ -23,18 +22,16 @@ one_more turns center from best n b met clockwise v a seen held =
 
 pub returns-then-is_before : goal.returns-then-is_before
 returns-then-is_before g c = λ clockwise v a seen held.
-    let value = g.I.OverlayInt.value in
     let s = c.args.self.now in
-    let ahead = int_lt (pos 0) (turned s.clockwise (point_of value s.center) (point_of value s.best) (point_of value c.args.p)) in
-    let met : is_met_before s.clockwise (point_of value s.center) (point_of value s.from) (point_of value s.best) (point_of value c.args.p) ≡ true =
+    let ahead = int_lt (pos 0) (turned s.clockwise s.center s.best c.args.p) in
+    let met : is_met_before s.clockwise s.center s.from s.best c.args.p ≡ true =
     sym (c.is_before.ensures ∙ ap₂ (λ m n. nat_lt m n || ((m == n) && ahead)) s.turned_is c.half_turns-turned.ensures) ∙ c.if-is_before.true in
-    one_more s.clockwise (point_of value s.center) (point_of value s.from) (numbered value s.best s.best_id) (numbered value c.args.p c.args.id) true met clockwise v a seen held
+    one_more s.clockwise s.center s.from (numbered s.best s.best_id) (numbered c.args.p c.args.id) true met clockwise v a seen held
 
 pub returns : goal.returns
 returns g c = λ clockwise v a seen held.
-    let value = g.I.OverlayInt.value in
     let s = c.args.self.now in
-    let ahead = int_lt (pos 0) (turned s.clockwise (point_of value s.center) (point_of value s.best) (point_of value c.args.p)) in
-    let met : is_met_before s.clockwise (point_of value s.center) (point_of value s.from) (point_of value s.best) (point_of value c.args.p) ≡ false =
+    let ahead = int_lt (pos 0) (turned s.clockwise s.center s.best c.args.p) in
+    let met : is_met_before s.clockwise s.center s.from s.best c.args.p ≡ false =
     sym (c.is_before.ensures ∙ ap₂ (λ m n. nat_lt m n || ((m == n) && ahead)) s.turned_is c.half_turns-turned.ensures) ∙ c.if-is_before.false in
-    one_more s.clockwise (point_of value s.center) (point_of value s.from) (numbered value s.best s.best_id) (numbered value c.args.p c.args.id) false met clockwise v a seen held
+    one_more s.clockwise s.center s.from (numbered s.best s.best_id) (numbered c.args.p c.args.id) false met clockwise v a seen held

@@ -1,6 +1,5 @@
 use Rattle.std.proofs.Common.{◌<◌, ◌∙◌, length, sym, arith}
 use Rattle.std.proofs.lemmas.Bool.{false≢true}
-use Rattle.plane_base.specs.Views.{point_of}
 use Rattle.contour_walk.proofs.VectorLinks.{along}
 use Rattle.contour_walk.proofs.vector.along.is_along.Goals as goal
 
@@ -21,8 +20,8 @@ returns-clause-within g c = λ e. omega (arith, c.if-place-links.false)
 
 pub returns-clause-is : goal.returns-clause-is
 returns-clause-is g c = λ e l.
-    let value = g.I.OverlayInt.value in
+    let value = g.I.IntNumber.value in
     let links = c.args.links.now in
     let inside : c.args.place < length links = omega (arith, c.if-place-links.false) in
-    along value links c.args.place c.index-links-place.result l (point_of value c.args.a) (point_of value c.args.b) inside c.index-links-place.is
+    along value links c.args.place c.index-links-place.result l c.args.a c.args.b inside c.index-links-place.is
     (sym c.is_same_point.ensures ∙ c.if-not-is_same_point.false) (sym c.is_same_point-2.ensures ∙ e)

@@ -1,9 +1,8 @@
 use Rattle.std.proofs.Common.{◌∙◌, sym, ap, subst, ◌++◌, ◌∷◌, [], ◌+◌, List, map, append-nil, append_assoc, arith}
 use Rattle.std.specs.Prelude.{All}
-use Rattle.std.proofs.lemmas.List.{length-map, map-append}
+use Rattle.std.proofs.lemmas.List.{map-append}
 use Rattle.std.proofs.lemmas.List.Elements.{All-nil, All-push, All-head, All-tail}
 use Rattle.plane_base.specs.Plane.{Edge}
-use Rattle.plane_base.specs.Views.{point_of, points_of}
 use Rattle.segment_split.specs.Data.{MayBeTurned}
 use Rattle.segment_arrangement.specs.LinkViews.{overlay_link_of}
 use Rattle.contour_walk.specs.Vectors.{VectorEdge, vector_of, vector_along}
@@ -13,56 +12,50 @@ use Rattle.contour_walk.proofs.vector.along.vector_path.Goals as goal
 
 pub loop-place-init : goal.loop-place-init
 loop-place-init g c =
-    let value = g.I.OverlayInt.value in
     let links = c.args.links.now in
-    let all = all_steps_left (points_of value c.args.points.now) in
+    let all = all_steps_left c.args.points.now in
     rw c.in_ok-edges.ensures.items record {
-      is = ap (map (vector_along (map (overlay_link_of value) links))) all;
-      linked = subst (All (IsLinked value links)) (sym all) c.requires.linked;
-      of_links = All-nil (IsOfLink value g.I.OverlayInt.least g.I.OverlayInt.greatest (MayBeTurned g.D.OverlayEdgeData.JOINS g.D.OverlayEdgeData.turns_to) links);
+      is = ap (map (vector_along (map overlay_link_of links))) all;
+      linked = subst (All (IsLinked links)) (sym all) c.requires.linked;
+      of_links = All-nil (IsOfLink g.I.OverlayInt.least g.I.OverlayInt.greatest (MayBeTurned g.D.OverlayEdgeData.JOINS g.D.OverlayEdgeData.turns_to) links);
     }
 
 pub vector_along-edge-requires-clause-linked : goal.vector_along-edge-requires-clause-linked
 vector_along-edge-requires-clause-linked g c =
-    let value = g.I.OverlayInt.value in
-    let f = point_of value in
     let points = c.args.points.now in
     let i = c.loop-place.place in
-    let step = steps_left_more f points i c.index-points-place.result (f c.point_after.result) c.loop-place-test.true c.index-points-place.is c.point_after.ensures.is in
-    let here : Edge = record { a = f c.index-points-place.result; b = f c.point_after.result } in
-    All-head (IsLinked value c.args.links.now) here (steps_left (points_of value points) (i + 1)) (subst (All (IsLinked value c.args.links.now)) step c.loop-place.invariant.linked)
+    let step = steps_left_more points i c.index-points-place.result c.point_after.result c.loop-place-test.true c.index-points-place.is c.point_after.ensures.is in
+    let here : Edge = record { a = c.index-points-place.result; b = c.point_after.result } in
+    All-head (IsLinked c.args.links.now) here (steps_left points (i + 1)) (subst (All (IsLinked c.args.links.now)) step c.loop-place.invariant.linked)
 
 pub loop-place-preserved : goal.loop-place-preserved
 loop-place-preserved g c =
-    let value = g.I.OverlayInt.value in
-    let f = point_of value in
     let links = c.args.links.now in
     let points = c.args.points.now in
     let i = c.loop-place.place in
     let edges = c.loop-place.edges.items in
     let inv = c.loop-place.invariant in
     let edge = c.vector_along-edge.result in
-    let step = steps_left_more f points i c.index-points-place.result (f c.point_after.result) c.loop-place-test.true c.index-points-place.is c.point_after.ensures.is in
-    let here : Edge = record { a = f c.index-points-place.result; b = f c.point_after.result } in
-    let along = vector_along (map (overlay_link_of value) links) in
-    let rest = steps_left (points_of value points) (i + 1) in
+    let step = steps_left_more points i c.index-points-place.result c.point_after.result c.loop-place-test.true c.index-points-place.is c.point_after.ensures.is in
+    let here : Edge = record { a = c.index-points-place.result; b = c.point_after.result } in
+    let along = vector_along (map overlay_link_of links) in
+    let rest = steps_left points (i + 1) in
     rw c.in_ok-push.ensures.items record {
       is =
-          ap (λ (vs : List VectorEdge). vs ++ map along rest) (map-append (vector_of value) edges (edge ∷ []))
-          ∙ (append_assoc (map (vector_of value) edges) (vector_of value edge ∷ []) (map along rest)
-          ∙ (ap (λ (vs : List VectorEdge). map (vector_of value) edges ++ vs)
+          ap (λ (vs : List VectorEdge). vs ++ map along rest) (map-append vector_of edges (edge ∷ []))
+          ∙ (append_assoc (map vector_of edges) (vector_of edge ∷ []) (map along rest)
+          ∙ (ap (λ (vs : List VectorEdge). map vector_of edges ++ vs)
           (ap (λ (v : VectorEdge). v ∷ map along rest) c.vector_along-edge.ensures.is ∙ sym (ap (map along) step))
           ∙ inv.is));
-      linked = All-tail (IsLinked value links) here rest (subst (All (IsLinked value links)) step inv.linked);
+      linked = All-tail (IsLinked links) here rest (subst (All (IsLinked links)) step inv.linked);
       of_links =
-          All-push (IsOfLink value g.I.OverlayInt.least g.I.OverlayInt.greatest (MayBeTurned g.D.OverlayEdgeData.JOINS g.D.OverlayEdgeData.turns_to) links) edges edge inv.of_links c.vector_along-edge.ensures.of_link;
+          All-push (IsOfLink g.I.OverlayInt.least g.I.OverlayInt.greatest (MayBeTurned g.D.OverlayEdgeData.JOINS g.D.OverlayEdgeData.turns_to) links) edges edge inv.of_links c.vector_along-edge.ensures.of_link;
     }
 
 pub returns-clause-is : goal.returns-clause-is
 returns-clause-is g c =
-    let value = g.I.OverlayInt.value in
     let edges = c.loop-place.edges.items in
-    let along = vector_along (map (overlay_link_of value) c.args.links.now) in
-    let end = no_steps_left (points_of value c.args.points.now) c.loop-place.place (omega (arith, length-map c.args.points.now (point_of value), c.loop-place-test.false)) in
-    sym (append-nil (map (vector_of value) edges))
-    ∙ (ap (λ (ss : List Edge). map (vector_of value) edges ++ map along ss) (sym end) ∙ c.loop-place.invariant.is)
+    let along = vector_along (map overlay_link_of c.args.links.now) in
+    let end = no_steps_left c.args.points.now c.loop-place.place (omega (arith, c.loop-place-test.false)) in
+    sym (append-nil (map vector_of edges))
+    ∙ (ap (λ (ss : List Edge). map vector_of edges ++ map along ss) (sym end) ∙ c.loop-place.invariant.is)

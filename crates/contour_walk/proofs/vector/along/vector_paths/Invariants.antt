@@ -11,10 +11,9 @@ use Rattle.contour_walk.proofs.vector.along.vector_paths.Given as goal
 -- The contours before this one are seen.
 abbrev pub invariant-loop-number : goal.invariant-loop-number
 invariant-loop-number g l =
-    let value = g.I.OverlayInt.value in
     record {
       is :
-          map (map (vector_of value)) (edges_of_paths l.paths.items)
-          ≡ map (vector_contour (map (overlay_link_of value) l.links)) (take l.number (contours_of value l.contours));
-      of_links : All (All (IsOfLink value g.I.OverlayInt.least g.I.OverlayInt.greatest (MayBeTurned g.D.OverlayEdgeData.JOINS g.D.OverlayEdgeData.turns_to) l.links)) (edges_of_paths l.paths.items);
+          map (map vector_of) (edges_of_paths l.paths.items)
+          ≡ map (vector_contour (map overlay_link_of l.links)) (take l.number (contours_of l.contours));
+      of_links : All (All (IsOfLink g.I.OverlayInt.least g.I.OverlayInt.greatest (MayBeTurned g.D.OverlayEdgeData.JOINS g.D.OverlayEdgeData.turns_to) l.links)) (edges_of_paths l.paths.items);
     }

@@ -13,17 +13,15 @@ use Rattle.contour_walk.proofs.vector.along.vector_shapes.Goals as goal
 
 pub vector_paths-requires-clause-linked : goal.vector_paths-requires-clause-linked
 vector_paths-requires-clause-linked g c =
-    let value = g.I.OverlayInt.value in
     let shapes = c.args.shapes.now in
     let number = c.loop-number.number in
     let shape = get_or shapes number c.index-shapes-number.result in
     let at = get_or_default shapes number c.index-shapes-number.result shape c.loop-number-test.true in
     rw c.deref.ensures.value
-    (All-mapped (All (AreLinked value c.args.links.now)) (λ s. contours_of value s.contours.items) shapes number shape c.loop-number-test.true at c.requires.linked)
+    (All-mapped (All (AreLinked c.args.links.now)) (λ s. contours_of s.contours.items) shapes number shape c.loop-number-test.true at c.requires.linked)
 
 pub loop-number-preserved : goal.loop-number-preserved
 loop-number-preserved g c =
-    let value = g.I.OverlayInt.value in
     let links = c.args.links.now in
     let shapes = c.args.shapes.now in
     let number = c.loop-number.number in
@@ -34,9 +32,9 @@ loop-number-preserved g c =
     let here = rw c.deref.ensures.value at c.in_ok-paths.ensures.is in
     rw c.in_ok-push.ensures.items record {
       is =
-          one_seen (λ s. edges_of_paths s.paths.items) (map (map (vector_of value))) (map (vector_contour (map (overlay_link_of value) links))) (λ s. contours_of value s.contours.items)
+          one_seen (λ s. edges_of_paths s.paths.items) (map (map vector_of)) (map (vector_contour (map overlay_link_of links))) (λ s. contours_of s.contours.items)
           vectors (record { paths = c.in_ok-paths.paths }) shapes number shape c.loop-number-test.true at inv.is here;
       of_links =
-          one_held (All (All (IsOfLink value g.I.OverlayInt.least g.I.OverlayInt.greatest (MayBeTurned g.D.OverlayEdgeData.JOINS g.D.OverlayEdgeData.turns_to) links))) (λ s. edges_of_paths s.paths.items)
+          one_held (All (All (IsOfLink g.I.OverlayInt.least g.I.OverlayInt.greatest (MayBeTurned g.D.OverlayEdgeData.JOINS g.D.OverlayEdgeData.turns_to) links))) (λ s. edges_of_paths s.paths.items)
           vectors (record { paths = c.in_ok-paths.paths }) inv.of_links c.in_ok-paths.ensures.of_links;
     }

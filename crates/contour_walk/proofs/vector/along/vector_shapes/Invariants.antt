@@ -10,11 +10,10 @@ use Rattle.contour_walk.proofs.vector.along.vector_shapes.Given as goal
 -- The shapes before this one are seen.
 abbrev pub invariant-loop-number : goal.invariant-loop-number
 invariant-loop-number g l =
-    let value = g.I.OverlayInt.value in
     record {
       is :
-          vectors_of value (edges_of_shapes l.vectors.items)
-          ≡ map (map (vector_contour (map (overlay_link_of value) l.links))) (take l.number (shapes_of value l.shapes));
+          vectors_of (edges_of_shapes l.vectors.items)
+          ≡ map (map (vector_contour (map overlay_link_of l.links))) (take l.number (shapes_of l.shapes));
       of_links :
-          All (All (All (IsOfLink value g.I.OverlayInt.least g.I.OverlayInt.greatest (MayBeTurned g.D.OverlayEdgeData.JOINS g.D.OverlayEdgeData.turns_to) l.links))) (edges_of_shapes l.vectors.items);
+          All (All (All (IsOfLink g.I.OverlayInt.least g.I.OverlayInt.greatest (MayBeTurned g.D.OverlayEdgeData.JOINS g.D.OverlayEdgeData.turns_to) l.links))) (edges_of_shapes l.vectors.items);
     }

@@ -1,4 +1,4 @@
-use Rattle.std.proofs.Common.{rules, ◌==◌, ◌∙◌, sym, not, length, true, false, arith}
+use Rattle.std.proofs.Common.{rules, ◌==◌, ◌∙◌, sym, not, length, arith}
 use Rattle.std.proofs.lemmas.Bool.{false≢true}
 use Rattle.std.proofs.lemmas.Fn.{filter_same}
 use Rattle.plane_base.proofs.Facts.Lists.Views.{some_first}

@@ -9,13 +9,13 @@ pub loop-start-init : goal.loop-start-init
 loop-start-init g c = record {
   start = omega arith;
   reached = λ given r. r;
-  none = none_drop g.I.OverlayInt.value g.D.PartialEq.eq 1 c.args.edges.now.items c.requires.none;
+  none = none_drop g.I.IntNumber.value g.D.PartialEq.eq 1 c.args.edges.now.items c.requires.none;
   in_range = c.requires.in_range;
 }
 
 pub loop-start-preserved-then-can_join : goal.loop-start-preserved-then-can_join
 loop-start-preserved-then-can_join g c =
-    let value = g.I.OverlayInt.value in
+    let value = g.I.IntNumber.value in
     let same = g.D.PartialEq.eq in
     let items = c.loop-start.edges.items in
     let start = c.loop-start.start in
@@ -26,8 +26,8 @@ loop-start-preserved-then-can_join g c =
     let size = c.loop-start.edges.ok.0 in
     let many : start + 3 ≤ length items = omega (arith, c.loop-start-test.true, c.len.ensures, size) in
     let to_end : end + 1 ≡ length items = omega (arith, c.len-end.ensures, size, many) in
-    let can : can_join value same last first ≡ true = sym c.can_join.ensures ∙ c.if-can_join.true in
-    let within = IsVectorWithin value g.I.OverlayInt.least g.I.OverlayInt.greatest in
+    let can : can_join same last first ≡ true = sym c.can_join.ensures ∙ c.if-can_join.true in
+    let within = IsVectorWithin g.I.OverlayInt.least g.I.OverlayInt.greatest in
     let edge = joined_edge last first in
     let at_first = at_place within items start first (omega (arith, many)) c.index.ensures inv.in_range in
     let at_last = at_place within items end last (omega (arith, to_end)) c.index-in-loop-start-2.ensures inv.in_range in
@@ -42,7 +42,7 @@ loop-start-preserved-then-can_join g c =
 
 pub loop-start-preserved : goal.loop-start-preserved
 loop-start-preserved g c =
-    let value = g.I.OverlayInt.value in
+    let value = g.I.IntNumber.value in
     let same = g.D.PartialEq.eq in
     let items = c.loop-start.edges.items in
     let start = c.loop-start.start in
@@ -51,8 +51,8 @@ loop-start-preserved g c =
     let inv = c.loop-start.invariant in
     let size = c.loop-start.edges.ok.0 in
     let many : start + 3 ≤ length items = omega (arith, c.loop-start-test.true, c.len.ensures, size) in
-    let can : can_join value same first second ≡ true = sym c.can_join-else-can_join.ensures ∙ c.if-can_join-2.true in
-    let within = IsVectorWithin value g.I.OverlayInt.least g.I.OverlayInt.greatest in
+    let can : can_join same first second ≡ true = sym c.can_join-else-can_join.ensures ∙ c.if-can_join-2.true in
+    let within = IsVectorWithin g.I.OverlayInt.least g.I.OverlayInt.greatest in
     let edge = joined_edge first second in
     let at_first = at_place within items start first (omega (arith, many)) c.index.ensures inv.in_range in
     let at_second = at_place within items (start + 1) second (omega (arith, many)) c.index-in-loop-start.ensures inv.in_range in
@@ -65,7 +65,7 @@ loop-start-preserved g c =
 
 pub returns-else-can_join-2-clause-none : goal.returns-else-can_join-2-clause-none
 returns-else-can_join-2-clause-none g c =
-    let value = g.I.OverlayInt.value in
+    let value = g.I.IntNumber.value in
     let same = g.D.PartialEq.eq in
     let items = c.loop-start.edges.items in
     let start = c.loop-start.start in
@@ -77,7 +77,7 @@ returns-else-can_join-2-clause-none g c =
     let size = c.loop-start.edges.ok.0 in
     let many : start + 3 ≤ length items = omega (arith, c.loop-start-test.true, c.len.ensures, size) in
     let to_end : end + 1 ≡ length items = omega (arith, c.len-end.ensures, size, many) in
-    let round : can_join value same last first ≡ false = sym c.can_join.ensures ∙ c.if-can_join.false in
-    let apart : can_join value same first second ≡ false = sym c.can_join-else-can_join.ensures ∙ c.if-can_join-2.false in
+    let round : can_join same last first ≡ false = sym c.can_join.ensures ∙ c.if-can_join.false in
+    let apart : can_join same first second ≡ false = sym c.can_join-else-can_join.ensures ∙ c.if-can_join-2.false in
     λ h. none_left value same items start end first last many to_end c.index.ensures c.index-in-loop-start-2.ensures
     (none_from value same items start (start + 1) first second refl many c.index.ensures c.index-in-loop-start.ensures apart inv.none) round

@@ -8,9 +8,9 @@ use Rattle.contour_walk.proofs.vector.simplify.join_ends.Given as goal
 abbrev pub invariant-loop-start : goal.invariant-loop-start
 invariant-loop-start g l = record {
   start : l.start ≤ length l.edges.items;
-  reached : (given : List _) → Joins g.I.OverlayInt.value g.D.PartialEq.eq given l.fn.edges.items → Joins g.I.OverlayInt.value g.D.PartialEq.eq given (drop l.start l.edges.items);
-  none : NoneInRow g.I.OverlayInt.value g.D.PartialEq.eq (drop (l.start + 1) l.edges.items);
-  in_range : All (IsVectorWithin g.I.OverlayInt.value g.I.OverlayInt.least g.I.OverlayInt.greatest) l.edges.items;
+  reached : (given : List _) → Joins g.I.IntNumber.value g.D.PartialEq.eq given l.fn.edges.items → Joins g.I.IntNumber.value g.D.PartialEq.eq given (drop l.start l.edges.items);
+  none : NoneInRow g.D.PartialEq.eq (drop (l.start + 1) l.edges.items);
+  in_range : All (IsVectorWithin g.I.OverlayInt.least g.I.OverlayInt.greatest) l.edges.items;
 }
 
 abbrev pub decreases-loop-start : goal.decreases-loop-start

@@ -1,4 +1,4 @@
-use Rattle.std.proofs.Common.{◌≡◌, ◌≤◌, ◌<◌, ◌∙◌, sym, subst, refl, ◌+◌, ◌++◌, ◌∷◌, [], List, take, drop, length, true, false, append-nil, arith}
+use Rattle.std.proofs.Common.{◌≡◌, ◌≤◌, ◌<◌, ◌∙◌, sym, subst, refl, ◌+◌, ◌++◌, ◌∷◌, [], List, take, drop, length, append-nil, arith}
 use Rattle.std.proofs.lemmas.List.{length-set, take_more_set, drop_all}
 use Rattle.std.proofs.lemmas.List.Elements.{All-set}
 use Rattle.std.specs.Prelude.{All}
@@ -13,11 +13,11 @@ loop-next-init g c = record { few = omega arith; long = refl; reached = no_join;
 
 pub joined_back-before-requires-clause-in_range : goal.joined_back-before-requires-clause-in_range
 joined_back-before-requires-clause-in_range g c =
-    subst (All (IsVectorWithin g.I.OverlayInt.value g.I.OverlayInt.least g.I.OverlayInt.greatest)) (sym c.deref.ensures.value) c.loop-next.invariant.in_range
+    subst (All (IsVectorWithin g.I.OverlayInt.least g.I.OverlayInt.greatest)) (sym c.deref.ensures.value) c.loop-next.invariant.in_range
 
 pub loop-next-preserved : goal.loop-next-preserved
 loop-next-preserved g c =
-    let value = g.I.OverlayInt.value in
+    let value = g.I.IntNumber.value in
     let same = g.D.PartialEq.eq in
     let given = c.args.edges.now.items in
     let items = c.loop-next.edges.items in
@@ -38,13 +38,13 @@ loop-next-preserved g c =
       few = omega (arith, early);
       long = length-set items before edge ∙ inv.long;
       reached = put_behind value same given items before next (next + 1) edge early inside refl (reached whole);
-      none = subst (NoneInRow value same) (sym (take_more_set items before edge (omega (arith, early, inside)))) (apart inv.none);
-      in_range = All-set (IsVectorWithin value g.I.OverlayInt.least g.I.OverlayInt.greatest) items before edge c.joined_back-before.ensures.in_range inv.in_range;
+      none = subst (NoneInRow same) (sym (take_more_set items before edge (omega (arith, early, inside)))) (apart inv.none);
+      in_range = All-set (IsVectorWithin g.I.OverlayInt.least g.I.OverlayInt.greatest) items before edge c.joined_back-before.ensures.in_range inv.in_range;
     }
 
 pub returns-clause-reached : goal.returns-clause-reached
 returns-clause-reached g c =
-    let value = g.I.OverlayInt.value in
+    let value = g.I.IntNumber.value in
     let same = g.D.PartialEq.eq in
     let items = c.loop-next.edges.items in
     let inv = c.loop-next.invariant in

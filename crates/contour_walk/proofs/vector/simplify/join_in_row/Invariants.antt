@@ -9,7 +9,7 @@ abbrev pub invariant-loop-next : goal.invariant-loop-next
 invariant-loop-next g l = record {
   few : l.kept ≤ l.next;
   long : length l.edges.items ≡ length l.fn.edges.items;
-  reached : Joins g.I.OverlayInt.value g.D.PartialEq.eq l.fn.edges.items (take l.kept l.edges.items ++ drop l.next l.edges.items);
-  none : NoneInRow g.I.OverlayInt.value g.D.PartialEq.eq (take l.kept l.edges.items);
-  in_range : All (IsVectorWithin g.I.OverlayInt.value g.I.OverlayInt.least g.I.OverlayInt.greatest) l.edges.items;
+  reached : Joins g.I.IntNumber.value g.D.PartialEq.eq l.fn.edges.items (take l.kept l.edges.items ++ drop l.next l.edges.items);
+  none : NoneInRow g.D.PartialEq.eq (take l.kept l.edges.items);
+  in_range : All (IsVectorWithin g.I.OverlayInt.least g.I.OverlayInt.greatest) l.edges.items;
 }

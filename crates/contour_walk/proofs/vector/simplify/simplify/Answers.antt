@@ -1,10 +1,10 @@
-use Rattle.std.proofs.Common.{◌≢◌, ◌≤◌, ◌<◌, ◌-◌, length, true, false, arith}
+use Rattle.std.proofs.Common.{◌≢◌, ◌≤◌, ◌<◌, length, arith}
 use Rattle.contour_walk.proofs.Simplifying.{simplified_to_nothing, simplified_to_itself, simplified_to_less}
 use Rattle.contour_walk.proofs.vector.simplify.simplify.Goals as goal
 
 pub returns-then-len-lt3 : goal.returns-then-len-lt3
 returns-then-len-lt3 g c =
-    let value = g.I.OverlayInt.value in
+    let value = g.I.IntNumber.value in
     let same = g.D.PartialEq.eq in
     let given = c.args.edges.now.items in
     let left = c.join_round.new.edges.items in
@@ -16,7 +16,7 @@ returns-then-len-lt3 g c =
 
 pub returns-then-len-given : goal.returns-then-len-given
 returns-then-len-given g c =
-    let value = g.I.OverlayInt.value in
+    let value = g.I.IntNumber.value in
     let same = g.D.PartialEq.eq in
     let given = c.args.edges.now.items in
     let left = c.join_round.new.edges.items in
@@ -28,7 +28,7 @@ returns-then-len-given g c =
 
 pub returns : goal.returns
 returns g c =
-    let value = g.I.OverlayInt.value in
+    let value = g.I.IntNumber.value in
     let same = g.D.PartialEq.eq in
     let given = c.args.edges.now.items in
     let left = c.join_round.new.edges.items in

@@ -21,7 +21,7 @@ simplify_shape-requires g c =
     let size = c.args.shapes.now.ok.0 in
     let inside : number < length shapes = omega (arith, c.loop-number-test.true, c.len-number-end.ensures, inv.many, size) in
     let old_inside : number < length olds = omega (arith, inside, inv.many, length-map c.args.shapes.now.items (λ s. edges_of_paths s.paths.items)) in
-    subst (All (All (IsVectorWithin g.I.OverlayInt.value g.I.OverlayInt.least g.I.OverlayInt.greatest)))
+    subst (All (All (IsVectorWithin g.I.OverlayInt.least g.I.OverlayInt.greatest)))
     (sym (same_place olds xs number (edges_of_paths shape.paths.items) inv.rest)
     ∙ (get_or-map (λ s. edges_of_paths s.paths.items) shapes number shape (edges_of_paths shape.paths.items) inside
     ∙ ap (λ s. edges_of_paths s.paths.items) (sym c.index_mut.ensures.value)))
@@ -29,7 +29,7 @@ simplify_shape-requires g c =
 
 pub loop-number-preserved : goal.loop-number-preserved
 loop-number-preserved g c =
-    let value = g.I.OverlayInt.value in
+    let value = g.I.IntNumber.value in
     let same = g.D.PartialEq.eq in
     let shapes = c.loop-number.shapes.items in
     let olds = edges_of_shapes c.args.shapes.now.items in
@@ -58,7 +58,7 @@ loop-number-preserved g c =
 
 pub returns : goal.returns
 returns g c =
-    let value = g.I.OverlayInt.value in
+    let value = g.I.IntNumber.value in
     let same = g.D.PartialEq.eq in
     let shapes = c.loop-number.shapes.items in
     let olds = edges_of_shapes c.args.shapes.now.items in

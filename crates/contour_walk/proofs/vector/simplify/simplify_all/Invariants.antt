@@ -8,5 +8,5 @@ abbrev pub invariant-loop-number : goal.invariant-loop-number
 invariant-loop-number g l = record {
   many : length l.shapes.items ≡ length l.fn.shapes.items;
   rest : drop l.number (edges_of_shapes l.shapes.items) ≡ drop l.number (edges_of_shapes l.fn.shapes.items);
-  so_far : AreSimplifiedShapes g.I.OverlayInt.value g.D.PartialEq.eq (take l.number (edges_of_shapes l.fn.shapes.items)) (take l.number (edges_of_shapes l.shapes.items));
+  so_far : AreSimplifiedShapes g.I.IntNumber.value g.D.PartialEq.eq (take l.number (edges_of_shapes l.fn.shapes.items)) (take l.number (edges_of_shapes l.shapes.items));
 }

@@ -8,7 +8,7 @@ use Rattle.contour_walk.proofs.vector.simplify.simplify_paths.Goals.{After-loop-
 use Rattle.contour_walk.proofs.vector.simplify.simplify_paths.Goals as goal
 
 pub loop-number-init : goal.loop-number-init
-loop-number-init g c = record { rest = refl; so_far = no_paths g.I.OverlayInt.value g.D.PartialEq.eq }
+loop-number-init g c = record { rest = refl; so_far = no_paths g.I.IntNumber.value g.D.PartialEq.eq }
 
 pub simplify-is_changed-requires : goal.simplify-is_changed-requires
 simplify-is_changed-requires g c =
@@ -19,13 +19,13 @@ simplify-is_changed-requires g c =
     let path = c.index-paths-number.result in
     let inside : number < length paths = omega (arith, c.loop-number-test.true, c.loop-number.auto.paths) in
     let old_inside : number < length olds = omega (arith, inside, c.loop-number.auto.paths, length-map c.args.paths.now (λ p. p.edges.items)) in
-    subst (All (IsVectorWithin g.I.OverlayInt.value g.I.OverlayInt.least g.I.OverlayInt.greatest))
+    subst (All (IsVectorWithin g.I.OverlayInt.least g.I.OverlayInt.greatest))
     (sym (same_place olds xs number path.edges.items c.loop-number.invariant.rest) ∙ get_or-map (λ p. p.edges.items) paths number path path.edges.items inside)
     (c.requires number path.edges.items old_inside)
 
 pub loop-number-preserved : goal.loop-number-preserved
 loop-number-preserved g c =
-    let value = g.I.OverlayInt.value in
+    let value = g.I.IntNumber.value in
     let same = g.D.PartialEq.eq in
     let paths = c.loop-number.paths in
     let olds = edges_of_paths c.args.paths.now in
@@ -51,9 +51,9 @@ loop-number-preserved g c =
 
 -- all paths are simplified
 all_simplified : (g : Over) (c : After-loop-number g)
-    → ArePathsSimplified g.I.OverlayInt.value g.D.PartialEq.eq (edges_of_paths c.args.paths.now) (edges_of_paths c.loop-number.paths) c.loop-number.is_changed
+    → ArePathsSimplified g.I.IntNumber.value g.D.PartialEq.eq (edges_of_paths c.args.paths.now) (edges_of_paths c.loop-number.paths) c.loop-number.is_changed
 all_simplified g c =
-    let value = g.I.OverlayInt.value in
+    let value = g.I.IntNumber.value in
     let same = g.D.PartialEq.eq in
     let olds = edges_of_paths c.args.paths.now in
     let xs = edges_of_paths c.loop-number.paths in

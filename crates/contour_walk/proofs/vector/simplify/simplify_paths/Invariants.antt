@@ -7,5 +7,5 @@ use Rattle.contour_walk.proofs.vector.simplify.simplify_paths.Given as goal
 abbrev pub invariant-loop-number : goal.invariant-loop-number
 invariant-loop-number g l = record {
   rest : drop l.number (edges_of_paths l.paths) ≡ drop l.number (edges_of_paths l.fn.paths);
-  so_far : ArePathsSimplified g.I.OverlayInt.value g.D.PartialEq.eq (take l.number (edges_of_paths l.fn.paths)) (take l.number (edges_of_paths l.paths)) l.is_changed;
+  so_far : ArePathsSimplified g.I.IntNumber.value g.D.PartialEq.eq (take l.number (edges_of_paths l.fn.paths)) (take l.number (edges_of_paths l.paths)) l.is_changed;
 }

@@ -10,9 +10,9 @@ module _ (g : Over) (c : After-len g) where
   as_many : length c.simplify_paths-is_changed.new.paths ≡ c.args.paths.now.len
   as_many = c.simplify_paths-is_changed.auto.paths ∙ c.deref_mut.ensures.len
 
-  paths : ArePathsSimplified g.I.OverlayInt.value g.D.PartialEq.eq (edges_of_paths c.args.paths.now.items) (edges_of_paths c.simplify_paths-is_changed.new.paths) c.simplify_paths-is_changed.result
+  paths : ArePathsSimplified g.I.IntNumber.value g.D.PartialEq.eq (edges_of_paths c.args.paths.now.items) (edges_of_paths c.simplify_paths-is_changed.new.paths) c.simplify_paths-is_changed.result
   paths =
-      let value = g.I.OverlayInt.value in
+      let value = g.I.IntNumber.value in
       let same = g.D.PartialEq.eq in
       let news = edges_of_paths c.simplify_paths-is_changed.new.paths in
       let told = c.simplify_paths-is_changed.ensures in
@@ -30,7 +30,7 @@ module _ (g : Over) (c : After-len g) where
 
 pub returns : goal.returns
 returns g c =
-    let value = g.I.OverlayInt.value in
+    let value = g.I.IntNumber.value in
     let same = g.D.PartialEq.eq in
     let olds = edges_of_paths c.args.paths.now.items in
     let news = edges_of_paths c.simplify_paths-is_changed.new.paths in

@@ -12,8 +12,7 @@ use Rattle.contour_walk.proofs.walk.build_rings.add_ring.Goals as goal
 
 pub returns-clause-rings : goal.returns-clause-rings
 returns-clause-rings g c =
-    let value = g.I.OverlayInt.value in
-    let is_ring = IsRing value (link_edges value c.args.graph.now.links.now) c.args.states.now in
+    let is_ring = IsRing (link_edges c.args.graph.now.links.now) c.args.states.now in
     let here = subst (λ o. IfSome o is_ring) c.in-Some.is c.in_ok-ring.ensures.is in
     subst (All is_ring) (sym c.in_ok-push.ensures.items) (All-push is_ring _ c.in-Some.ring c.requires.rings here)
 
@@ -151,7 +150,7 @@ bounds-links-link g c = rw c.links.ensures c.requires.inside
 
 pub ring_of-requires-clause-numbered : goal.ring_of-requires-clause-numbered
 ring_of-requires-clause-numbered g c =
-    let value = g.I.OverlayInt.value in
+    let value = g.I.IntNumber.value in
     let links = c.args.graph.now.links.now in
     let k = c.index-links-link.result in
     let here : k ≡ get_or links c.args.link k = c.index-links-link.is ∙ ap (λ ls. get_or ls c.args.link k) c.links.ensures in
@@ -164,7 +163,7 @@ ring_of-requires-clause-numbered g c =
 
 pub ring_of-requires-clause-at_in_range : goal.ring_of-requires-clause-at_in_range
 ring_of-requires-clause-at_in_range g c =
-    let value = g.I.OverlayInt.value in
+    let value = g.I.IntNumber.value in
     let links = c.args.graph.now.links.now in
     let k = c.index-links-link.result in
     let here : k ≡ get_or links c.args.link k = c.index-links-link.is ∙ ap (λ ls. get_or ls c.args.link k) c.links.ensures in

@@ -4,4 +4,4 @@ use Rattle.contour_walk.proofs.walk.build_rings.rings_of.Given as goal
 
 -- The rings so far are right.
 abbrev pub invariant-loop-number : goal.invariant-loop-number
-invariant-loop-number g l = AreRings g.I.OverlayInt.value (link_edges g.I.OverlayInt.value l.graph.links.now) l.states l.rings.rings.items
+invariant-loop-number g l = AreRings (link_edges l.graph.links.now) l.states l.rings.rings.items

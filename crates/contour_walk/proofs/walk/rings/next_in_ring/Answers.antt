@@ -1,5 +1,6 @@
 use Rattle.std.proofs.Common.{arith}
 use Rattle.std.proofs.lemmas.Grind.{common_steps}
+use Rattle.contour_walk.proofs.walk.rings.next_in_ring.Goals.{then-clockwise, else-clockwise}
 use Rattle.contour_walk.proofs.walk.rings.next_in_ring.Goals as goal
 
 pub next_back-found-requires-clause-inside : goal.next_back-found-requires-clause-inside
@@ -45,7 +46,11 @@ pub returns-in-None-clause-ahead : goal.returns-in-None-clause-ahead
 returns-in-None-clause-ahead g c = grind (arith, common_steps)
 
 pub returns-in-None-clause-back : goal.returns-in-None-clause-back
-returns-in-None-clause-back g c = grind (arith, common_steps)
+returns-in-None-clause-back g c =
+    elim c.if-clockwise.branch [
+      | then-clockwise w ↦ rw w.ring-is (grind (arith, common_steps))
+      | else-clockwise w ↦ rw w.ring-is c.requires.back
+    ]
 
 pub returns-in-Some-clause-some : goal.returns-in-Some-clause-some
 returns-in-Some-clause-some g c = grind (arith, common_steps)

@@ -5,7 +5,6 @@ use Rattle.std.proofs.Common.{◌≡◌, ◌+◌, ◌<◌, List, [], ◌∷◌, 
 use Rattle.std.proofs.lemmas.List.{take_all, take_more, flat_map_more}
 use Rattle.std.proofs.lemmas.List.Elements.{All-get_or}
 use Rattle.std.proofs.lemmas.List.Sorted.{IsPermutation-map, length_permutation}
-use Rattle.plane_base.specs.Views.{point_of}
 use Rattle.contour_walk.specs.LinearViews.{link_edges, spoke_list}
 use Rattle.contour_walk.specs.LinearWalks.{spoke_at}
 use Rattle.contour_walk.specs.Nearest.{Numbered}
@@ -15,15 +14,14 @@ use Rattle.contour_walk.proofs.walk.sorting.sorted_spokes.Goals as goal
 
 pub returns-clause-all : goal.returns-clause-all
 returns-clause-all g c =
-    let value = g.I.OverlayInt.value in
     let new = c.sort_ways.new.ways in
     let places = c.args.places.now in
-    let f = spoke_at c.args.starts (point_of value c.args.v) (link_edges value c.args.links.now) c.args.states.now in
+    let f = spoke_at c.args.starts c.args.v (link_edges c.args.links.now) c.args.states.now in
     let moved = c.sort_ways.ensures in
     let whole = written_back new c.loop-i.ways.items c.loop-i.ways.len (omega (arith, length_permutation _ new moved, c.deref_mut.ensures.len)) in
     let taken = c.loop-i.invariant ∙ ap (flat_map f) (take_all c.loop-i.i places (omega (arith, c.loop-i-test.false))) in
-    subst (IsPermutation (flat_map f places)) (ap (map (λ w. numbered value w.far w.place)) (sym whole ∙ sym c.deref.ensures.value) ∙ sym c.in_ok-spokes.ensures.is)
-    (subst (λ (ns : List Numbered). IsPermutation ns (map (λ w. numbered value w.far w.place) new)) (ap (map (λ w. numbered value w.far w.place)) c.deref_mut.ensures.value ∙ taken) (IsPermutation-map (λ w. numbered value w.far w.place) _ new moved))
+    subst (IsPermutation (flat_map f places)) (ap (map (λ w. numbered w.far w.place)) (sym whole ∙ sym c.deref.ensures.value) ∙ sym c.in_ok-spokes.ensures.is)
+    (subst (λ (ns : List Numbered). IsPermutation ns (map (λ w. numbered w.far w.place) new)) (ap (map (λ w. numbered w.far w.place)) c.deref_mut.ensures.value ∙ taken) (IsPermutation-map (λ w. numbered w.far w.place) _ new moved))
 
 pub returns-in_err-add_way-clause-all : goal.returns-in_err-add_way-clause-all
 returns-in_err-add_way-clause-all g c = rw ((err_from_is_err_and c.from_residual.result c.from_residual.ensures.1).1) tt
@@ -38,17 +36,16 @@ pub returns-in_err-spokes-clause-in_range : goal.returns-in_err-spokes-clause-in
 returns-in_err-spokes-clause-in_range g c = rw ((err_from_is_err_and c.from_residual-in_err-spokes.result c.from_residual-in_err-spokes.ensures.1).1) tt
 
 pub loop-i-init : goal.loop-i-init
-loop-i-init g c = ap (map (λ w. numbered g.I.OverlayInt.value w.far w.place)) c.new-ways.ensures.items
+loop-i-init g c = ap (map (λ w. numbered w.far w.place)) c.new-ways.ensures.items
 
 pub loop-i-preserved : goal.loop-i-preserved
 loop-i-preserved g c =
-    let value = g.I.OverlayInt.value in
     let places = c.args.places.now in
     let i = c.loop-i.i in
-    let f = spoke_at c.args.starts (point_of value c.args.v) (link_edges value c.args.links.now) c.args.states.now in
+    let f = spoke_at c.args.starts c.args.v (link_edges c.args.links.now) c.args.states.now in
     let more : take (i + 1) places ≡ take i places ++ get_or places i 0 ∷ [] = take_more places i 0 c.loop-i-test.true in
     c.in_ok-add_way.ensures.is
-    ∙ (ap (λ ns. ns ++ spoke_list value c.spoke_at-spoke.result) c.loop-i.invariant
+    ∙ (ap (λ ns. ns ++ spoke_list c.spoke_at-spoke.result) c.loop-i.invariant
     ∙ (ap (λ ns. flat_map f (take i places) ++ ns) c.spoke_at-spoke.ensures.is
     ∙ (flat_map_more f [] (take i places) (get_or places i 0) ∙ sym (ap (flat_map f) more))))
 

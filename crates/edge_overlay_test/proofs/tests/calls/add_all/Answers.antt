@@ -6,6 +6,6 @@ use Rattle.edge_overlay_test.proofs.tests.calls.add_all.Goals as goal
 
 pub add_edges-requires-clause-in_range : goal.add_edges-requires-clause-in_range
 add_edges-requires-clause-in_range c =
-    let within = IsInputWithin (λ x. x) (negsuc 524287) (pos 524287) in
+    let within = IsInputWithin (negsuc 524287) (pos 524287) in
     all_along within c.copied.result (subst (All within) (sym (ap iter_rest c.copied.ensures.source ∙ c.iter.ensures.rest))
     (c.are_inputs_within.ensures c.if-are_inputs_within.true))

@@ -9,7 +9,7 @@ pub loop-edge-preserved : goal.loop-edge-preserved
 loop-edge-preserved g c =
     let i = c.loop-edge.edge-index in
     rw (taken_to c.args.edges.now i (i + 1) c.edge-item.result refl (omega (arith, c.loop-edge-test.true)) c.edge-item.is)
-    (All-push (IsInputWithin g.I.OverlayInt.value g.I.OverlayInt.least g.I.OverlayInt.greatest) _ c.edge-item.result c.loop-edge.invariant
+    (All-push (IsInputWithin g.I.OverlayInt.least g.I.OverlayInt.greatest) _ c.edge-item.result c.loop-edge.invariant
     (c.is_in_range.ensures.0 c.if-not-is_in_range.false, c.is_in_range-else-not-is_in_range.ensures.0 c.if-not-is_in_range-2.false))
 
 pub returns : goal.returns

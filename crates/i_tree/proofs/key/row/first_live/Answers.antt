@@ -1,4 +1,4 @@
-use Rattle.std.proofs.Common.{◌≡◌, ◌<◌, ◌≤◌, length, drop, get_or, true, false, ◌∙◌, arith, subst}
+use Rattle.std.proofs.Common.{◌≡◌, ◌<◌, length, drop, get_or, true, false, ◌∙◌, arith, subst}
 use Rattle.std.proofs.lemmas.List.{get_or_default}
 use Rattle.i_tree.specs.LiveList.{is_live, live_at}
 use Rattle.i_tree.proofs.Keys.Rows.{live, drop-false}

@@ -1,14 +1,12 @@
-use Rattle.plane_base.specs.SegmentViews.{edge_of, meeting_of}
+use Rattle.plane_base.specs.SegmentViews.{meeting_of}
 use Rattle.plane_base.specs.declared.rounding.Rounding.TheVariants.{Near}
 use Rattle.plane_base.proofs.SolverLaws.{marks_of, none_of}
 use Rattle.plane_base.proofs.cross.CrossSolver.cross.Goals as goal
 
 pub returns-clause-marks : goal.returns-clause-marks
 returns-clause-marks g c =
-    let value = g.I.OverlayInt.value in
-    marks_of (Near c.args.radius) (edge_of value c.args.target) (edge_of value c.args.other) (meeting_of value c.met.result.result) c.requires.not_greater c.met.ensures.is
+    marks_of (Near c.args.radius) c.args.target c.args.other (meeting_of c.met.result.result) c.requires.not_greater c.met.ensures.is
 
 pub returns-clause-none : goal.returns-clause-none
 returns-clause-none g c =
-    let value = g.I.OverlayInt.value in
-    none_of value (Near c.args.radius) (edge_of value c.args.target) (edge_of value c.args.other) c.met.result.result c.met.ensures.is
+    none_of (Near c.args.radius) c.args.target c.args.other c.met.result.result c.met.ensures.is

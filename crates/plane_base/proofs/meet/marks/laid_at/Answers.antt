@@ -1,4 +1,3 @@
-use Rattle.plane_base.specs.SegmentViews.{edge_of}
 use Rattle.plane_base.proofs.Facts.Crossings.Roundings.{line_flat}
 use Rattle.plane_base.proofs.meet.marks.laid_at.Goals as goal
 
@@ -7,5 +6,4 @@ ends_inside-requires-clause-on_line g c = c.requires.on_line c.in-Overlay.is
 
 pub ends_inside-requires-in-Overlay-clause-on_line : goal.ends_inside-requires-in-Overlay-clause-on_line
 ends_inside-requires-in-Overlay-clause-on_line g c =
-    let value = g.I.OverlayInt.value in
-    (line_flat (edge_of value c.args.target) (edge_of value c.args.other) (c.requires.on_line c.in-Overlay.is)).swapped
+    (line_flat c.args.target c.args.other (c.requires.on_line c.in-Overlay.is)).swapped

@@ -14,7 +14,7 @@ is_mean-requires-clause-number_in_range g c = rw (to_z-of_z w64 c.to_i64-3.resul
 
 pub returns : goal.returns
 returns g c =
-    let value = g.I.OverlayInt.value in
+    let value = g.I.IntNumber.value in
     let number = g.I.Wide.WideIntNumber.number in
     (rw (to_z-of_z w64 c.to_i64.result (record { sfits = c.to_i64.type_inv }), to_z-of_z w64 c.to_i64-2.result (record { sfits = c.to_i64-2.type_inv }), to_z-of_z w64 c.to_i64-3.result (record { sfits = c.to_i64-3.type_inv }), c.to_i64.ensures, c.to_i64-2.ensures, c.to_i64-3.ensures) at c.is_mean.ensures)
     ∙ sym (mean_weighed (value c.args.a) (value c.args.b) (value c.args.number) (number c.args.u) (number c.args.v) c.requires.u_fits.0 c.requires.v_fits.0)

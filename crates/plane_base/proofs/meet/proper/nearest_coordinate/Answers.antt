@@ -20,17 +20,17 @@ second_fits g c = record { sfits = c.to_i64-2.type_inv }
 mean_fits : (g : Over) (c : After-nearest_mean g) → FitsSigned w64 c.nearest_mean.result
 mean_fits g c = record { sfits = c.nearest_mean.type_inv }
 
-mean_is : (g : Over) (c : After-nearest_mean g) → c.nearest_mean.result ≡ nearest (weighed_by (g.I.Wide.WideIntNumber.number c.args.u) (g.I.Wide.WideIntNumber.number c.args.v) (g.I.OverlayInt.value c.args.a) (g.I.OverlayInt.value c.args.b)) (bottom_of (g.I.Wide.WideIntNumber.number c.args.u) (g.I.Wide.WideIntNumber.number c.args.v))
+mean_is : (g : Over) (c : After-nearest_mean g) → c.nearest_mean.result ≡ nearest (weighed_by (g.I.Wide.WideIntNumber.number c.args.u) (g.I.Wide.WideIntNumber.number c.args.v) (g.I.IntNumber.value c.args.a) (g.I.IntNumber.value c.args.b)) (bottom_of (g.I.Wide.WideIntNumber.number c.args.u) (g.I.Wide.WideIntNumber.number c.args.v))
 mean_is g c =
     let first = to_z-of_z w64 c.to_i64.result (first_fits g c) ∙ c.to_i64.ensures in
     let second = to_z-of_z w64 c.to_i64-2.result (second_fits g c) ∙ c.to_i64-2.ensures in
     c.nearest_mean.ensures
     ∙ (ap₂ (λ a b. nearest ((g.I.Wide.WideIntNumber.number c.args.v *ℤ a) +ℤ (g.I.Wide.WideIntNumber.number c.args.u *ℤ b)) (bottom_of (g.I.Wide.WideIntNumber.number c.args.u) (g.I.Wide.WideIntNumber.number c.args.v))) first second
-    ∙ sym (nearest_weighed (g.I.OverlayInt.value c.args.a) (g.I.OverlayInt.value c.args.b) (g.I.Wide.WideIntNumber.number c.args.u) (g.I.Wide.WideIntNumber.number c.args.v) c.requires.u_fits.0 c.requires.v_fits.0))
+    ∙ sym (nearest_weighed (g.I.IntNumber.value c.args.a) (g.I.IntNumber.value c.args.b) (g.I.Wide.WideIntNumber.number c.args.u) (g.I.Wide.WideIntNumber.number c.args.v) c.requires.u_fits.0 c.requires.v_fits.0))
 
-mean_within : (g : Over) (c : After-nearest_mean g) → IsCoordinate g.I.OverlayInt.least g.I.OverlayInt.greatest (nearest (weighed_by (g.I.Wide.WideIntNumber.number c.args.u) (g.I.Wide.WideIntNumber.number c.args.v) (g.I.OverlayInt.value c.args.a) (g.I.OverlayInt.value c.args.b)) (bottom_of (g.I.Wide.WideIntNumber.number c.args.u) (g.I.Wide.WideIntNumber.number c.args.v)))
+mean_within : (g : Over) (c : After-nearest_mean g) → IsCoordinate g.I.OverlayInt.least g.I.OverlayInt.greatest (nearest (weighed_by (g.I.Wide.WideIntNumber.number c.args.u) (g.I.Wide.WideIntNumber.number c.args.v) (g.I.IntNumber.value c.args.a) (g.I.IntNumber.value c.args.b)) (bottom_of (g.I.Wide.WideIntNumber.number c.args.u) (g.I.Wide.WideIntNumber.number c.args.v)))
 mean_within g c =
-    nearest_mean_within (g.I.OverlayInt.value c.args.a) (g.I.OverlayInt.value c.args.b) g.I.OverlayInt.least g.I.OverlayInt.greatest (unsigned_abs (g.I.Wide.WideIntNumber.number c.args.u)) (unsigned_abs (g.I.Wide.WideIntNumber.number c.args.v)) (weights_above (g.I.Wide.WideIntNumber.number c.args.u) (g.I.Wide.WideIntNumber.number c.args.v) c.requires.u_fits.0) c.requires.a_in_range.0 c.requires.a_in_range.1 c.requires.b_in_range.0 c.requires.b_in_range.1
+    nearest_mean_within (g.I.IntNumber.value c.args.a) (g.I.IntNumber.value c.args.b) g.I.OverlayInt.least g.I.OverlayInt.greatest (unsigned_abs (g.I.Wide.WideIntNumber.number c.args.u)) (unsigned_abs (g.I.Wide.WideIntNumber.number c.args.v)) (weights_above (g.I.Wide.WideIntNumber.number c.args.u) (g.I.Wide.WideIntNumber.number c.args.v) c.requires.u_fits.0) c.requires.a_in_range.0 c.requires.a_in_range.1 c.requires.b_in_range.0 c.requires.b_in_range.1
 
 pub nearest_mean-requires-clause-a_in_range : goal.nearest_mean-requires-clause-a_in_range
 nearest_mean-requires-clause-a_in_range g c = rw (to_z-of_z w64 c.to_i64.result (record { sfits = c.to_i64.type_inv }), c.to_i64.ensures) c.requires.a_in_range
@@ -53,6 +53,6 @@ returns-clause-within g c =
 
 pub returns-then-is_level-clause-is : goal.returns-then-is_level-clause-is
 returns-then-is_level-clause-is g c =
-    let a = g.I.OverlayInt.value c.args.a in
-    let b = g.I.OverlayInt.value c.args.b in
+    let a = g.I.IntNumber.value c.args.a in
+    let b = g.I.IntNumber.value c.args.b in
     sym (nearest_mean_level a b (unsigned_abs (g.I.Wide.WideIntNumber.number c.args.u)) (unsigned_abs (g.I.Wide.WideIntNumber.number c.args.v)) (weights_above (g.I.Wide.WideIntNumber.number c.args.u) (g.I.Wide.WideIntNumber.number c.args.v) c.requires.u_fits.0) ((Decides-int_eq a b).0 (sym c.is_level.ensures ∙ c.if-is_level.true)))

@@ -1,20 +1,16 @@
 use Rattle.std.proofs.Common.{◌∙◌, sym, true, false}
-use Rattle.plane_base.specs.Views.{point_of}
-use Rattle.plane_base.specs.SegmentViews.{edge_of}
 use Rattle.plane_base.proofs.Facts.Crossings.Steps.{test_told, snapped_other, snapped_target}
 use Rattle.plane_base.proofs.meet.proper.snapped.Goals as goal
 
 pub returns-then-is_less-clause-is : goal.returns-then-is_less-clause-is
 returns-then-is_less-clause-is g c =
-    let value = g.I.OverlayInt.value in
     c.at_end.ensures.is
-    ∙ sym (snapped_other (edge_of value c.args.target) (edge_of value c.args.other) c.args.radius (point_of value c.args.point) (point_of value c.nearer-own.result) (point_of value c.nearer-foreign.result) c.nearer-own.ensures.is c.nearer-foreign.ensures.is (test_told _ _ _ _ c.is_less.result true c.squared_distance.ensures.is c.squared_distance-2.ensures.is c.is_less.ensures c.if-is_less.true))
+    ∙ sym (snapped_other c.args.target c.args.other c.args.radius c.args.point c.nearer-own.result c.nearer-foreign.result c.nearer-own.ensures.is c.nearer-foreign.ensures.is (test_told _ _ _ _ c.is_less.result true c.squared_distance.ensures.is c.squared_distance-2.ensures.is c.is_less.ensures c.if-is_less.true))
 
 pub returns-clause-is : goal.returns-clause-is
 returns-clause-is g c =
-    let value = g.I.OverlayInt.value in
     c.at_end-2.ensures.is
-    ∙ sym (snapped_target (edge_of value c.args.target) (edge_of value c.args.other) c.args.radius (point_of value c.args.point) (point_of value c.nearer-own.result) (point_of value c.nearer-foreign.result) c.nearer-own.ensures.is c.nearer-foreign.ensures.is (test_told _ _ _ _ c.is_less.result false c.squared_distance.ensures.is c.squared_distance-2.ensures.is c.is_less.ensures c.if-is_less.false))
+    ∙ sym (snapped_target c.args.target c.args.other c.args.radius c.args.point c.nearer-own.result c.nearer-foreign.result c.nearer-own.ensures.is c.nearer-foreign.ensures.is (test_told _ _ _ _ c.is_less.result false c.squared_distance.ensures.is c.squared_distance-2.ensures.is c.is_less.ensures c.if-is_less.false))
 
 pub nearer-own-requires-clause-in_range : goal.nearer-own-requires-clause-in_range
 nearer-own-requires-clause-in_range g c = c.requires.target_in_range

@@ -1,4 +1,3 @@
-use Rattle.plane_base.specs.SegmentViews.{edge_of}
 use Rattle.plane_base.proofs.Facts.Crossings.Tests.{ends_apart}
 use Rattle.plane_base.proofs.Facts.Crossings.Steps.{size_allowed, weight_fits, weights_tell}
 use Rattle.plane_base.proofs.meet.proper.weights_of.Goals as goal
@@ -11,15 +10,12 @@ size-requires-2 g c = size_allowed g.I.OverlayInt.most g.I.Wide.WideIntNumber.li
 
 pub returns-clause-is : goal.returns-clause-is
 returns-clause-is g c =
-    let value = g.I.OverlayInt.value in
-    weights_tell (edge_of value c.args._target) (edge_of value c.args._other) (g.I.Wide.WideIntNumber.number c.args.own.a) (g.I.Wide.WideIntNumber.number c.args.own.b) (g.I.Wide.WideIntNumber.number c.size.result) (g.I.Wide.WideIntNumber.number c.size-2.result) c.requires.own.a.0 c.requires.own.b.0 c.size.ensures c.size-2.ensures
+    weights_tell c.args._target c.args._other (g.I.Wide.WideIntNumber.number c.args.own.a) (g.I.Wide.WideIntNumber.number c.args.own.b) (g.I.Wide.WideIntNumber.number c.size.result) (g.I.Wide.WideIntNumber.number c.size-2.result) c.requires.own.a.0 c.requires.own.b.0 c.size.ensures c.size-2.ensures
 
 pub returns-clause-first_fits : goal.returns-clause-first_fits
 returns-clause-first_fits g c =
-    let value = g.I.OverlayInt.value in
-    weight_fits g.I.OverlayInt.most (g.I.Wide.WideIntNumber.number c.args.own.a) _ (g.I.Wide.WideIntNumber.number c.size.result) c.requires.own.a (ends_apart (edge_of value c.args._target) (edge_of value c.args._other) c.requires.proper).0 c.size.ensures
+    weight_fits g.I.OverlayInt.most (g.I.Wide.WideIntNumber.number c.args.own.a) _ (g.I.Wide.WideIntNumber.number c.size.result) c.requires.own.a (ends_apart c.args._target c.args._other c.requires.proper).0 c.size.ensures
 
 pub returns-clause-second_fits : goal.returns-clause-second_fits
 returns-clause-second_fits g c =
-    let value = g.I.OverlayInt.value in
-    weight_fits g.I.OverlayInt.most (g.I.Wide.WideIntNumber.number c.args.own.b) _ (g.I.Wide.WideIntNumber.number c.size-2.result) c.requires.own.b (ends_apart (edge_of value c.args._target) (edge_of value c.args._other) c.requires.proper).1 c.size-2.ensures
+    weight_fits g.I.OverlayInt.most (g.I.Wide.WideIntNumber.number c.args.own.b) _ (g.I.Wide.WideIntNumber.number c.size-2.result) c.requires.own.b (ends_apart c.args._target c.args._other c.requires.proper).1 c.size-2.ensures

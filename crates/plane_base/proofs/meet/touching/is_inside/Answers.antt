@@ -1,6 +1,4 @@
 use Rattle.std.proofs.Common.{sym, ◌∙◌}
-use Rattle.plane_base.specs.Views.{point_of}
-use Rattle.plane_base.specs.SegmentViews.{edge_of}
 use Rattle.plane_base.proofs.Facts.Numbers.Signs.{zero_told}
 use Rattle.plane_base.proofs.Facts.Crossings.Steps.{outside_off_line}
 use Rattle.plane_base.proofs.meet.touching.is_inside.Goals as goal
@@ -13,6 +11,5 @@ returns-then-is_zero g c = c.is_between.ensures
 
 pub returns-else-is_zero : goal.returns-else-is_zero
 returns-else-is_zero g c =
-    let value = g.I.OverlayInt.value in
     c.if-is_zero.false
-    ∙ outside_off_line (point_of value c.args.p) (edge_of value c.args.s) (g.I.Wide.WideIntNumber.number c.args.side) c.is_zero.result c.requires c.is_zero.ensures c.if-is_zero.false
+    ∙ outside_off_line c.args.p c.args.s (g.I.Wide.WideIntNumber.number c.args.side) c.is_zero.result c.requires c.is_zero.ensures c.if-is_zero.false

@@ -1,4 +1,4 @@
-use Rattle.std.proofs.Common.{◌≡◌, ◌<◌, ◌∙◌, sym, ap, [], length, arith}
+use Rattle.std.proofs.Common.{◌<◌, ◌∙◌, sym, ap, [], length, arith}
 use Rattle.std.proofs.lemmas.List.{get_or-map, length-map}
 use Rattle.plane_base.proofs.resource.IntShapeIntShapeResource.path.Goals as goal
 

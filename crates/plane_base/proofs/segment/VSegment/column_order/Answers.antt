@@ -1,8 +1,6 @@
 use Rattle.std.proofs.Common.{◌≡◌, sym, ap, Ordering, Equal}
 use Rattle.plane_base.specs.Plane.{Point, Edge, point_order}
 use Rattle.plane_base.specs.Segments.{angle_order, column_order}
-use Rattle.plane_base.specs.Views.{point_of}
-use Rattle.plane_base.specs.SegmentViews.{edge_of}
 use Rattle.plane_base.proofs.segment.VSegment.column_order.Goals as goal
 
 -- where both start together, they are held by angle
@@ -11,5 +9,4 @@ by_angle s t a b r d e o h = let same : point_order s.a t.a ≡ Equal = sym (rw 
 
 pub returns-in-Equal : goal.returns-in-Equal
 returns-in-Equal g c =
-    let value = g.I.OverlayInt.value in
-    by_angle (edge_of value c.args.self) (edge_of value c.args.other) (point_of value c.self.inside.a) (point_of value c.other.inside.a) _ (ap (λ s. point_of value s.a) c.self.view_is) (ap (λ s. point_of value s.a) c.other.view_is) c.in-Equal.ensures c.angle_order.ensures
+    by_angle c.args.self c.args.other c.self.inside.a c.other.inside.a _ (ap (λ s. s.a) c.self.view_is) (ap (λ s. s.a) c.other.view_is) c.in-Equal.ensures c.angle_order.ensures

@@ -1,13 +1,12 @@
 use Rattle.std.proofs.Common.{All}
 use Rattle.std.proofs.lemmas.Result.{err_from_is_err_and}
 use Rattle.plane_base.specs.Plane.{IsWithin}
-use Rattle.plane_base.specs.Views.{points_of}
 use Rattle.polybool.proofs.PointLaws.{All_more}
 use Rattle.polybool.proofs.kept.Kept.keep_subject.Goals as goal
 
 pub invariant_of-self-clause-subjects_in_range : goal.invariant_of-self-clause-subjects_in_range
 invariant_of-self-clause-subjects_in_range g c =
-    All_more (λ contour. All (IsWithin g.I.OverlayInt.least g.I.OverlayInt.greatest) (points_of g.I.OverlayInt.value contour.points.items)) c.args.self.now.subjects.contours.items _ c.args.contour _
+    All_more (λ contour. All (IsWithin g.I.OverlayInt.least g.I.OverlayInt.greatest) contour.points.items) c.args.self.now.subjects.contours.items _ c.args.contour _
     c.push.ensures.items c.args.self.now.subjects_in_range c.requires
 
 pub returns-in_err-push-clause-kept : goal.returns-in_err-push-clause-kept

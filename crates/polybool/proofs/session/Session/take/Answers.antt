@@ -8,7 +8,7 @@ use Rattle.polybool.proofs.session.Session.take.Goals as goal
 pub loop-line-init : goal.loop-line-init
 loop-line-init g c = record {
   answered = omega arith;
-  stands = λ input output st. ([], [], refl, Appends-nil _, Stands-at g.I.OverlayInt.value g.I.OverlayInt.least g.I.OverlayInt.greatest c.args.self.now (sym (append-nil input)) (sym (append-nil output)) st);
+  stands = λ input output st. ([], [], refl, Appends-nil _, Stands-at g.I.IntNumber.value g.I.OverlayInt.least g.I.OverlayInt.greatest c.args.self.now (sym (append-nil input)) (sym (append-nil output)) st);
 }
 
 pub returns-in_err-answer-clause-stands : goal.returns-in_err-answer-clause-stands
@@ -23,7 +23,7 @@ returns-in_err-answer-clause-stands g c input output st =
       rw p.1 (StopsWriting-at g.I.OverlayInt.least g.I.OverlayInt.greatest c.answer.new.self.answered
           (append_assoc input so_far.0 _ ∙ ap (λ t. input ++ t) (ap (λ r. so_far.0 ++ r) (sym found.0) ∙ sym so_far.2))
           (append_assoc output so_far.1 sent.0)
-          (stops_more g.I.OverlayInt.value g.I.OverlayInt.least g.I.OverlayInt.greatest c.loop-line.self c.answer.new.self _ _ c.in-Some.line.now c.in-Some.after.now sent.0 sent.1 now found.1 c.answer.ensures.number (c.add.new.self.state, sent.2) sent.4)),
+          (stops_more g.I.IntNumber.value g.I.OverlayInt.least g.I.OverlayInt.greatest c.loop-line.self c.answer.new.self _ _ c.in-Some.line.now c.in-Some.after.now sent.0 sent.1 now found.1 c.answer.ensures.number (c.add.new.self.state, sent.2) sent.4)),
     )
 
 pub loop-line-preserved : goal.loop-line-preserved
@@ -39,8 +39,8 @@ loop-line-preserved g c = record {
         so_far.1 ++ sent.0,
         so_far.2 ∙ ap (λ r. so_far.0 ++ r) found.0 ∙ sym (append_assoc so_far.0 (ended c.in-Some.line.now) c.in-Some.after.now),
         Appends-trans _ _ _ so_far.1 sent.0 so_far.3 sent.3,
-        Stands-at g.I.OverlayInt.value g.I.OverlayInt.least g.I.OverlayInt.greatest c.answer.new.self (append_assoc input so_far.0 (ended c.in-Some.line.now)) (append_assoc output so_far.1 sent.0)
-            (stands_more g.I.OverlayInt.value g.I.OverlayInt.least g.I.OverlayInt.greatest c.loop-line.self c.answer.new.self _ _ c.in-Some.line.now sent.0 sent.1 now found.1 c.answer.ensures.number c.answer.ensures.line (c.add.new.self.state, sent.2) sent.4),
+        Stands-at g.I.IntNumber.value g.I.OverlayInt.least g.I.OverlayInt.greatest c.answer.new.self (append_assoc input so_far.0 (ended c.in-Some.line.now)) (append_assoc output so_far.1 sent.0)
+            (stands_more g.I.IntNumber.value g.I.OverlayInt.least g.I.OverlayInt.greatest c.loop-line.self c.answer.new.self _ _ c.in-Some.line.now sent.0 sent.1 now found.1 c.answer.ensures.number c.answer.ensures.line (c.add.new.self.state, sent.2) sent.4),
       );
 }
 
@@ -50,6 +50,6 @@ returns-clause-stands g c input output st =
     let now = so_far.4 in (
       so_far.1,
       so_far.3,
-      Stands-at g.I.OverlayInt.value g.I.OverlayInt.least g.I.OverlayInt.greatest _ (append_assoc input so_far.0 _ ∙ ap (λ t. input ++ t) (sym so_far.2)) refl
-          (stands_rest g.I.OverlayInt.value g.I.OverlayInt.least g.I.OverlayInt.greatest c.loop-line.self _ _ _ c.loop-line.rest.now now c.in_default.ensures.none refl refl (c.add-2.ensures.holds now.rest now.held)),
+      Stands-at g.I.IntNumber.value g.I.OverlayInt.least g.I.OverlayInt.greatest _ (append_assoc input so_far.0 _ ∙ ap (λ t. input ++ t) (sym so_far.2)) refl
+          (stands_rest g.I.IntNumber.value g.I.OverlayInt.least g.I.OverlayInt.greatest c.loop-line.self _ _ _ c.loop-line.rest.now now c.in_default.ensures.none refl refl (c.add-2.ensures.holds now.rest now.held)),
     )

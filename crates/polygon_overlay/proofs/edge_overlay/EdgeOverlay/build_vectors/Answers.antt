@@ -17,7 +17,7 @@ invariant_of-self g c =
     let edges = c.find_vectors.new.held.edges in
     record {
       sound = record { within = held.within; directed = held.directed; counted = held.counted };
-      tallied = subst (λ ends. IsTallyOf (leavings_of g.I.OverlayInt.value ends) edges) (sym c.clear.ensures.none) (tally_of_balanced edges held.balanced);
+      tallied = subst (λ ends. IsTallyOf (leavings_of ends) edges) (sym c.clear.ensures.none) (tally_of_balanced edges held.balanced);
     }
 
 pub returns-clause-asked : goal.returns-clause-asked

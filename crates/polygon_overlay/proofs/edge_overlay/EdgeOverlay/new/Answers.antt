@@ -9,15 +9,14 @@ use Rattle.polygon_overlay.proofs.edge_overlay.EdgeOverlay.new.Goals as goal
 
 pub invariant_of-result : goal.invariant_of-result
 invariant_of-result g c =
-    let value = g.I.OverlayInt.value in
     let held = nothing_held g.I.OverlayInt.least g.I.OverlayInt.greatest in
     let none = sym (ap (λ h. h.edges) c.in_ok-held.ensures.empty) in
     record {
       sound = subst (AreHeldEdges g.I.OverlayInt.least g.I.OverlayInt.greatest) none
           (record { within = held.within; directed = held.directed; counted = held.counted });
       tallied =
-          subst (IsTallyOf (leavings_of value c.in_ok-tally.tally.ends.items)) none
-          (subst (λ ends. IsTallyOf (leavings_of value ends) []) (sym c.in_ok-tally.ensures.empty) (tally_of_balanced [] held.balanced));
+          subst (IsTallyOf (leavings_of c.in_ok-tally.tally.ends.items)) none
+          (subst (λ ends. IsTallyOf (leavings_of ends) []) (sym c.in_ok-tally.ensures.empty) (tally_of_balanced [] held.balanced));
     }
 
 pub returns-in_err-store : goal.returns-in_err-store

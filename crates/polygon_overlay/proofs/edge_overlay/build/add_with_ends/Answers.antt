@@ -2,7 +2,6 @@ use Rattle.std.proofs.Common.{◌≡◌, ◌<◌, ◌+◌, ◌-◌, ◌/◌, ◌
 use Rattle.std.proofs.lemmas.List.{length-append}
 use Rattle.std.proofs.lemmas.Result.{err_from_is_err_and}
 use Rattle.plane_base.specs.Counts.{boolean, lay}
-use Rattle.plane_base.specs.Views.{point_of}
 use Rattle.segment_split.specs.Adding.{LacksRoom}
 use Rattle.segment_split.specs.Holdings.{IsRefusedBy}
 use Rattle.polygon_overlay.specs.Tallies.{leavings_of, IsTallyOf, spare_of}
@@ -14,7 +13,7 @@ use Rattle.polygon_overlay.proofs.edge_overlay.build.add_with_ends.Goals as goal
 
 pub returns-in_err-reserve-clause-tallied : goal.returns-in_err-reserve-clause-tallied
 returns-in_err-reserve-clause-tallied g c tally =
-    subst (λ ends. IsTallyOf (leavings_of g.I.OverlayInt.value ends) c.args.held.now.edges) (sym c.reserve.ensures.same) tally
+    subst (λ ends. IsTallyOf (leavings_of ends) c.args.held.now.edges) (sym c.reserve.ensures.same) tally
 
 pub returns-in_err-reserve-clause-ends_room : goal.returns-in_err-reserve-clause-ends_room
 returns-in_err-reserve-clause-ends_room g c =
@@ -28,8 +27,8 @@ returns-in_err-reserve-clause-refused g c =
     let n = length c.args.held.now.edges in
     let new = c.reserve.new.self in
     let why = c.in_err-reserve.ensures.refused in
-    let a = point_of g.I.OverlayInt.value c.args.edge.a in
-    let b = point_of g.I.OverlayInt.value c.args.edge.b in
+    let a = c.args.edge.a in
+    let b = c.args.edge.b in
     let more = length (lay boolean a b c.args.count) in
     let one : 1 ≡ more = sym (lay_one boolean a b c.args.count c.requires.apart) in
     let lacks = subst (λ m. n + (spare_of new / 2) < n + m) one
@@ -41,9 +40,8 @@ returns-in_err-reserve-clause-refused g c =
 
 pub returns-in_err-add_edge-clause-tallied : goal.returns-in_err-add_edge-clause-tallied
 returns-in_err-add_edge-clause-tallied g c tally =
-    let value = g.I.OverlayInt.value in
-    subst (λ h. IsTallyOf (leavings_of value c.reserve.new.self.ends.items) h.edges) (sym c.in_err-add_edge.ensures.takes.unchanged)
-    (subst (λ ends. IsTallyOf (leavings_of value ends) c.args.held.now.edges) (sym c.reserve.ensures.same) tally)
+    subst (λ h. IsTallyOf (leavings_of c.reserve.new.self.ends.items) h.edges) (sym c.in_err-add_edge.ensures.takes.unchanged)
+    (subst (λ ends. IsTallyOf (leavings_of ends) c.args.held.now.edges) (sym c.reserve.ensures.same) tally)
 
 pub returns-in_err-add_edge-clause-ends_room : goal.returns-in_err-add_edge-clause-ends_room
 returns-in_err-add_edge-clause-ends_room g c =
@@ -55,7 +53,7 @@ pub returns-in_err-add_edge-clause-refused : goal.returns-in_err-add_edge-clause
 returns-in_err-add_edge-clause-refused g c =
     let p = err_from_is_err_and c.from_residual-in_err-add_edge.result c.from_residual-in_err-add_edge.ensures.1 in
     let n = length c.args.held.now.edges in
-    let more = length (lay boolean (point_of g.I.OverlayInt.value c.args.edge.a) (point_of g.I.OverlayInt.value c.args.edge.b) c.args.count) in
+    let more = length (lay boolean c.args.edge.a c.args.edge.b c.args.count) in
     let takes = c.in_err-add_edge.ensures.takes in
     let why = subst (λ b. IsRefusedBy b (LacksRoom c.args.held.now.room n more) c.in_err-add_edge.field-0.0) c.requires.ready takes.refused in
     rw p.1 (inl (subst (LacksRoom c.add_edge.new.self.room n more) (sym p.2) (subst (λ h. LacksRoom h.room n more c.in_err-add_edge.field-0.0) (sym takes.unchanged) why)))
@@ -64,20 +62,18 @@ returns-in_err-add_edge-clause-refused g c =
 
 pub returns-clause-tallied : goal.returns-clause-tallied
 returns-clause-tallied g c tally =
-    let value = g.I.OverlayInt.value in
-    let a = point_of value c.args.edge.a in
-    let b = point_of value c.args.edge.b in
+    let a = c.args.edge.a in
+    let b = c.args.edge.b in
     let es = c.args.held.now.edges in
     subst (λ ls. IsTallyOf ls c.add_edge.new.self.edges) (sym c.add.ensures.added)
-    (subst (λ es'. IsTallyOf (leavings_of value c.reserve.new.self.ends.items ++ both_ends a b c.args.count) es') (sym c.in_ok-add_edge.ensures.takes.added)
-    (tally_more (leavings_of value c.reserve.new.self.ends.items) es a b c.args.count
-    (subst (λ ends. IsTallyOf (leavings_of value ends) es) (sym c.reserve.ensures.same) tally)))
+    (subst (λ es'. IsTallyOf (leavings_of c.reserve.new.self.ends.items ++ both_ends a b c.args.count) es') (sym c.in_ok-add_edge.ensures.takes.added)
+    (tally_more (leavings_of c.reserve.new.self.ends.items) es a b c.args.count
+    (subst (λ ends. IsTallyOf (leavings_of ends) es) (sym c.reserve.ensures.same) tally)))
 
 pub returns-clause-ends_room : goal.returns-clause-ends_room
 returns-clause-ends_room g c =
-    let value = g.I.OverlayInt.value in
-    let a = point_of value c.args.edge.a in
-    let b = point_of value c.args.edge.b in
+    let a = c.args.edge.a in
+    let b = c.args.edge.b in
     let old = c.args.held.now.edges in
     let new = c.add_edge.new.self.edges in
     let len = length c.args.tally.now.ends.items in

@@ -1,12 +1,11 @@
 use Rattle.std.specs.Int.{w32, w128}
-use Rattle.std.specs.Prelude.{◌≡◌, ◌+◌, ◌*◌, ◌^◌, ◌<◌, ◌≤◌, ℕ, suc, ℤ, pos, neg_ℤ, ◌+ℤ◌, ◌≤ℤ◌, Bool, true, false, not, IsTrue, List, [], ◌∷◌, ◌++◌, map, take, drop, length}
-use Rattle.std.proofs.Common.{refl, sym, ap, ap₂, ◌∙◌, subst, arith, to_z, of_z, rules}
+use Rattle.std.specs.Prelude.{◌≡◌, ◌+◌, ◌*◌, ◌^◌, ◌<◌, ◌≤◌, ℕ, suc, ℤ, pos, neg_ℤ, ◌+ℤ◌, ◌≤ℤ◌, Bool, true, false, not, [], ◌∷◌, ◌++◌, map, take, drop}
+use Rattle.std.proofs.Common.{refl, sym, ap, ◌∙◌, subst, arith, to_z, of_z, rules}
 use Rattle.std.proofs.lemmas.Bool.{false≢true}
 use Rattle.std.proofs.lemmas.Int.{ints}
 use Rattle.std.proofs.lemmas.List.{take_all}
-use Rattle.plane_base.specs.Views.{point_of}
 use Rattle.polygon_overlay.specs.Tallies.{leaving_of, leavings_of, left_at, is_last, AreSorted}
-use Rattle.polygon_overlay.proofs.Holding.TallyLaws.{Walked, walked_none, walked_more, walked_all, all_walked, left_behind, one_more_taken, parts_taken}
+use Rattle.polygon_overlay.proofs.Holding.TallyLaws.{Walked, walked_more, walked_all, all_walked, left_behind, one_more_taken, parts_taken}
 use Rattle.contour_walk.proofs.Facts.Contours.Rays.{an_element}
 use Rattle.polygon_overlay.proofs.edge_overlay.tally.are_level.Goals as goal
 use Rattle.polygon_overlay.proofs.edge_overlay.tally.are_level.Goals.{else-starts_point-via-then-starts_point+else-not-are_none, else-starts_point-via-else-starts_point}
@@ -32,14 +31,13 @@ not_is true e = absurd (false≢true (sym e))
 
 pub returns-then-not-are_none : goal.returns-then-not-are_none
 returns-then-not-are_none g c =
-    let value = g.I.OverlayInt.value in
     let es = c.args.ends.now in
-    let f = leaving_of value in
+    let f = leaving_of {I = g.row.I.Denot} in
     let k = c.loop-place.place in
     let x = an_element es k c.loop-place-test.true in
     let rest = map f (drop (suc k) es) in
     let whole = parts_taken f es k x.0 c.loop-place-test.true x.1 in
-    let starts = not_is (is_last (leavings_of value (take k es)) (point_of value x.0.point)) (sym c.if-starts_point.true ∙ c.starts_point.ensures x.0 x.1) in
+    let starts = not_is (is_last (leavings_of (take k es)) x.0.point) (sym c.if-starts_point.true ∙ c.starts_point.ensures x.0 x.1) in
     let sorted = subst AreSorted whole c.requires.sorted in (
       λ t. absurd (false≢true t),
       λ level.
@@ -52,21 +50,20 @@ returns-then-not-are_none g c =
 
 pub loop-place-preserved : goal.loop-place-preserved
 loop-place-preserved g c =
-    let value = g.I.OverlayInt.value in
     let es = c.args.ends.now in
-    let f = leaving_of value in
+    let f = leaving_of {I = g.row.I.Denot} in
     let k = c.loop-place.place in
     let kept = c.loop-place.invariant in
     let x = c.index-ends-place.result in
     let is = c.index-ends-place.is in
     let same = c.count.view_is ∙ ap (λ e. e.count) (sym is) in
     let next : k + 1 ≡ suc k = omega arith in
-    let none : is_last (leavings_of value (take k es)) (point_of value x.point) ≡ false
+    let none : is_last (leavings_of (take k es)) x.point ≡ false
     → (to_z w128 c.loop-place.subject-bits ≡ pos 0) × (to_z w128 c.loop-place.clip-bits ≡ pos 0) =
     elim c.else-starts_point.branch [
       | else-starts_point-via-then-starts_point+else-not-are_none w ↦ λ other. w.are_none.ensures.0 w.if-not-are_none.false
       | else-starts_point-via-else-starts_point w ↦ λ other.
-          absurd (false≢true (sym other ∙ is_not (is_last (leavings_of value (take k es)) (point_of value x.point)) (sym w.if-starts_point.false ∙ c.starts_point.ensures x is)))
+          absurd (false≢true (sym other ∙ is_not (is_last (leavings_of (take k es)) x.point) (sym w.if-starts_point.false ∙ c.starts_point.ensures x is)))
     ] in
     let s_low : neg_ℤ (pos (2 ^ 31)) ≤ℤ c.count.inside.subj = omega (arith, ints, c.count.invariant.0) in
     let c_low : neg_ℤ (pos (2 ^ 31)) ≤ℤ c.count.inside.clip = omega (arith, ints, c.count.invariant.1) in
@@ -93,20 +90,19 @@ loop-place-preserved g c =
 
 pub returns : goal.returns
 returns g c =
-    let value = g.I.OverlayInt.value in
     let es = c.args.ends.now in
     let kept = c.loop-place.invariant in
     let all : take c.loop-place.place es ≡ es = take_all c.loop-place.place es c.loop-place-test.false in
-    let subject = subst (λ l. Walked (λ c. c.subject) (leavings_of value l) (to_z w128 c.loop-place.subject-bits)) all kept.subject in
-    let clip = subst (λ l. Walked (λ c. c.clip) (leavings_of value l) (to_z w128 c.loop-place.clip-bits)) all kept.clip in (
+    let subject = subst (λ l. Walked (λ c. c.subject) (leavings_of l) (to_z w128 c.loop-place.subject-bits)) all kept.subject in
+    let clip = subst (λ l. Walked (λ c. c.clip) (leavings_of l) (to_z w128 c.loop-place.clip-bits)) all kept.clip in (
       λ t.
           let none = c.are_none-2.ensures.0 t in
           record {
-            subject = walked_all (λ c. c.subject) (leavings_of value es) _ subject none.0;
-            clip = walked_all (λ c. c.clip) (leavings_of value es) _ clip none.1;
+            subject = walked_all (λ c. c.subject) (leavings_of es) _ subject none.0;
+            clip = walked_all (λ c. c.clip) (leavings_of es) _ clip none.1;
           },
       λ level. c.are_none-2.ensures.1 (
-        all_walked (λ c. c.subject) (leavings_of value es) _ subject level.subject,
-        all_walked (λ c. c.clip) (leavings_of value es) _ clip level.clip,
+        all_walked (λ c. c.subject) (leavings_of es) _ subject level.subject,
+        all_walked (λ c. c.clip) (leavings_of es) _ clip level.clip,
       ),
     )

@@ -5,7 +5,7 @@ use Rattle.polygon_overlay.proofs.edge_overlay.tally.are_level.Given as goal
 
 abbrev pub invariant-loop-place : goal.invariant-loop-place
 invariant-loop-place g l =
-    let walked = leavings_of g.I.OverlayInt.value (take l.place l.ends) in record {
+    let walked = leavings_of (take l.place l.ends) in record {
       subject : Walked (λ c. c.subject) walked l.subject;
       clip : Walked (λ c. c.clip) walked l.clip;
       subject_above : neg_ℤ (pos (2 ^ 31 * l.place)) ≤ℤ l.subject;

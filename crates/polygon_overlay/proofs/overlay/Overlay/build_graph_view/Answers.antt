@@ -68,7 +68,6 @@ returns-then-branch g c =
 
 pub returns : goal.returns
 returns g c =
-    let value = g.I.OverlayInt.value in
     let made = c.in_ok-make_graph.ensures in (
       (
         refl,
@@ -85,7 +84,7 @@ returns g c =
       ),
       record {
         lent = record {
-          links = ap (map (overlay_link_of value)) c.graph.ensures.links ∙ made.links;
+          links = ap (map overlay_link_of) c.graph.ensures.links ∙ made.links;
           nodes = c.graph.result.joined;
           numbers = c.graph.result.numbered;
           in_range = c.graph.result.in_range;

@@ -32,6 +32,6 @@ returns-clause-buffer g c = answered c.find_vector_shapes-found.result refl
 pub returns-clause-answered : goal.returns-clause-answered
 returns-clause-answered g c =
     let made = c.find_vector_shapes-found in
-    found_apart g.I.OverlayInt.value _ (λ d e. true) _ c.args.self.now.options (fill_rule_of c.args.fill_rule) (overlay_rule_of c.args.overlay_rule)
+    found_apart g.I.IntNumber.value _ (λ d e. true) _ c.args.self.now.options (fill_rule_of c.args.fill_rule) (overlay_rule_of c.args.overlay_rule)
     made.result made.new.held.with_data made.new.held.edges (redrawn_of c.args.self.now.solver.precision c.args.self.now.held.edges) (λ shapes. edges_of_shapes shapes.items) refl
     made.ensures.apart (on_answer made.result (ap (λ h. h.edges)) made.ensures.redrawn) made.ensures.answered

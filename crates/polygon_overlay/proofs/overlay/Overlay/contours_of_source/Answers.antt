@@ -1,7 +1,6 @@
-use Rattle.std.proofs.Common.{◌≡◌, ◌∙◌, ap, map}
+use Rattle.std.proofs.Common.{◌≡◌, ◌∙◌, ap}
 use Rattle.std.proofs.lemmas.Result.{err_from_is_err_and}
 use Rattle.plane_base.specs.Regions.{Subject}
-use Rattle.plane_base.specs.Views.{points_of}
 use Rattle.segment_arrangement.specs.RuleViews.{fill_rule_of}
 use Rattle.contour_walk.specs.Answering.{answering_of, flat_answer}
 use Rattle.contour_walk.specs.ShapeViews.{flat_of}
@@ -16,20 +15,19 @@ pub returns-in_err-hold_redrawn : goal.returns-in_err-hold_redrawn
 returns-in_err-hold_redrawn g c =
     let p = err_from_is_err_and c.from_residual.result c.from_residual.ensures.1 in
     record {
-      laid = refused_before (map (points_of g.I.OverlayInt.value) (g.R.IntShapeResource.paths c.args.resource.now)) c.args.self.now c.hold_redrawn.new.self
+      laid = refused_before (g.R.IntShapeResource.paths c.args.resource.now) c.args.self.now c.hold_redrawn.new.self
           c.from_residual.result p.0 _ p.1 p.2 c.in_err-hold_redrawn.ensures.held;
       well_formed = rw p.1 tt;
     }
 
 pub returns : goal.returns
 returns g c =
-    let value = g.I.OverlayInt.value in
     let mid = c.hold_redrawn.new.self in
     let fill = fill_rule_of c.args.fill_rule in
     let after = c.leave_contours.ensures in
-    let left = flat_of value c.leave_contours.new.output in
+    let left = flat_of c.leave_contours.new.output in
     record {
-      laid = overlaid (map (points_of value) (g.R.IntShapeResource.paths c.args.resource.now)) c.args.self.now
+      laid = overlaid (g.R.IntShapeResource.paths c.args.resource.now) c.args.self.now
           {IsHeld = IsHeld g.I.OverlayInt.least g.I.OverlayInt.greatest}
           (λ done o s before. left ≡ flat_overlay_of o fill Subject s.precision before) mid c.leave_contours.new.self tt c.leave_contours.result
           c.in_ok-hold_redrawn.ensures.held

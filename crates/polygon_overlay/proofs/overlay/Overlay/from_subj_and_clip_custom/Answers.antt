@@ -1,7 +1,6 @@
-use Rattle.std.proofs.Common.{[], map, inl, inr, refl, sym, ap, ◌∙◌, subst}
+use Rattle.std.proofs.Common.{[], inl, inr, refl, sym, ap, ◌∙◌, subst}
 use Rattle.std.proofs.lemmas.Result.{err_from_is_err_and}
 use Rattle.plane_base.specs.Counts.{one_subject, one_clip}
-use Rattle.plane_base.specs.Views.{points_of}
 use Rattle.polygon_overlay.specs.Builders.{IsNotMade}
 use Rattle.polygon_overlay.proofs.Holding.BuilderLaws.{all_added, part_added}
 use Rattle.polygon_overlay.proofs.overlay.Overlay.from_subj_and_clip_custom.Goals as goal
@@ -14,8 +13,8 @@ returns-in_err-overlay g c =
 pub returns-in_err-add_source : goal.returns-in_err-add_source
 returns-in_err-add_source g c =
     let p = err_from_is_err_and c.from_residual-in_err-add_source.result c.from_residual-in_err-add_source.ensures.1 in
-    let subjects = map (points_of g.I.OverlayInt.value) (g.S.IntShapeResource.paths c.args.subj.now) in
-    let clips = map (points_of g.I.OverlayInt.value) (g.C.IntShapeResource.paths c.args.clip.now) in
+    let subjects = (g.S.IntShapeResource.paths c.args.subj.now) in
+    let clips = (g.C.IntShapeResource.paths c.args.clip.now) in
     let keep_all = c.args.options.preserve_input_collinear in
     let new = c.in_ok-overlay.ensures.made in
     let keep = ap (λ o. o.preserve_input_collinear) new.options in
@@ -28,8 +27,8 @@ returns-in_err-add_source g c =
 pub returns-in_err-add_source-2 : goal.returns-in_err-add_source-2
 returns-in_err-add_source-2 g c =
     let p = err_from_is_err_and c.from_residual-in_err-add_source-2.result c.from_residual-in_err-add_source-2.ensures.1 in
-    let subjects = map (points_of g.I.OverlayInt.value) (g.S.IntShapeResource.paths c.args.subj.now) in
-    let clips = map (points_of g.I.OverlayInt.value) (g.C.IntShapeResource.paths c.args.clip.now) in
+    let subjects = (g.S.IntShapeResource.paths c.args.subj.now) in
+    let clips = (g.C.IntShapeResource.paths c.args.clip.now) in
     let keep_all = c.args.options.preserve_input_collinear in
     let new = c.in_ok-overlay.ensures.made in
     let first = c.in_ok-add_source.ensures in
@@ -48,8 +47,8 @@ returns-in_err-add_source-2 g c =
 
 pub returns : goal.returns
 returns g c =
-    let subjects = map (points_of g.I.OverlayInt.value) (g.S.IntShapeResource.paths c.args.subj.now) in
-    let clips = map (points_of g.I.OverlayInt.value) (g.C.IntShapeResource.paths c.args.clip.now) in
+    let subjects = (g.S.IntShapeResource.paths c.args.subj.now) in
+    let clips = (g.C.IntShapeResource.paths c.args.clip.now) in
     let keep_all = c.args.options.preserve_input_collinear in
     let new = c.in_ok-overlay.ensures.made in
     let first = c.in_ok-add_source.ensures in

@@ -1,7 +1,6 @@
-use Rattle.std.proofs.Common.{[], map, inl, inr, sym, ap, ◌∙◌, subst}
+use Rattle.std.proofs.Common.{[], inl, inr, sym, ap, ◌∙◌, subst}
 use Rattle.std.proofs.lemmas.Result.{err_from_is_err_and}
 use Rattle.plane_base.specs.Counts.{one_subject}
-use Rattle.plane_base.specs.Views.{points_of}
 use Rattle.polygon_overlay.specs.Builders.{IsNotMade}
 use Rattle.polygon_overlay.proofs.Holding.BuilderLaws.{all_added, part_added}
 use Rattle.polygon_overlay.proofs.overlay.Overlay.from_subj_custom.Goals as goal
@@ -14,7 +13,7 @@ returns-in_err-overlay g c =
 pub returns-in_err-add_source : goal.returns-in_err-add_source
 returns-in_err-add_source g c =
     let p = err_from_is_err_and c.from_residual-in_err-add_source.result c.from_residual-in_err-add_source.ensures.1 in
-    let subjects = map (points_of g.I.OverlayInt.value) (g.R.IntShapeResource.paths c.args.subj.now) in
+    let subjects = (g.R.IntShapeResource.paths c.args.subj.now) in
     let keep_all = c.args.options.preserve_input_collinear in
     let new = c.in_ok-overlay.ensures.made in
     let keep = ap (λ o. o.preserve_input_collinear) new.options in
@@ -26,7 +25,7 @@ returns-in_err-add_source g c =
 
 pub returns : goal.returns
 returns g c =
-    let subjects = map (points_of g.I.OverlayInt.value) (g.R.IntShapeResource.paths c.args.subj.now) in
+    let subjects = (g.R.IntShapeResource.paths c.args.subj.now) in
     let new = c.in_ok-overlay.ensures.made in
     let added = c.in_ok-add_source.ensures in
     record {

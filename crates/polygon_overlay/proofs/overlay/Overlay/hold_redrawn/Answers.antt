@@ -1,7 +1,6 @@
-use Rattle.std.proofs.Common.{[], map, inl, inr, ap, ◌∙◌}
+use Rattle.std.proofs.Common.{[], inl, inr, ap, ◌∙◌}
 use Rattle.std.proofs.lemmas.Result.{err_from_is_err_and}
 use Rattle.plane_base.specs.Counts.{one_subject}
-use Rattle.plane_base.specs.Views.{points_of}
 use Rattle.polygon_overlay.proofs.Holding.BuilderLaws.{all_added, part_added}
 use Rattle.polygon_overlay.proofs.Simplifying.SimplifyLaws.{found_refused, redrawing_refused, holds_redrawn, kept_some}
 use Rattle.polygon_overlay.proofs.overlay.Overlay.hold_redrawn.Goals as goal
@@ -9,7 +8,7 @@ use Rattle.polygon_overlay.proofs.overlay.Overlay.hold_redrawn.Goals as goal
 pub returns-in_err-add_source : goal.returns-in_err-add_source
 returns-in_err-add_source g c =
     let p = err_from_is_err_and c.from_residual.result c.from_residual.ensures.1 in
-    let contours = map (points_of g.I.OverlayInt.value) (g.R.IntShapeResource.paths c.args.resource.now) in
+    let contours = (g.R.IntShapeResource.paths c.args.resource.now) in
     let empty = c.clear.ensures in
     let first = c.in_err-add_source.ensures in
     record {
@@ -26,7 +25,7 @@ returns-in_err-add_source g c =
 pub returns-in_err-redraw : goal.returns-in_err-redraw
 returns-in_err-redraw g c =
     let p = err_from_is_err_and c.from_residual-in_err-redraw.result c.from_residual-in_err-redraw.ensures.1 in
-    let contours = map (points_of g.I.OverlayInt.value) (g.R.IntShapeResource.paths c.args.resource.now) in
+    let contours = (g.R.IntShapeResource.paths c.args.resource.now) in
     let empty = c.clear.ensures in
     let first = c.in_ok-add_source.ensures in
     let next = c.in_err-redraw.ensures in
@@ -42,7 +41,7 @@ returns-in_err-redraw g c =
 
 pub returns : goal.returns
 returns g c =
-    let contours = map (points_of g.I.OverlayInt.value) (g.R.IntShapeResource.paths c.args.resource.now) in
+    let contours = (g.R.IntShapeResource.paths c.args.resource.now) in
     let empty = c.clear.ensures in
     let first = c.in_ok-add_source.ensures in
     let next = c.in_ok-redraw.ensures in

@@ -1,9 +1,7 @@
-use Rattle.std.proofs.Common.{◌≡◌, ◌↔◌, ◌+◌, IsTrue, true, false, [], ◌∷◌, inl, inr, refl, sym, ap, ◌∙◌, subst}
+use Rattle.std.proofs.Common.{true, false, [], ◌∷◌, inl, inr, refl, sym, ap, ◌∙◌, subst}
 use Rattle.std.proofs.lemmas.Bool.{false≢true}
-use Rattle.std.proofs.lemmas.List.{length-map}
 use Rattle.std.proofs.lemmas.Result.{err_from_is_err_and}
 use Rattle.plane_base.specs.Counts.{boolean, one_subject}
-use Rattle.plane_base.specs.Views.{point_of, points_of}
 use Rattle.segment_split.specs.Redrawing.{IsChanged}
 use Rattle.segment_split.proofs.Facts.Adding.Laws.{answered, if_answered}
 use Rattle.polygon_overlay.specs.Builders.{IsHeld}
@@ -15,7 +13,7 @@ use Rattle.polygon_overlay.proofs.overlay.Overlay.is_perfect.Goals as goal
 pub returns-in_err-add_contour : goal.returns-in_err-add_contour
 returns-in_err-add_contour g c =
     let p = err_from_is_err_and c.from_residual.result c.from_residual.ensures.1 in
-    let points = points_of g.I.OverlayInt.value c.args.contour.now in
+    let points = c.args.contour.now in
     let empty = c.clear.ensures in
     let first = c.in_err-add_contour.ensures in
     record {
@@ -33,7 +31,7 @@ returns-in_err-add_contour g c =
 pub returns-in_err-is_changed : goal.returns-in_err-is_changed
 returns-in_err-is_changed g c =
     let p = err_from_is_err_and c.from_residual-in_err-is_changed.result c.from_residual-in_err-is_changed.ensures.1 in
-    let points = points_of g.I.OverlayInt.value c.args.contour.now in
+    let points = c.args.contour.now in
     let empty = c.clear.ensures in
     let first = c.in_ok-add_contour.ensures in
     let next = c.in_err-is_changed.ensures in
@@ -50,7 +48,7 @@ returns-in_err-is_changed g c =
 
 pub returns-then-is_changed : goal.returns-then-is_changed
 returns-then-is_changed g c =
-    let points = points_of g.I.OverlayInt.value c.args.contour.now in
+    let points = c.args.contour.now in
     let empty = c.clear.ensures in
     let first = c.in_ok-add_contour.ensures in
     let next = c.in_ok-is_changed.ensures in
@@ -77,7 +75,7 @@ returns-then-is_changed g c =
 
 pub returns-then-not-is_whole : goal.returns-then-not-is_whole
 returns-then-not-is_whole g c =
-    let points = points_of g.I.OverlayInt.value c.args.contour.now in
+    let points = c.args.contour.now in
     let empty = c.clear.ensures in
     let first = c.in_ok-add_contour.ensures in
     let next = c.in_ok-is_changed.ensures in
@@ -97,14 +95,14 @@ returns-then-not-is_whole g c =
       arrangement = next.arrangement;
       is = (
         λ up. absurd (false≢true up),
-        λ perfect. absurd (not_perfect_if_cut _ c.args.self.now.solver.precision points taken.0 taken.1 c.add_contour.new.self.held.edges taken.2 _ (length-map c.args.contour.now (point_of g.I.OverlayInt.value))
+        λ perfect. absurd (not_perfect_if_cut _ c.args.self.now.solver.precision points taken.0 taken.1 c.add_contour.new.self.held.edges taken.2 _ refl
             (λ whole. false≢true (sym c.if-not-is_whole.true ∙ c.is_whole-is_whole.ensures.1 whole)) perfect),
       );
     }
 
 pub returns : goal.returns
 returns g c =
-    let points = points_of g.I.OverlayInt.value c.args.contour.now in
+    let points = c.args.contour.now in
     let empty = c.clear.ensures in
     let first = c.in_ok-add_contour.ensures in
     let next = c.in_ok-is_changed.ensures in
@@ -126,7 +124,7 @@ returns g c =
           }) c.has_each_once.ensures.memory (if_answered c.has_each_once.result (λ once told held is. is) c.has_each_once.ensures.is);
       arrangement = answered c.has_each_once.result next.arrangement;
       is = if_answered c.has_each_once.result (λ once told. (
-        λ up. perfect_if _ precision points taken.0 taken.1 held taken.2 _ (length-map c.args.contour.now (point_of g.I.OverlayInt.value))
+        λ up. perfect_if _ precision points taken.0 taken.1 held taken.2 _ refl
             (c.is_whole-is_whole.ensures.0 c.if-not-is_whole.false)
             (λ changed. false≢true (sym c.if-is_changed.false ∙ next.flag.1 (subst (λ s. IsChanged boolean s.precision held) (sym (first.stays.solver ∙ empty.stays.solver)) changed)))
             (told.0 up),

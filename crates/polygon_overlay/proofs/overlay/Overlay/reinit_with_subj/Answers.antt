@@ -1,13 +1,12 @@
-use Rattle.std.proofs.Common.{[], map, ap, ◌∙◌}
+use Rattle.std.proofs.Common.{[], ap, ◌∙◌}
 use Rattle.plane_base.specs.Counts.{one_subject}
-use Rattle.plane_base.specs.Views.{points_of}
 use Rattle.segment_split.proofs.Facts.Adding.Laws.{on_answer, if_refused}
 use Rattle.polygon_overlay.proofs.Holding.BuilderLaws.{all_added, part_added}
 use Rattle.polygon_overlay.proofs.overlay.Overlay.reinit_with_subj.Goals as goal
 
 pub returns : goal.returns
 returns g c =
-    let subjects = map (points_of g.I.OverlayInt.value) (g.R.IntShapeResource.paths c.args.subj.now) in
+    let subjects = (g.R.IntShapeResource.paths c.args.subj.now) in
     let keep_all = c.args.self.now.options.preserve_input_collinear in
     let empty = c.clear.ensures in
     let first = c.add_source.ensures in

@@ -1,7 +1,6 @@
-use Rattle.std.proofs.Common.{[], map, inl, inr, refl, sym, ap, ◌∙◌, subst}
+use Rattle.std.proofs.Common.{[], inl, inr, refl, sym, ap, ◌∙◌, subst}
 use Rattle.std.proofs.lemmas.Result.{err_from_is_err_and}
 use Rattle.plane_base.specs.Counts.{one_subject, one_clip}
-use Rattle.plane_base.specs.Views.{points_of}
 use Rattle.polygon_overlay.specs.Builders.{HoldsUntil}
 use Rattle.segment_split.proofs.Facts.Adding.Laws.{on_answer, if_refused}
 use Rattle.polygon_overlay.proofs.Holding.BuilderLaws.{all_added, part_added}
@@ -10,8 +9,8 @@ use Rattle.polygon_overlay.proofs.overlay.Overlay.reinit_with_subj_and_clip.Goal
 pub returns-in_err-add_source : goal.returns-in_err-add_source
 returns-in_err-add_source g c =
     let p = err_from_is_err_and c.from_residual.result c.from_residual.ensures.1 in
-    let subjects = map (points_of g.I.OverlayInt.value) (g.S.IntShapeResource.paths c.args.subj.now) in
-    let clips = map (points_of g.I.OverlayInt.value) (g.C.IntShapeResource.paths c.args.clip.now) in
+    let subjects = (g.S.IntShapeResource.paths c.args.subj.now) in
+    let clips = (g.C.IntShapeResource.paths c.args.clip.now) in
     let keep_all = c.args.self.now.options.preserve_input_collinear in
     let empty = c.clear.ensures in
     let first = c.in_err-add_source.ensures in
@@ -30,8 +29,8 @@ returns-in_err-add_source g c =
 
 pub returns : goal.returns
 returns g c =
-    let subjects = map (points_of g.I.OverlayInt.value) (g.S.IntShapeResource.paths c.args.subj.now) in
-    let clips = map (points_of g.I.OverlayInt.value) (g.C.IntShapeResource.paths c.args.clip.now) in
+    let subjects = (g.S.IntShapeResource.paths c.args.subj.now) in
+    let clips = (g.C.IntShapeResource.paths c.args.clip.now) in
     let keep_all = c.args.self.now.options.preserve_input_collinear in
     let empty = c.clear.ensures in
     let first = c.in_ok-add_source.ensures in

@@ -1,8 +1,7 @@
-use Rattle.std.proofs.Common.{◌≡◌, [], ◌∷◌, ◌∙◌, All, map, sym, ap, subst}
+use Rattle.std.proofs.Common.{◌≡◌, [], ◌∷◌, ◌∙◌, All, sym, subst}
 use Rattle.std.proofs.lemmas.Bool.{false≢true}
 use Rattle.std.proofs.lemmas.List.Elements.{All-head}
 use Rattle.plane_base.specs.Plane.{IsWithin}
-use Rattle.plane_base.specs.Views.{points_of}
 use Rattle.segment_arrangement.specs.RuleViews.{fill_rule_of}
 use Rattle.contour_walk.specs.ShapeViews.{shapes_of}
 use Rattle.polygon_overlay.specs.Simplified.{IsSourceSimplified}
@@ -13,28 +12,25 @@ use Rattle.polygon_overlay.proofs.overlay.Overlay.source_simplified.Goals as goa
 
 pub path_simplified-requires-clause-in_range : goal.path_simplified-requires-clause-in_range
 path_simplified-requires-clause-in_range g c =
-    let value = g.I.OverlayInt.value in
     let inside = IsWithin g.I.OverlayInt.least g.I.OverlayInt.greatest in
     let paths = g.R.IntShapeResource.paths c.args.resource.now in
-    All-head (All inside) (points_of value c.path.result.now) []
-    (subst (All (All inside)) (ap (map (points_of value)) (one_only paths [] c.path.result.now (c.may_be_fast.ensures.0 c.if-may_be_fast.true).1 c.path.ensures)) c.requires.in_range)
+    All-head (All inside) c.path.result.now []
+    (subst (All (All inside)) (one_only paths [] c.path.result.now (c.may_be_fast.ensures.0 c.if-may_be_fast.true).1 c.path.ensures) c.requires.in_range)
 
 pub returns-then-may_be_fast : goal.returns-then-may_be_fast
 returns-then-may_be_fast g c =
-    let value = g.I.OverlayInt.value in
     let paths = g.R.IntShapeResource.paths c.args.resource.now in
-    let one : map (points_of value) paths ≡ points_of value c.path.result.now ∷ [] =
-    ap (map (points_of value)) (one_only paths [] c.path.result.now (c.may_be_fast.ensures.0 c.if-may_be_fast.true).1 c.path.ensures) in
+    let one : paths ≡ c.path.result.now ∷ [] =
+    (one_only paths [] c.path.result.now (c.may_be_fast.ensures.0 c.if-may_be_fast.true).1 c.path.ensures) in
     subst (λ contours. FindsSimplified contours (λ held shapes. IsSourceSimplified g.I.OverlayInt.least g.I.OverlayInt.greatest c.args.self.now.options
-    (fill_rule_of c.args.fill_rule) c.args.self.now.solver.precision contours held (shapes_of value shapes.shapes.items))
+    (fill_rule_of c.args.fill_rule) c.args.self.now.solver.precision contours held (shapes_of shapes.shapes.items))
     c.args.self.now c.path_simplified.new.self c.path_simplified.result) (sym one) c.path_simplified.ensures
 
 pub returns : goal.returns
 returns g c =
-    let value = g.I.OverlayInt.value in
     let paths = g.R.IntShapeResource.paths c.args.resource.now in
-    answered_for (map (points_of value) paths) c.args.self.now c.overlay_of_source.new.self c.overlay_of_source.result
+    answered_for paths c.args.self.now c.overlay_of_source.new.self c.overlay_of_source.result
     (λ held shapes is. source_else g.I.OverlayInt.least g.I.OverlayInt.greatest c.args.self.now.options (fill_rule_of c.args.fill_rule) c.args.self.now.solver.precision
-    (map (points_of value) paths) held (shapes_of value shapes.shapes.items)
-    (λ zero alone. false≢true (sym c.if-may_be_fast.false ∙ c.may_be_fast.ensures.1 (zero, one_length paths (points_of value) alone.points alone.one))) is)
+    paths held (shapes_of shapes.shapes.items)
+    (λ zero alone. false≢true (sym c.if-may_be_fast.false ∙ c.may_be_fast.ensures.1 (zero, one_length paths alone.points alone.one))) is)
     c.overlay_of_source.ensures

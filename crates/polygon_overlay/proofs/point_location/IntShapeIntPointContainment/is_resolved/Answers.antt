@@ -5,7 +5,7 @@ use Rattle.polygon_overlay.proofs.point_location.IntShapeIntPointContainment.is_
 
 pub are_contours_resolved-requires : goal.are_contours_resolved-requires
 are_contours_resolved-requires g c =
-    subst (λ cs. All (All (IsWithin g.I.OverlayInt.least g.I.OverlayInt.greatest)) (contours_of g.I.OverlayInt.value cs)) (sym c.deref.ensures.value) c.requires
+    subst (λ cs. All (All (IsWithin g.I.OverlayInt.least g.I.OverlayInt.greatest)) (contours_of cs)) (sym c.deref.ensures.value) c.requires
 
 pub returns : goal.returns
 returns g c = rw c.deref.ensures.value at c.are_contours_resolved.ensures

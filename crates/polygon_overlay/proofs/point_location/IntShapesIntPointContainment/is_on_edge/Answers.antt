@@ -1,6 +1,5 @@
 use Rattle.std.proofs.Common.{◌∙◌, All, sym, ap, subst}
 use Rattle.plane_base.specs.Plane.{IsWithin}
-use Rattle.plane_base.specs.Views.{point_of}
 use Rattle.segment_arrangement.specs.FanLaws.{whole}
 use Rattle.contour_walk.specs.BindingLaws.{all_contours}
 use Rattle.contour_walk.specs.ShapeViews.{shapes_of}
@@ -9,9 +8,9 @@ use Rattle.polygon_overlay.proofs.point_location.IntShapesIntPointContainment.is
 
 pub is_on_shapes-requires-clause-in_range : goal.is_on_shapes-requires-clause-in_range
 is_on_shapes-requires-clause-in_range g c =
-    subst (λ ss. All (All (IsWithin g.I.OverlayInt.least g.I.OverlayInt.greatest)) (all_contours (shapes_of g.I.OverlayInt.value ss))) (sym c.deref.ensures.value) c.requires.in_range
+    subst (λ ss. All (All (IsWithin g.I.OverlayInt.least g.I.OverlayInt.greatest)) (all_contours (shapes_of ss))) (sym c.deref.ensures.value) c.requires.in_range
 
 pub returns : goal.returns
 returns g c =
     c.is_on_shapes.ensures
-    ∙ ap (λ ss. is_on_edge (all_contours (shapes_of g.I.OverlayInt.value ss)) (whole (point_of g.I.OverlayInt.value c.args.point))) c.deref.ensures.value
+    ∙ ap (λ ss. is_on_edge (all_contours (shapes_of ss)) (whole c.args.point)) c.deref.ensures.value

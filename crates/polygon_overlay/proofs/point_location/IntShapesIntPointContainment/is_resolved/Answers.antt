@@ -6,7 +6,7 @@ use Rattle.polygon_overlay.proofs.point_location.IntShapesIntPointContainment.is
 
 pub are_shapes_resolved-requires : goal.are_shapes_resolved-requires
 are_shapes_resolved-requires g c =
-    subst (λ ss. All (All (IsWithin g.I.OverlayInt.least g.I.OverlayInt.greatest)) (all_contours (shapes_of g.I.OverlayInt.value ss))) (sym c.deref.ensures.value) c.requires
+    subst (λ ss. All (All (IsWithin g.I.OverlayInt.least g.I.OverlayInt.greatest)) (all_contours (shapes_of ss))) (sym c.deref.ensures.value) c.requires
 
 pub returns : goal.returns
 returns g c = rw c.deref.ensures.value at c.are_shapes_resolved.ensures

@@ -9,25 +9,23 @@ use Rattle.polygon_overlay.proofs.point_location.borders.is_on_index.Goals as go
 
 pub on_fields-requires-clause-outlined : goal.on_fields-requires-clause-outlined
 on_fields-requires-clause-outlined g c =
-    subst (AreOutlined g.I.OverlayInt.value (shapes_of g.I.OverlayInt.value c.args.shapes.now)) (sym c.deref.ensures.value) c.requires.indexed.outlined
+    subst (AreOutlined g.I.IntNumber.value (shapes_of c.args.shapes.now)) (sym c.deref.ensures.value) c.requires.indexed.outlined
 
 pub on_fields-requires-clause-inside : goal.on_fields-requires-clause-inside
 on_fields-requires-clause-inside g c =
-    let value = g.I.OverlayInt.value in
-    let long = length-map c.args.shapes.now (λ (s : IntShape g.row.I.Denot). contours_of value s.contours.items) in
+    let long = length-map c.args.shapes.now (λ (s : IntShape g.row.I.Denot). contours_of s.contours.items) in
     subst (All (λ (s : Placed). s.number < length c.args.shapes.now)) (sym c.deref-2.ensures.value)
     (subst (λ n. All (λ (s : Placed). s.number < n) c.args.index.now.order.items) long c.requires.indexed.inside)
 
 pub on_fields-requires-clause-each : goal.on_fields-requires-clause-each
 on_fields-requires-clause-each g c =
-    let value = g.I.OverlayInt.value in
-    let long = length-map c.args.shapes.now (λ (s : IntShape g.row.I.Denot). contours_of value s.contours.items) in
+    let long = length-map c.args.shapes.now (λ (s : IntShape g.row.I.Denot). contours_of s.contours.items) in
     subst (λ order. (n : ℕ) → n < length c.args.shapes.now → Contains (map number_of order) n) (sym c.deref-2.ensures.value)
     (λ n l. c.requires.indexed.each n (omega (arith, l, long)))
 
 pub on_fields-requires-clause-fields : goal.on_fields-requires-clause-fields
 on_fields-requires-clause-fields g c =
-    let value = g.I.OverlayInt.value in
-    let shapes = shapes_of value c.args.shapes.now in
+    let value = g.I.IntNumber.value in
+    let shapes = shapes_of c.args.shapes.now in
     subst (λ order. AreStretches value (points_by shapes order) c.deref-3.result.now) (sym c.deref-2.ensures.value)
     (subst (AreStretches value (points_by shapes c.args.index.now.order.items)) (sym c.deref-3.ensures.value) c.requires.indexed.fields)

@@ -1,6 +1,5 @@
 use Rattle.std.proofs.Common.{◌∙◌, inl, inr, refl, sym, arith}
 use Rattle.std.proofs.lemmas.Bool.{false≢true}
-use Rattle.plane_base.specs.Views.{point_of}
 use Rattle.contour_walk.specs.ShapeViews.{shapes_of}
 use Rattle.polygon_overlay.specs.PointBoxes.{bounds_of}
 use Rattle.polygon_overlay.proofs.Locating.BorderLaws.{field_outside}
@@ -14,11 +13,11 @@ returns-then-is_outside-clause-found g c = λ e. absurd (false≢true e)
 
 pub returns-then-is_outside-clause-looked : goal.returns-then-is_outside-clause-looked
 returns-then-is_outside-clause-looked g c =
-    let value = g.I.OverlayInt.value in
+    let value = g.I.IntNumber.value in
     let field = c.args.field in
     inr (
       refl,
-      λ _. field_outside (shapes_of value c.args.shapes.now) c.args.order.now (point_of value c.args.point) (bounds_of value field.bounds) field.first
+      λ _. field_outside (shapes_of c.args.shapes.now) c.args.order.now c.args.point (bounds_of value field.bounds) field.first
           field.end c.requires.within c.requires.boxed (sym c.is_outside.ensures ∙ c.if-is_outside.true),
     )
 

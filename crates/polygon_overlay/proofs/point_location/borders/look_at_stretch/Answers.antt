@@ -1,7 +1,5 @@
 use Rattle.std.proofs.Common.{◌≤◌, ◌∙◌, inl, inr, length, refl, sym, arith}
 use Rattle.std.proofs.lemmas.Bool.{false≢true}
-use Rattle.std.proofs.lemmas.List.{length-map}
-use Rattle.plane_base.specs.Views.{point_of, points_of}
 use Rattle.polygon_overlay.specs.PointBoxes.{bounds_of}
 use Rattle.polygon_overlay.proofs.Locating.BorderLaws.{run_outside}
 use Rattle.polygon_overlay.proofs.point_location.borders.look_at_stretch.Goals as goal
@@ -14,13 +12,13 @@ returns-then-is_outside-clause-found g c = λ e. absurd (false≢true e)
 
 pub returns-then-is_outside-clause-looked : goal.returns-then-is_outside-clause-looked
 returns-then-is_outside-clause-looked g c =
-    let value = g.I.OverlayInt.value in
-    let points = points_of value c.args.points.now in
+    let value = g.I.IntNumber.value in
+    let points = c.args.points.now in
     let s = c.args.stretch in
-    let within : s.end ≤ length points = let e = length-map c.args.points.now (point_of value) in omega (arith, e, c.requires.within) in
+    let within : s.end ≤ length points = c.requires.within in
     inr (
       refl,
-      λ _. run_outside points (point_of value c.args.point) (bounds_of value s.bounds) (sym c.is_outside.ensures ∙ c.if-is_outside.true) s.first s.end within
+      λ _. run_outside points c.args.point (bounds_of value s.bounds) (sym c.is_outside.ensures ∙ c.if-is_outside.true) s.first s.end within
           c.requires.boxed,
     )
 

@@ -1,5 +1,4 @@
 use Rattle.std.proofs.Common.{◌≤◌, length}
-use Rattle.plane_base.specs.Views.{point_of}
 use Rattle.segment_arrangement.specs.FanLaws.{whole}
 use Rattle.contour_walk.specs.ShapeViews.{shapes_of}
 use Rattle.polygon_overlay.specs.Stretches.{end_before, NoneBorders}
@@ -9,7 +8,7 @@ use Rattle.polygon_overlay.proofs.point_location.borders.on_fields.Given as goal
 abbrev pub invariant-loop-left : goal.invariant-loop-left
 invariant-loop-left g l =
     (l.left ≤ length l.fields)
-    × NoneBorders (shapes_of g.I.OverlayInt.value l.shapes) l.order (whole (point_of g.I.OverlayInt.value l.point)) (end_before l.fields l.left) (length l.order)
+    × NoneBorders (shapes_of l.shapes) l.order (whole l.point) (end_before l.fields l.left) (length l.order)
 
 abbrev pub decreases-loop-left : goal.decreases-loop-left
 decreases-loop-left g l = l.left

@@ -1,7 +1,6 @@
 use Rattle.std.proofs.Common.{◌≡◌, ◌∙◌, ◌-◌, ◌<◌, ◌≤◌, ℕ, zero, suc, Bool, false, length, refl, sym, subst, arith}
 use Rattle.std.proofs.lemmas.List.{length-map}
 use Rattle.plane_base.specs.Plane.{Edge, lies_on}
-use Rattle.plane_base.specs.Views.{point_of, points_of}
 use Rattle.segment_arrangement.specs.FanLaws.{whole}
 use Rattle.contour_walk.specs.Walks.{contour_edges}
 use Rattle.polygon_overlay.specs.Stretches.{end_before, IsStretch, NoneBetween, ends_of, edge_ends}
@@ -15,10 +14,10 @@ use Rattle.polygon_overlay.proofs.point_location.borders.on_stretches.Goals as g
 
 -- the stretch that is looked at
 own : (g : Over) (c : After-index-stretches-left g)
-    → IsStretch g.I.OverlayInt.value (edge_ends (points_of g.I.OverlayInt.value c.args.points.now)) c.args.stretches.now (c.loop-left.left - 1)
+    → IsStretch g.I.IntNumber.value (edge_ends c.args.points.now) c.args.stretches.now (c.loop-left.left - 1)
     c.index-stretches-left.result
 own g c =
-    own_stretch g.I.OverlayInt.value (edge_ends (points_of g.I.OverlayInt.value c.args.points.now)) c.args.stretches.now c.requires.stretches
+    own_stretch g.I.IntNumber.value (edge_ends c.args.points.now) c.args.stretches.now c.requires.stretches
     (c.loop-left.left - 1) c.index-stretches-left.result (omega (arith, c.loop-left.invariant.0, c.loop-left-test.true)) c.index-stretches-left.is
 
 pub some_edge_has-requires-clause-within : goal.some_edge_has-requires-clause-within
@@ -29,20 +28,18 @@ returns-then-some_edge_has g c = sym (c.some_edge_has.ensures.found c.if-some_ed
 
 pub loop-left-init : goal.loop-left-init
 loop-left-init g c =
-    let value = g.I.OverlayInt.value in
-    let p = whole (point_of value c.args.point) in (
+    let p = whole c.args.point in (
       omega arith,
-      subst (λ n. NoneBetween (λ (s : Edge). lies_on s p) (contour_edges (points_of value c.args.points.now)) n (length c.args.points.now)) c.end_of.ensures
+      subst (λ n. NoneBetween (λ (s : Edge). lies_on s p) (contour_edges c.args.points.now) n (length c.args.points.now)) c.end_of.ensures
           (c.some_edge_has.ensures.none c.if-some_edge_has.false),
     )
 
 pub look_at_stretch-look-requires-clause-within : goal.look_at_stretch-look-requires-clause-within
 look_at_stretch-look-requires-clause-within g c =
-    let value = g.I.OverlayInt.value in
-    let points = points_of value c.args.points.now in
+    let points = c.args.points.now in
     let within = (own g (goal.at.look_at_stretch-look-requires-clause-within g c).After-index-stretches-left).within in
     let long : length (edge_ends points) ≡ length c.args.points.now =
-    length-map (contour_edges points) ends_of ∙ (length-contour_edges points ∙ length-map c.args.points.now (point_of value)) in
+    length-map (contour_edges points) ends_of ∙ length-contour_edges points in
     omega (arith, within, long)
 
 pub look_at_stretch-look-requires-clause-boxed : goal.look_at_stretch-look-requires-clause-boxed
@@ -59,9 +56,9 @@ loop-left-smaller g c = omega (arith, c.look_at_stretch-look.ensures.fewer, c.lo
 
 pub loop-left-preserved : goal.loop-left-preserved
 loop-left-preserved g c =
-    let value = g.I.OverlayInt.value in
-    let contour = points_of value c.args.points.now in
-    let p = whole (point_of value c.args.point) in
+    let value = g.I.IntNumber.value in
+    let contour = c.args.points.now in
+    let p = whole c.args.point in
     let edges = contour_edges contour in
     let many = length c.args.points.now in
     let all = c.args.stretches.now in
@@ -83,13 +80,12 @@ loop-left-preserved g c =
 
 pub returns : goal.returns
 returns g c =
-    let value = g.I.OverlayInt.value in
-    let contour = points_of value c.args.points.now in
-    let p = point_of value c.args.point in
+    let contour = c.args.points.now in
+    let p = c.args.point in
     let edges = contour_edges contour in
     let many = length c.args.points.now in
     let on : Edge → Bool = λ t. lies_on t (whole p) in
     let none : c.loop-left.left ≡ zero = omega (arith, c.loop-left-test.false) in
-    let long : length edges ≤ many = let e = length-contour_edges contour in let f = length-map c.args.points.now (point_of value) in omega (arith, e, f) in
+    let long : length edges ≤ many = let e = length-contour_edges contour in omega (arith, e) in
     sym (on_contour contour p false
     (none_of_all on edges many long (subst (λ k. NoneBetween on edges (end_before c.args.stretches.now k) many) none c.loop-left.invariant.1)))

@@ -1,6 +1,5 @@
 use Rattle.std.proofs.Common.{◌≤◌, length}
 use Rattle.plane_base.specs.Plane.{lies_on}
-use Rattle.plane_base.specs.Views.{point_of, points_of}
 use Rattle.segment_arrangement.specs.FanLaws.{whole}
 use Rattle.contour_walk.specs.Walks.{contour_edges}
 use Rattle.polygon_overlay.specs.Stretches.{end_before, NoneBetween}
@@ -10,7 +9,7 @@ use Rattle.polygon_overlay.proofs.point_location.borders.on_stretches.Given as g
 abbrev pub invariant-loop-left : goal.invariant-loop-left
 invariant-loop-left g l =
     (l.left ≤ length l.stretches)
-    × NoneBetween (λ s. lies_on s (whole (point_of g.I.OverlayInt.value l.point))) (contour_edges (points_of g.I.OverlayInt.value l.points)) (end_before l.stretches l.left)
+    × NoneBetween (λ s. lies_on s (whole l.point)) (contour_edges l.points) (end_before l.stretches l.left)
     (length l.points)
 
 abbrev pub decreases-loop-left : goal.decreases-loop-left

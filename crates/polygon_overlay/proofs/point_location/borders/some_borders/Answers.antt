@@ -5,7 +5,6 @@ use Rattle.std.proofs.lemmas.Bool.{true≢false, false≢true}
 use Rattle.std.proofs.lemmas.List.{length-map}
 use Rattle.plane_base.specs.GivenViews.{contours_of}
 use Rattle.plane_base.specs.Plane.{IsWithin}
-use Rattle.plane_base.specs.Views.{point_of}
 use Rattle.plane_base.specs.declared.path.IntShape.{IntShape}
 use Rattle.plane_base.proofs.Facts.Lists.Views.{All-mapped}
 use Rattle.segment_arrangement.specs.FanLaws.{whole}
@@ -28,16 +27,15 @@ within_shapes g c =
 
 within_outlines : (g : Over) (c : After-number_at-number g) → c.number_at-number.result < length c.args.outlines.now
 within_outlines g c =
-    let value = g.I.OverlayInt.value in
-    let same = zip_length (λ cs os. AllZip (IsOutlined value) cs os.items) (shapes_of value c.args.shapes.now) c.args.outlines.now c.requires.outlined in
-    let long = length-map c.args.shapes.now (λ (s : IntShape g.row.I.Denot). contours_of value s.contours.items) in
+    let value = g.I.IntNumber.value in
+    let same = zip_length (λ cs os. AllZip (IsOutlined value) cs os.items) (shapes_of c.args.shapes.now) c.args.outlines.now c.requires.outlined in
+    let long = length-map c.args.shapes.now (λ (s : IntShape g.row.I.Denot). contours_of s.contours.items) in
     let here = within_shapes g c in
     omega (arith, same, long, here)
 
 pub loop-place-init : goal.loop-place-init
 loop-place-init g c =
-    let value = g.I.OverlayInt.value in
-    none_at_first (λ (s : Placed). is_on_edge (get_or (shapes_of value c.args.shapes.now) s.number []) (whole (point_of value c.args.point))) c.args.order.now c.args.first
+    none_at_first (λ (s : Placed). is_on_edge (get_or (shapes_of c.args.shapes.now) s.number []) (whole c.args.point)) c.args.order.now c.args.first
 
 pub bounds-shapes-number : goal.bounds-shapes-number
 bounds-shapes-number g c = within_shapes g (goal.at.bounds-shapes-number g c).After-number_at-number
@@ -57,53 +55,52 @@ offset_bounds-outlines-number g c =
 
 pub borders_shape-requires-clause-in_range : goal.borders_shape-requires-clause-in_range
 borders_shape-requires-clause-in_range g c =
-    let value = g.I.OverlayInt.value in
     let within = All (IsWithin g.I.OverlayInt.least g.I.OverlayInt.greatest) in
-    subst (λ cs. All within (contours_of value cs)) (sym (c.deref.ensures.value ∙ ap (λ (s : IntShape g.row.I.Denot). s.contours.items) (sym c.index-shapes-number.is)))
-    (All-mapped (All within) (λ (s : IntShape g.row.I.Denot). contours_of value s.contours.items) c.args.shapes.now c.number_at-number.result
+    subst (λ cs. All within (contours_of cs)) (sym (c.deref.ensures.value ∙ ap (λ (s : IntShape g.row.I.Denot). s.contours.items) (sym c.index-shapes-number.is)))
+    (All-mapped (All within) (λ (s : IntShape g.row.I.Denot). contours_of s.contours.items) c.args.shapes.now c.number_at-number.result
     c.index-shapes-number.result (within_shapes g (goal.at.borders_shape-requires-clause-in_range g c).After-number_at-number) c.index-shapes-number.is
     c.requires.in_range)
 
 pub borders_shape-requires-clause-outlined : goal.borders_shape-requires-clause-outlined
 borders_shape-requires-clause-outlined g c =
-    let value = g.I.OverlayInt.value in
+    let value = g.I.IntNumber.value in
     let after = (goal.at.borders_shape-requires-clause-outlined g c).After-number_at-number in
     let n = c.number_at-number.result in
     let shape = c.index-shapes-number.result in
-    subst (λ cs. AllZip (IsOutlined value) (contours_of value cs) c.deref-in-loop-place.result.now) (sym (c.deref.ensures.value ∙ ap (λ (s : IntShape g.row.I.Denot). s.contours.items) (sym c.index-shapes-number.is)))
+    subst (λ cs. AllZip (IsOutlined value) (contours_of cs) c.deref-in-loop-place.result.now) (sym (c.deref.ensures.value ∙ ap (λ (s : IntShape g.row.I.Denot). s.contours.items) (sym c.index-shapes-number.is)))
     (subst (λ cs. AllZip (IsOutlined value) cs c.deref-in-loop-place.result.now)
     (sym (shape_at value c.args.shapes.now n shape (within_shapes g after) c.index-shapes-number.is []))
-    (outlined_at value (shapes_of value c.args.shapes.now) c.args.outlines.now n c.index-outlines-number.result (within_outlines g after)
+    (outlined_at value (shapes_of c.args.shapes.now) c.args.outlines.now n c.index-outlines-number.result (within_outlines g after)
     c.index-outlines-number.is c.deref-in-loop-place.result.now c.deref-in-loop-place.ensures.value c.requires.outlined))
 
 pub returns-then-borders_shape-clause-found : goal.returns-then-borders_shape-clause-found
 returns-then-borders_shape-clause-found g c = λ _.
-    let value = g.I.OverlayInt.value in
-    let p = whole (point_of value c.args.point) in
-    let shapes = shapes_of value c.args.shapes.now in
+    let value = g.I.IntNumber.value in
+    let p = whole c.args.point in
+    let shapes = shapes_of c.args.shapes.now in
     let n = c.number_at-number.result in
     let shape = c.index-shapes-number.result in
     let here = within_shapes g (goal.at.returns-then-borders_shape-clause-found g c).After-number_at-number in
-    let long = length-map c.args.shapes.now (λ (s : IntShape g.row.I.Denot). contours_of value s.contours.items) in
-    one_borders shapes (point_of value c.args.point) n (omega (arith, here, long))
+    let long = length-map c.args.shapes.now (λ (s : IntShape g.row.I.Denot). contours_of s.contours.items) in
+    one_borders shapes c.args.point n (omega (arith, here, long))
     (ap (λ cs. is_on_edge cs p) (sym (shape_at value c.args.shapes.now n shape here c.index-shapes-number.is []))
-    ∙ (ap (λ cs. is_on_edge (contours_of value cs) p) (sym (c.deref.ensures.value ∙ ap (λ (s : IntShape g.row.I.Denot). s.contours.items) (sym c.index-shapes-number.is))) ∙ (sym c.borders_shape.ensures ∙ c.if-borders_shape.true)))
+    ∙ (ap (λ cs. is_on_edge (contours_of cs) p) (sym (c.deref.ensures.value ∙ ap (λ (s : IntShape g.row.I.Denot). s.contours.items) (sym c.index-shapes-number.is))) ∙ (sym c.borders_shape.ensures ∙ c.if-borders_shape.true)))
 
 pub returns-then-borders_shape-clause-none : goal.returns-then-borders_shape-clause-none
 returns-then-borders_shape-clause-none g c = λ e. absurd (true≢false e)
 
 pub loop-place-preserved : goal.loop-place-preserved
 loop-place-preserved g c =
-    let value = g.I.OverlayInt.value in
-    let p = whole (point_of value c.args.point) in
-    let shapes = shapes_of value c.args.shapes.now in
+    let value = g.I.IntNumber.value in
+    let p = whole c.args.point in
+    let shapes = shapes_of c.args.shapes.now in
     let i = c.loop-place.place in
     let n = c.number_at-number.result in
     let shape = c.index-shapes-number.result in
     let here = within_shapes g (goal.at.loop-place-preserved g c).After-number_at-number in
     let lacks : is_on_edge (get_or shapes n []) p ≡ false =
     ap (λ cs. is_on_edge cs p) (sym (shape_at value c.args.shapes.now n shape here c.index-shapes-number.is []))
-    ∙ (ap (λ cs. is_on_edge (contours_of value cs) p) (sym (c.deref.ensures.value ∙ ap (λ (s : IntShape g.row.I.Denot). s.contours.items) (sym c.index-shapes-number.is))) ∙ (sym c.borders_shape.ensures ∙ c.if-borders_shape.false)) in
+    ∙ (ap (λ cs. is_on_edge (contours_of cs) p) (sym (c.deref.ensures.value ∙ ap (λ (s : IntShape g.row.I.Denot). s.contours.items) (sym c.index-shapes-number.is))) ∙ (sym c.borders_shape.ensures ∙ c.if-borders_shape.false)) in
     none_with_number c.args.order.now i n (omega (arith, c.requires.within, c.loop-place-test.true)) c.number_at-number.ensures (λ m. is_on_edge (get_or shapes m []) p)
     c.args.first lacks c.loop-place.invariant
 

@@ -1,5 +1,4 @@
 use Rattle.plane_base.specs.Plane.{lies_on}
-use Rattle.plane_base.specs.Views.{point_of, points_of}
 use Rattle.segment_arrangement.specs.FanLaws.{whole}
 use Rattle.contour_walk.specs.Walks.{contour_edges}
 use Rattle.polygon_overlay.specs.Stretches.{NoneBetween}
@@ -8,4 +7,4 @@ use Rattle.polygon_overlay.proofs.point_location.borders.some_edge_has.Given as 
 -- The point lies on none of the edges before this place.
 abbrev pub invariant-loop-place : goal.invariant-loop-place
 invariant-loop-place g l =
-    NoneBetween (λ s. lies_on s (whole (point_of g.I.OverlayInt.value l.point))) (contour_edges (points_of g.I.OverlayInt.value l.points)) l.fn.first l.place
+    NoneBetween (λ s. lies_on s (whole l.point)) (contour_edges l.points) l.fn.first l.place

@@ -1,21 +1,20 @@
 use Rattle.std.proofs.Common.{◌≡◌, false, ◌∷◌, [], All, sym, subst}
-use Rattle.plane_base.specs.Views.{points_of}
 use Rattle.polygon_overlay.specs.Location.{in_contour}
 use Rattle.polygon_overlay.proofs.Locating.LocationLaws.{IsUnderWay, all_even, begun, goes_on, alone, all_found}
 use Rattle.polygon_overlay.proofs.point_location.columns.contour_by_columns.Goals as goal
 
 pub locate_in_contour-requires-clause-even : goal.locate_in_contour-requires-clause-even
 locate_in_contour-requires-clause-even g c =
-    let value = g.I.OverlayInt.value in
+    let value = g.I.IntNumber.value in
     let queries = c.in_ok-queries.queries.items in
     let way = begun g.I.OverlayInt.least g.I.OverlayInt.greatest value c.args.points.now queries c.in_ok-queries.ensures.all c.in_ok-queries.ensures.ready in
     subst (All (λ q. q.is_odd ≡ false)) (sym c.deref_mut.ensures.value) (all_even value (λ _. false) queries way.found)
 
 pub answers-requires : goal.answers-requires
 answers-requires g c =
-    let value = g.I.OverlayInt.value in
+    let value = g.I.IntNumber.value in
     let points = c.args.points.now in
-    let contour = points_of value c.args.contour.now in
+    let contour = c.args.contour.now in
     let queries = c.in_ok-queries.queries in
     let way = goes_on g.I.OverlayInt.least g.I.OverlayInt.greatest value points (contour ∷ []) (λ _. false) (in_contour contour) (alone contour) queries.items c.deref_mut.result.now
     c.locate_in_contour.new.queries queries.len c.deref_mut.ensures.value c.deref_mut.ensures.len c.locate_in_contour.ensures
@@ -24,9 +23,9 @@ answers-requires g c =
 
 pub returns-clause-located : goal.returns-clause-located
 returns-clause-located g c =
-    let value = g.I.OverlayInt.value in
+    let value = g.I.IntNumber.value in
     let points = c.args.points.now in
-    let contour = points_of value c.args.contour.now in
+    let contour = c.args.contour.now in
     let queries = c.in_ok-queries.queries in
     let way = goes_on g.I.OverlayInt.least g.I.OverlayInt.greatest value points (contour ∷ []) (λ _. false) (in_contour contour) (alone contour) queries.items c.deref_mut.result.now
     c.locate_in_contour.new.queries queries.len c.deref_mut.ensures.value c.deref_mut.ensures.len c.locate_in_contour.ensures

@@ -6,16 +6,16 @@ use Rattle.polygon_overlay.proofs.point_location.columns.shape_by_columns.Goals 
 
 pub locate_in_shape-requires-clause-even : goal.locate_in_shape-requires-clause-even
 locate_in_shape-requires-clause-even g c =
-    let value = g.I.OverlayInt.value in
+    let value = g.I.IntNumber.value in
     let queries = c.in_ok-queries.queries.items in
     let way = begun g.I.OverlayInt.least g.I.OverlayInt.greatest value c.args.points.now queries c.in_ok-queries.ensures.all c.in_ok-queries.ensures.ready in
     subst (All (λ q. q.is_odd ≡ false)) (sym c.deref_mut.ensures.value) (all_even value (λ _. false) queries way.found)
 
 pub answers-requires : goal.answers-requires
 answers-requires g c =
-    let value = g.I.OverlayInt.value in
+    let value = g.I.IntNumber.value in
     let points = c.args.points.now in
-    let contours = contours_of value c.args.contours.now in
+    let contours = contours_of c.args.contours.now in
     let queries = c.in_ok-queries.queries in
     let way = goes_on g.I.OverlayInt.least g.I.OverlayInt.greatest value points contours (λ _. false) (in_shape contours) (λ p. refl) queries.items c.deref_mut.result.now
     c.locate_in_shape.new.queries queries.len c.deref_mut.ensures.value c.deref_mut.ensures.len c.locate_in_shape.ensures
@@ -24,9 +24,9 @@ answers-requires g c =
 
 pub returns-clause-located : goal.returns-clause-located
 returns-clause-located g c =
-    let value = g.I.OverlayInt.value in
+    let value = g.I.IntNumber.value in
     let points = c.args.points.now in
-    let contours = contours_of value c.args.contours.now in
+    let contours = contours_of c.args.contours.now in
     let queries = c.in_ok-queries.queries in
     let way = goes_on g.I.OverlayInt.least g.I.OverlayInt.greatest value points contours (λ _. false) (in_shape contours) (λ p. refl) queries.items c.deref_mut.result.now
     c.locate_in_shape.new.queries queries.len c.deref_mut.ensures.value c.deref_mut.ensures.len c.locate_in_shape.ensures

@@ -7,5 +7,5 @@ use Rattle.polygon_overlay.proofs.point_location.columns.shapes_by_columns.Given
 -- What lies inside of the shapes before this one is found.
 abbrev pub invariant-loop-shape : goal.invariant-loop-shape
 invariant-loop-shape g l =
-    let value = g.I.OverlayInt.value in
-    IsUnderWay g.I.OverlayInt.least g.I.OverlayInt.greatest value l.points (in_shapes (shapes_of value (take l.shape-index l.shapes))) l.queries.items
+    let value = g.I.IntNumber.value in
+    IsUnderWay g.I.OverlayInt.least g.I.OverlayInt.greatest value l.points (in_shapes (shapes_of (take l.shape-index l.shapes))) l.queries.items

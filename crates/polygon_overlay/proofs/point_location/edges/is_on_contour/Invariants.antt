@@ -1,7 +1,6 @@
 use Rattle.std.proofs.Common.{◌≡◌, false, take}
 use Rattle.std.specs.List.{list_any}
 use Rattle.plane_base.specs.Plane.{lies_on}
-use Rattle.plane_base.specs.Views.{point_of, points_of}
 use Rattle.segment_arrangement.specs.FanLaws.{whole}
 use Rattle.contour_walk.specs.Walks.{contour_edges}
 use Rattle.polygon_overlay.proofs.point_location.edges.is_on_contour.Given as goal
@@ -9,5 +8,4 @@ use Rattle.polygon_overlay.proofs.point_location.edges.is_on_contour.Given as go
 -- The point lies on no edge before this one.
 abbrev pub invariant-loop-place : goal.invariant-loop-place
 invariant-loop-place g l =
-    let value = g.I.OverlayInt.value in
-    list_any (λ s. lies_on s (whole (point_of value l.point))) (take l.place (contour_edges (points_of value l.points))) ≡ false
+    list_any (λ s. lies_on s (whole l.point)) (take l.place (contour_edges l.points)) ≡ false

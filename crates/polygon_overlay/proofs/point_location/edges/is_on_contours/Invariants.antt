@@ -1,6 +1,5 @@
 use Rattle.std.proofs.Common.{◌≡◌, ◌∷◌, [], false, take}
 use Rattle.std.specs.List.{list_any}
-use Rattle.plane_base.specs.Views.{point_of, points_of}
 use Rattle.segment_arrangement.specs.FanLaws.{whole}
 use Rattle.polygon_overlay.specs.Location.{is_on_edge}
 use Rattle.polygon_overlay.proofs.point_location.edges.is_on_contours.Given as goal
@@ -8,5 +7,4 @@ use Rattle.polygon_overlay.proofs.point_location.edges.is_on_contours.Given as g
 -- The point lies on no edge of the contours before this one.
 abbrev pub invariant-loop-contour : goal.invariant-loop-contour
 invariant-loop-contour g l =
-    let value = g.I.OverlayInt.value in
-    list_any (λ c. is_on_edge (points_of value c.points.items ∷ []) (whole (point_of value l.point))) (take l.contour-index l.contours) ≡ false
+    list_any (λ c. is_on_edge (c.points.items ∷ []) (whole l.point)) (take l.contour-index l.contours) ≡ false

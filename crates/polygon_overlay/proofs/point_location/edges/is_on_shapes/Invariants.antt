@@ -1,7 +1,6 @@
 use Rattle.std.proofs.Common.{◌≡◌, false, take}
 use Rattle.std.specs.List.{list_any}
 use Rattle.plane_base.specs.GivenViews.{contours_of}
-use Rattle.plane_base.specs.Views.{point_of}
 use Rattle.segment_arrangement.specs.FanLaws.{whole}
 use Rattle.polygon_overlay.specs.Location.{is_on_edge}
 use Rattle.polygon_overlay.proofs.point_location.edges.is_on_shapes.Given as goal
@@ -9,5 +8,4 @@ use Rattle.polygon_overlay.proofs.point_location.edges.is_on_shapes.Given as goa
 -- The point lies on no edge of the shapes before this one.
 abbrev pub invariant-loop-shape : goal.invariant-loop-shape
 invariant-loop-shape g l =
-    let value = g.I.OverlayInt.value in
-    list_any (λ s. is_on_edge (contours_of value s.contours.items) (whole (point_of value l.point))) (take l.shape-index l.shapes) ≡ false
+    list_any (λ s. is_on_edge (contours_of s.contours.items) (whole l.point)) (take l.shape-index l.shapes) ≡ false

@@ -1,6 +1,5 @@
 use Rattle.std.proofs.Common.{◌≡◌, ◌∙◌, ◌-◌, ◌<◌, ℕ, zero, suc, Bool, length, take, sym, ap, subst, arith}
 use Rattle.std.proofs.lemmas.List.{length-map}
-use Rattle.plane_base.specs.Views.{point_of, points_of}
 use Rattle.segment_arrangement.specs.EdgeSides.{differ}
 use Rattle.segment_arrangement.specs.FanLaws.{whole}
 use Rattle.contour_walk.specs.Walks.{contour_edges}
@@ -16,20 +15,20 @@ use Rattle.polygon_overlay.proofs.point_location.outline.all_are_odd.Goals as go
 
 -- the stretch that is looked at
 own : (g : Over) (c : After-index-stretches-left g)
-    → IsStretch g.I.OverlayInt.value (edge_ends (points_of g.I.OverlayInt.value c.args.points.now)) c.args.stretches.now (c.loop-left.left - 1)
+    → IsStretch g.I.IntNumber.value (edge_ends c.args.points.now) c.args.stretches.now (c.loop-left.left - 1)
     c.index-stretches-left.result
 own g c =
-    own_stretch g.I.OverlayInt.value (edge_ends (points_of g.I.OverlayInt.value c.args.points.now)) c.args.stretches.now c.requires.stretches
+    own_stretch g.I.IntNumber.value (edge_ends c.args.points.now) c.args.stretches.now c.requires.stretches
     (c.loop-left.left - 1) c.index-stretches-left.result (omega (arith, c.loop-left.invariant.0, c.loop-left-test.true)) c.index-stretches-left.is
 
 pub edges_are_odd-is_odd-requires-clause-ordered : goal.edges_are_odd-is_odd-requires-clause-ordered
 edges_are_odd-is_odd-requires-clause-ordered g c =
-    let value = g.I.OverlayInt.value in
-    let points = points_of value c.args.points.now in
+    let value = g.I.IntNumber.value in
+    let points = c.args.points.now in
     let all = c.args.stretches.now in
     let within = end_within value (edge_ends points) all c.requires.stretches (length all) (omega arith) in
     let long : length (edge_ends points) ≡ length c.args.points.now =
-    length-map (contour_edges points) ends_of ∙ (length-contour_edges points ∙ length-map c.args.points.now (point_of value)) in
+    length-map (contour_edges points) ends_of ∙ length-contour_edges points in
     omega (arith, within, long, c.end_of.ensures)
 
 pub edges_are_odd-is_odd-requires-clause-within : goal.edges_are_odd-is_odd-requires-clause-within
@@ -37,17 +36,14 @@ edges_are_odd-is_odd-requires-clause-within g c = omega arith
 
 pub loop-left-init : goal.loop-left-init
 loop-left-init g c =
-    let value = g.I.OverlayInt.value in
-    let contour = points_of value c.args.points.now in
-    let p = whole (point_of value c.args.point) in
+    let contour = c.args.points.now in
+    let p = whole c.args.point in
     let edges = contour_edges contour in
-    let odd = c.edges_are_odd-is_odd.result in
-    let long : length contour ≡ length c.args.points.now = length-map c.args.points.now (point_of value) in (
+    let odd = c.edges_are_odd-is_odd.result in (
       omega arith,
       inside_by_all contour p
-          ∙ (ap (λ n. are_odd_below (take n edges) p) long
-          ∙ subst (λ n. are_odd_below (take (length c.args.points.now) edges) p ≡ differ (are_odd_below (take n edges) p) odd) c.end_of.ensures
-          c.edges_are_odd-is_odd.ensures),
+          ∙ subst (λ n. are_odd_below (take (length contour) edges) p ≡ differ (are_odd_below (take n edges) p) odd) c.end_of.ensures
+          c.edges_are_odd-is_odd.ensures,
     )
 
 pub look_at-look-requires-clause-some : goal.look_at-look-requires-clause-some
@@ -55,11 +51,10 @@ look_at-look-requires-clause-some g c = (own g (goal.at.look_at-look-requires-cl
 
 pub look_at-look-requires-clause-within : goal.look_at-look-requires-clause-within
 look_at-look-requires-clause-within g c =
-    let value = g.I.OverlayInt.value in
-    let points = points_of value c.args.points.now in
+    let points = c.args.points.now in
     let within = (own g (goal.at.look_at-look-requires-clause-within g c).After-index-stretches-left).within in
     let long : length (edge_ends points) ≡ length c.args.points.now =
-    length-map (contour_edges points) ends_of ∙ (length-contour_edges points ∙ length-map c.args.points.now (point_of value)) in
+    length-map (contour_edges points) ends_of ∙ length-contour_edges points in
     omega (arith, within, long)
 
 pub look_at-look-requires-clause-boxed : goal.look_at-look-requires-clause-boxed
@@ -73,9 +68,9 @@ loop-left-smaller g c = omega (arith, c.look_at-look.ensures.fewer, c.loop-left-
 
 pub loop-left-preserved : goal.loop-left-preserved
 loop-left-preserved g c =
-    let value = g.I.OverlayInt.value in
-    let contour = points_of value c.args.points.now in
-    let p = whole (point_of value c.args.point) in
+    let value = g.I.IntNumber.value in
+    let contour = c.args.points.now in
+    let p = whole c.args.point in
     let edges = contour_edges contour in
     let all = c.args.stretches.now in
     let n = c.loop-left.left - 1 in
@@ -95,9 +90,8 @@ loop-left-preserved g c =
 
 pub returns : goal.returns
 returns g c =
-    let value = g.I.OverlayInt.value in
-    let contour = points_of value c.args.points.now in
-    let p = whole (point_of value c.args.point) in
+    let contour = c.args.points.now in
+    let p = whole c.args.point in
     let edges = contour_edges contour in
     let none : c.loop-left.left ≡ zero = omega (arith, c.loop-left-test.false) in
     let told : in_contour contour p ≡ differ (are_odd_below (take (end_before c.args.stretches.now zero) edges) p) c.loop-left.is_odd =

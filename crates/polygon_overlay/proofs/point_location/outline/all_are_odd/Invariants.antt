@@ -1,5 +1,4 @@
 use Rattle.std.proofs.Common.{◌≡◌, ◌≤◌, length, take}
-use Rattle.plane_base.specs.Views.{point_of, points_of}
 use Rattle.segment_arrangement.specs.EdgeSides.{differ}
 use Rattle.segment_arrangement.specs.FanLaws.{whole}
 use Rattle.contour_walk.specs.Walks.{contour_edges}
@@ -11,8 +10,8 @@ use Rattle.polygon_overlay.proofs.point_location.outline.all_are_odd.Given as go
 -- What lies behind the stretches that are left is told, and makes with them what all edges are.
 abbrev pub invariant-loop-left : goal.invariant-loop-left
 invariant-loop-left g l =
-    let contour = points_of g.I.OverlayInt.value l.points in
-    let p = whole (point_of g.I.OverlayInt.value l.point) in
+    let contour = l.points in
+    let p = whole l.point in
     (l.left ≤ length l.stretches)
     × (in_contour contour p ≡ differ (are_odd_below (take (end_before l.stretches l.left) (contour_edges contour)) p) l.is_odd)
 

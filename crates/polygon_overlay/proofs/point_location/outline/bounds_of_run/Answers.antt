@@ -1,5 +1,4 @@
 use Rattle.std.proofs.Common.{arith}
-use Rattle.plane_base.specs.Views.{points_of}
 use Rattle.polygon_overlay.specs.PointBoxes.{bounds_of}
 use Rattle.polygon_overlay.specs.Stretches.{edge_ends}
 use Rattle.polygon_overlay.proofs.Locating.OutlineLaws.{boxed_more}
@@ -13,8 +12,8 @@ with_edge-bounds-requires g c = omega (arith, c.requires.within, c.loop-place-te
 
 pub loop-place-preserved : goal.loop-place-preserved
 loop-place-preserved g c =
-    let value = g.I.OverlayInt.value in
-    boxed_more (edge_ends (points_of value c.args.points.now)) (bounds_of value c.loop-place.bounds) (bounds_of value c.with_edge-bounds.result) c.args.first
+    let value = g.I.IntNumber.value in
+    boxed_more (edge_ends c.args.points.now) (bounds_of value c.loop-place.bounds) (bounds_of value c.with_edge-bounds.result) c.args.first
     c.loop-place.place c.with_edge-bounds.ensures.kept c.with_edge-bounds.ensures.edge c.loop-place.invariant
 
 pub returns : goal.returns

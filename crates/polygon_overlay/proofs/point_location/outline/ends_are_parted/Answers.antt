@@ -14,7 +14,7 @@ corner_at-to-requires-clause-some g c = omega (arith, c.requires.some, c.require
 
 pub returns : goal.returns
 returns g c = λ d.
-    let x = g.I.OverlayInt.value c.args.point.x in
+    let x = c.args.point.x in
     c.differ.ensures
     ∙ ap₂ differ (c.is_left_of.ensures ∙ ap (λ (q : Point). int_lt x q.x) (c.corner_at-from.ensures d))
     (c.is_left_of-2.ensures ∙ ap (λ (q : Point). int_lt x q.x) (c.corner_at-to.ensures d))

@@ -1,6 +1,4 @@
 use Rattle.std.proofs.Common.{◌≡◌, ◌∙◌, ◌+◌, ◌-◌, ◌≤◌, inl, inr, length, refl, sym, subst, arith}
-use Rattle.std.proofs.lemmas.List.{length-map}
-use Rattle.plane_base.specs.Views.{point_of, points_of}
 use Rattle.segment_arrangement.specs.FanLaws.{whole}
 use Rattle.contour_walk.specs.Walks.{contour_edges}
 use Rattle.polygon_overlay.specs.PointBoxes.{bounds_of}
@@ -13,13 +11,13 @@ returns-then-is_clear-clause-fewer g c = c.requires.earlier
 
 pub returns-then-is_clear-clause-looked : goal.returns-then-is_clear-clause-looked
 returns-then-is_clear-clause-looked g c =
-    let value = g.I.OverlayInt.value in
+    let value = g.I.IntNumber.value in
     let s = c.args.stretch in
     let many : s.end ≡ s.first + (s.end - s.first) = omega (arith, c.requires.some) in
-    let within : s.end ≤ length (points_of value c.args.points.now) = let e = length-map c.args.points.now (point_of value) in omega (arith, e, c.requires.within) in
+    let within : s.end ≤ length c.args.points.now = c.requires.within in
     inr (
       refl,
-      run_clear (points_of value c.args.points.now) (point_of value c.args.point) (bounds_of value s.bounds) (sym c.is_clear.ensures ∙ c.if-is_clear.true)
+      run_clear c.args.points.now c.args.point (bounds_of value s.bounds) (sym c.is_clear.ensures ∙ c.if-is_clear.true)
           s.first (s.end - s.first) s.end many within c.requires.boxed,
     )
 
@@ -28,12 +26,12 @@ returns-then-is_under-clause-fewer g c = c.requires.earlier
 
 pub returns-then-is_under-clause-looked : goal.returns-then-is_under-clause-looked
 returns-then-is_under-clause-looked g c =
-    let value = g.I.OverlayInt.value in
-    let points = points_of value c.args.points.now in
-    let p = point_of value c.args.point in
+    let value = g.I.IntNumber.value in
+    let points = c.args.points.now in
+    let p = c.args.point in
     let s = c.args.stretch in
     let many : s.end ≡ s.first + (s.end - s.first) = omega (arith, c.requires.some) in
-    let within : s.end ≤ length points = let e = length-map c.args.points.now (point_of value) in omega (arith, e, c.requires.within) in
+    let within : s.end ≤ length points = c.requires.within in
     inr (
       refl,
       subst (IsParityBetween (contour_edges points) (whole p) s.first s.end) (sym (c.ends_are_parted.ensures p))

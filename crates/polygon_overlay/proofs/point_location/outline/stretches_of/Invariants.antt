@@ -1,10 +1,9 @@
 use Rattle.std.proofs.Common.{◌≡◌, ◌*◌, length}
-use Rattle.plane_base.specs.Views.{points_of}
 use Rattle.polygon_overlay.specs.Stretches.{end_before, AreStretches, edge_ends}
 use Rattle.polygon_overlay.proofs.point_location.outline.stretches_of.Given as goal
 
 -- The stretches are such of the contour's edges, up to the run that is next.
 abbrev pub invariant-loop-run : goal.invariant-loop-run
 invariant-loop-run g l =
-    AreStretches g.I.OverlayInt.value (edge_ends (points_of g.I.OverlayInt.value l.points)) l.stretches.items
+    AreStretches g.I.IntNumber.value (edge_ends l.points) l.stretches.items
     × (end_before l.stretches.items (length l.stretches.items) ≡ l.run * 8)

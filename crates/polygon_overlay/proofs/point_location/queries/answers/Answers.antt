@@ -16,11 +16,11 @@ loop-query-preserved g c =
     record {
       long = length-set found c.query-item.result.index c.query-item.result.is_found ∙ c.loop-query.invariant.long;
       told = λ inside are.
-          told_more c.args.points.now c.args.queries.now c.requires g.I.OverlayInt.value inside are found c.loop-query.invariant.long c.loop-query.query-index c.query-item.result
+          told_more c.args.points.now c.args.queries.now c.requires g.I.IntNumber.value inside are found c.loop-query.invariant.long c.loop-query.query-index c.query-item.result
           c.loop-query-test.true c.query-item.is (c.loop-query.invariant.told inside are);
     }
 
 pub returns-clause-is : goal.returns-clause-is
 returns-clause-is g c inside are =
-    all_told c.args.points.now c.args.queries.now c.requires g.I.OverlayInt.value inside are c.loop-query.found.items c.loop-query.invariant.long c.loop-query.query-index
+    all_told c.args.points.now c.args.queries.now c.requires g.I.IntNumber.value inside are c.loop-query.found.items c.loop-query.invariant.long c.loop-query.query-index
     c.loop-query-test.false (c.loop-query.invariant.told inside are)

@@ -6,14 +6,14 @@ use Rattle.polygon_overlay.proofs.point_location.queries.first_from.Goals as goa
 
 pub returns-clause-left : goal.returns-clause-left
 returns-clause-left g c n d l =
-    let value = g.I.OverlayInt.value in
-    let found = IsPartitionPoint-from_clause (λ q. int_lt (value q.point.x) (value c.args.start.x)) c.args.queries.now c.partition_point.result c.partition_point.ensures.partitioned
-    (parted_by_column value (value c.args.start.x) c.args.queries.now c.requires.rising) (λ a r f' k. (search rules, search rules)) in
-    lt_tells (value (get_or c.args.queries.now n d).point.x) (value c.args.start.x) (found.0 n d (omega arith) l)
+    let value = g.I.IntNumber.value in
+    let found = IsPartitionPoint-from_clause (λ q. int_lt q.point.x c.args.start.x) c.args.queries.now c.partition_point.result c.partition_point.ensures.partitioned
+    (parted_by_column value c.args.start.x c.args.queries.now c.requires.rising) (λ a r f' k. (search rules, search rules)) in
+    lt_tells (get_or c.args.queries.now n d).point.x c.args.start.x (found.0 n d (omega arith) l)
 
 pub returns-clause-right : goal.returns-clause-right
 returns-clause-right g c n d l m =
-    let value = g.I.OverlayInt.value in
-    let found = IsPartitionPoint-from_clause (λ q. int_lt (value q.point.x) (value c.args.start.x)) c.args.queries.now c.partition_point.result c.partition_point.ensures.partitioned
-    (parted_by_column value (value c.args.start.x) c.args.queries.now c.requires.rising) (λ a r f' k. (search rules, search rules)) in
-    lt_tells_not (value (get_or c.args.queries.now n d).point.x) (value c.args.start.x) (found.1 n d l m)
+    let value = g.I.IntNumber.value in
+    let found = IsPartitionPoint-from_clause (λ q. int_lt q.point.x c.args.start.x) c.args.queries.now c.partition_point.result c.partition_point.ensures.partitioned
+    (parted_by_column value c.args.start.x c.args.queries.now c.requires.rising) (λ a r f' k. (search rules, search rules)) in
+    lt_tells_not (get_or c.args.queries.now n d).point.x c.args.start.x (found.1 n d l m)

@@ -1,6 +1,5 @@
 use Rattle.std.proofs.Common.{◌∙◌, ◌∷◌, [], map, sym, ap}
 use Rattle.std.proofs.lemmas.List.{append-nil}
-use Rattle.plane_base.specs.Views.{points_of}
 use Rattle.contour_walk.specs.Walks.{contour_edges}
 use Rattle.polygon_overlay.specs.LocationViews.{passed, located}
 use Rattle.polygon_overlay.proofs.Locating.LocationLaws.{ended}
@@ -8,11 +7,11 @@ use Rattle.polygon_overlay.proofs.point_location.queries.locate_in_contour.Goals
 
 pub returns : goal.returns
 returns g c =
-    let value = g.I.OverlayInt.value in
-    let points = points_of value c.args.points.now in
+    let value = g.I.IntNumber.value in
+    let points = c.args.points.now in
     let old = c.args.queries.now in
     c.end_shape.ensures
-    ∙ (ap (map (located value [])) (c.pass_contour-odd.ensures.is ∙ ap (λ es. map (passed value es) old) (sym (append-nil (contour_edges points))))
+    ∙ (ap (map (located [])) (c.pass_contour-odd.ensures.is ∙ ap (λ es. map (passed es) old) (sym (append-nil (contour_edges points))))
     ∙ ended value (points ∷ []) old)
 
 pub pass_contour-odd-requires-clause-odd : goal.pass_contour-odd-requires-clause-odd

@@ -7,8 +7,7 @@ use Rattle.polygon_overlay.proofs.point_location.queries.locate_in_shape.Given a
 -- The contours before this one have turned what their edges pass below.
 abbrev pub invariant-loop-contour : goal.invariant-loop-contour
 invariant-loop-contour g l =
-    let value = g.I.OverlayInt.value in
     record {
-      turned : l.queries ≡ map (passed value (flat_map contour_edges (contours_of value (take l.contour-index l.contours)))) l.fn.queries;
+      turned : l.queries ≡ map (passed (flat_map contour_edges (contours_of (take l.contour-index l.contours)))) l.fn.queries;
       odd : AreOddWithin l.odd.first l.odd.end l.queries;
     }

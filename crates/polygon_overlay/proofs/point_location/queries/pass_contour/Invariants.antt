@@ -1,5 +1,4 @@
 use Rattle.std.proofs.Common.{◌≡◌, map, take}
-use Rattle.plane_base.specs.Views.{points_of}
 use Rattle.contour_walk.specs.Walks.{contour_edges}
 use Rattle.polygon_overlay.specs.LocationViews.{passed, AreOddWithin}
 use Rattle.polygon_overlay.proofs.point_location.queries.pass_contour.Given as goal
@@ -7,8 +6,7 @@ use Rattle.polygon_overlay.proofs.point_location.queries.pass_contour.Given as g
 -- The edges before this one have turned what they pass below.
 abbrev pub invariant-loop-place : goal.invariant-loop-place
 invariant-loop-place g l =
-    let value = g.I.OverlayInt.value in
     record {
-      turned : l.queries ≡ map (passed value (take l.place (contour_edges (points_of value l.points)))) l.fn.queries;
+      turned : l.queries ≡ map (passed (take l.place (contour_edges l.points))) l.fn.queries;
       odd : AreOddWithin l.odd.first l.odd.end l.queries;
     }

@@ -2,7 +2,6 @@ use Rattle.std.proofs.Common.{◌≡◌, ◌∙◌, ◌++◌, ◌∷◌, [], tak
 use Rattle.std.proofs.lemmas.List.{take_all}
 use Rattle.std.proofs.lemmas.List.Sorted.{length_permutation}
 use Rattle.plane_base.specs.Plane.{IsWithin}
-use Rattle.plane_base.specs.Views.{point_of}
 use Rattle.polygon_overlay.specs.LocationViews.{all_asked, asked, AreReady}
 use Rattle.polygon_overlay.proofs.Locating.LocationLaws.{asked_more, asked_within, written_back}
 use Rattle.polygon_overlay.proofs.point_location.queries.sorted_queries.Goals as goal
@@ -18,8 +17,8 @@ pub sort_by_column-requires : goal.sort_by_column-requires
 sort_by_column-requires g c =
     let points = c.args.points.now in
     let whole : take c.loop-index.index points ≡ points = take_all c.loop-index.index points (omega (arith, c.loop-index-test.false)) in
-    subst (All (λ q. IsWithin g.I.OverlayInt.least g.I.OverlayInt.greatest (point_of g.I.OverlayInt.value q.point))) (sym (c.deref_mut.ensures.value ∙ (c.loop-index.invariant ∙ ap (all_asked 0) whole)))
-    (asked_within g.I.OverlayInt.value g.I.OverlayInt.least g.I.OverlayInt.greatest points c.requires)
+    subst (All (λ q. IsWithin g.I.OverlayInt.least g.I.OverlayInt.greatest q.point)) (sym (c.deref_mut.ensures.value ∙ (c.loop-index.invariant ∙ ap (all_asked 0) whole)))
+    (asked_within g.I.IntNumber.value g.I.OverlayInt.least g.I.OverlayInt.greatest points c.requires)
 
 pub returns-clause-all : goal.returns-clause-all
 returns-clause-all g c =
@@ -36,4 +35,4 @@ pub returns-clause-ready : goal.returns-clause-ready
 returns-clause-ready g c =
     let new = c.sort_by_column.new.queries in
     let back = written_back new c.loop-index.queries.items c.loop-index.queries.len (omega (arith, length_permutation _ new c.sort_by_column.ensures.permutation, c.deref_mut.ensures.len)) in
-    subst (AreReady g.I.OverlayInt.least g.I.OverlayInt.greatest g.I.OverlayInt.value) (sym back) c.sort_by_column.ensures.ready
+    subst (AreReady g.I.OverlayInt.least g.I.OverlayInt.greatest) (sym back) c.sort_by_column.ensures.ready

@@ -5,4 +5,4 @@ use Rattle.polygon_overlay.proofs.point_location.resolved.are_contours_resolved.
 
 -- The contours before this one are resolved.
 abbrev pub invariant-loop-contour : goal.invariant-loop-contour
-invariant-loop-contour g l = All IsResolved (contours_of g.I.OverlayInt.value (take l.contour-index l.contours))
+invariant-loop-contour g l = All IsResolved (contours_of (take l.contour-index l.contours))

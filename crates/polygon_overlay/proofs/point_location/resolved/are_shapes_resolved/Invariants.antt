@@ -5,4 +5,4 @@ use Rattle.polygon_overlay.proofs.point_location.resolved.are_shapes_resolved.Gi
 
 -- The contours of the shapes before this one are resolved.
 abbrev pub invariant-loop-shape : goal.invariant-loop-shape
-invariant-loop-shape g l = All (All IsResolved) (shapes_of g.I.OverlayInt.value (take l.shape-index l.shapes))
+invariant-loop-shape g l = All (All IsResolved) (shapes_of (take l.shape-index l.shapes))

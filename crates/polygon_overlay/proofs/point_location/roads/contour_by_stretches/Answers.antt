@@ -1,8 +1,7 @@
 use Rattle.std.proofs.Common.{◌∙◌, map, ap, arith}
 use Rattle.std.proofs.lemmas.List.{take_all}
 use Rattle.plane_base.specs.Plane.{Point, IsWithin}
-use Rattle.plane_base.specs.Views.{point_of, points_of}
-use Rattle.plane_base.proofs.Facts.Lists.Views.{All-mapped}
+use Rattle.plane_base.proofs.Facts.Lists.Views.{All_at}
 use Rattle.segment_arrangement.specs.FanLaws.{whole}
 use Rattle.polygon_overlay.specs.Location.{in_contour}
 use Rattle.polygon_overlay.proofs.Locating.IndexLaws.{located_more}
@@ -10,17 +9,17 @@ use Rattle.polygon_overlay.proofs.point_location.roads.contour_by_stretches.Goal
 
 pub is_inside-is_in-requires-clause-point_in_range : goal.is_inside-is_in-requires-clause-point_in_range
 is_inside-is_in-requires-clause-point_in_range g c =
-    All-mapped (IsWithin g.I.OverlayInt.least g.I.OverlayInt.greatest) (point_of g.I.OverlayInt.value) c.args.points.now c.loop-place.place
+    All_at (IsWithin g.I.OverlayInt.least g.I.OverlayInt.greatest) c.args.points.now c.loop-place.place
     c.index-points-place.result c.loop-place-test.true c.index-points-place.is c.requires.points_in_range
 
 pub loop-place-preserved : goal.loop-place-preserved
 loop-place-preserved g c =
     c.in_ok-push.ensures.items
-    ∙ located_more (point_of g.I.OverlayInt.value) (λ (p : Point). in_contour (points_of g.I.OverlayInt.value c.args.contour.now) (whole p)) c.args.points.now c.loop-place.place c.index-points-place.result
+    ∙ located_more (λ (p : Point). in_contour c.args.contour.now (whole p)) c.args.points.now c.loop-place.place c.index-points-place.result
     c.loop-place-test.true c.index-points-place.is c.loop-place.inside.items c.loop-place.invariant c.is_inside-is_in.result c.is_inside-is_in.ensures
 
 pub returns-clause-located : goal.returns-clause-located
 returns-clause-located g c =
     c.loop-place.invariant
-    ∙ ap (λ ps. map (λ (p : Point). in_contour (points_of g.I.OverlayInt.value c.args.contour.now) (whole p)) (points_of g.I.OverlayInt.value ps))
+    ∙ ap (λ ps. map (λ (p : Point). in_contour c.args.contour.now (whole p)) ps)
     (take_all c.loop-place.place c.args.points.now (omega (arith, c.loop-place-test.false)))

@@ -1,5 +1,4 @@
 use Rattle.std.proofs.Common.{◌≡◌, map, take}
-use Rattle.plane_base.specs.Views.{points_of}
 use Rattle.segment_arrangement.specs.FanLaws.{whole}
 use Rattle.contour_walk.specs.ShapeViews.{shapes_of}
 use Rattle.polygon_overlay.specs.Location.{in_shapes}
@@ -8,4 +7,4 @@ use Rattle.polygon_overlay.proofs.point_location.roads.shapes_by_stretches.Given
 -- The points before this one are located.
 abbrev pub invariant-loop-place : goal.invariant-loop-place
 invariant-loop-place g l =
-    l.inside.items ≡ map (λ p. in_shapes (shapes_of g.I.OverlayInt.value l.shapes) (whole p)) (points_of g.I.OverlayInt.value (take l.place l.points))
+    l.inside.items ≡ map (λ p. in_shapes (shapes_of l.shapes) (whole p)) (take l.place l.points)

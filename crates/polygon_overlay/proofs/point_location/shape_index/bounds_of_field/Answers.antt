@@ -28,7 +28,7 @@ offset_bounds-outlines-number g c =
 
 pub loop-place-preserved : goal.loop-place-preserved
 loop-place-preserved g c = λ shapes outlined.
-    let value = g.I.OverlayInt.value in
+    let value = g.I.IntNumber.value in
     let order = c.args.order.now in
     let i = c.loop-place.place in
     let n = c.number_at-number.result in

@@ -9,5 +9,5 @@ use Rattle.polygon_overlay.proofs.point_location.shape_index.bounds_of_field.Giv
 -- The box has the shapes before this place.
 abbrev pub invariant-loop-place : goal.invariant-loop-place
 invariant-loop-place g l =
-    (shapes : List (List (List Point))) → AreOutlined g.I.OverlayInt.value shapes l.outlines → (k : ℕ) (d : List Point) → l.fn.first ≤ k → k < l.place
-    → All (LiesWithin (bounds_of g.I.OverlayInt.value l.bounds)) (slice_index_or (points_by shapes l.order) k d)
+    (shapes : List (List (List Point))) → AreOutlined g.I.IntNumber.value shapes l.outlines → (k : ℕ) (d : List Point) → l.fn.first ≤ k → k < l.place
+    → All (LiesWithin (bounds_of g.I.IntNumber.value l.bounds)) (slice_index_or (points_by shapes l.order) k d)

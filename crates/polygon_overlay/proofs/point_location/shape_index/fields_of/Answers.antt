@@ -4,7 +4,7 @@ use Rattle.polygon_overlay.proofs.Locating.StretchLaws.{none_yet}
 use Rattle.polygon_overlay.proofs.point_location.shape_index.fields_of.Goals as goal
 
 pub loop-run-init : goal.loop-run-init
-loop-run-init g c = rw c.new-fields.ensures.items (λ shapes outlined. none_yet g.I.OverlayInt.value (points_by shapes c.args.order.now), refl)
+loop-run-init g c = rw c.new-fields.ensures.items (λ shapes outlined. none_yet g.I.IntNumber.value (points_by shapes c.args.order.now), refl)
 
 pub push_field-requires-clause-within : goal.push_field-requires-clause-within
 push_field-requires-clause-within g c = omega (arith, c.runs_of-runs.ensures, c.loop-run-test.true)

@@ -2,7 +2,6 @@ use Rattle.std.proofs.Common.{◌≡◌, ◌-◌, ◌<◌, ℕ, zero, suc, Bool,
 use Rattle.std.specs.Prelude.{slice_index_or}
 use Rattle.std.proofs.lemmas.List.{length-map}
 use Rattle.plane_base.specs.GivenViews.{contours_of}
-use Rattle.plane_base.specs.Views.{point_of}
 use Rattle.plane_base.specs.declared.path.IntShape.{IntShape}
 use Rattle.segment_arrangement.specs.FanLaws.{whole}
 use Rattle.contour_walk.specs.ShapeViews.{shapes_of}
@@ -16,10 +15,10 @@ use Rattle.polygon_overlay.proofs.point_location.shape_index.in_fields.Goals as 
 
 -- the field that is looked at
 own : (g : Over) (c : After-index-fields-left g)
-    → IsStretch g.I.OverlayInt.value (points_by (shapes_of g.I.OverlayInt.value c.args.shapes.now) c.args.order.now) c.args.fields.now (c.loop-left.left - 1)
+    → IsStretch g.I.IntNumber.value (points_by (shapes_of c.args.shapes.now) c.args.order.now) c.args.fields.now (c.loop-left.left - 1)
     c.index-fields-left.result
 own g c =
-    own_stretch g.I.OverlayInt.value (points_by (shapes_of g.I.OverlayInt.value c.args.shapes.now) c.args.order.now) c.args.fields.now c.requires.fields
+    own_stretch g.I.IntNumber.value (points_by (shapes_of c.args.shapes.now) c.args.order.now) c.args.fields.now c.requires.fields
     (c.loop-left.left - 1) c.index-fields-left.result (omega (arith, c.loop-left.invariant.0, c.loop-left-test.true)) c.index-fields-left.is
 
 pub returns-then-some_has : goal.returns-then-some_has
@@ -27,15 +26,15 @@ returns-then-some_has g c = sym (c.some_has.ensures.found c.if-some_has.true)
 
 pub loop-left-init : goal.loop-left-init
 loop-left-init g c =
-    let value = g.I.OverlayInt.value in (
+    let value = g.I.IntNumber.value in (
       omega arith,
-      subst (λ n. NoneContains (shapes_of value c.args.shapes.now) c.args.order.now (whole (point_of value c.args.point)) n (length c.args.order.now)) c.end_of.ensures
+      subst (λ n. NoneContains (shapes_of c.args.shapes.now) c.args.order.now (whole c.args.point) n (length c.args.order.now)) c.end_of.ensures
           (c.some_has.ensures.none c.if-some_has.false),
     )
 
 pub look_at-look-requires-clause-within : goal.look_at-look-requires-clause-within
 look_at-look-requires-clause-within g c =
-    let shapes = shapes_of g.I.OverlayInt.value c.args.shapes.now in
+    let shapes = shapes_of c.args.shapes.now in
     let within = (own g (goal.at.look_at-look-requires-clause-within g c).After-index-fields-left).within in
     let long = length-map c.args.order.now (λ (s : Placed). flat_map (λ c. c) (slice_index_or shapes s.number [])) in
     omega (arith, within, long)
@@ -54,9 +53,9 @@ loop-left-smaller g c = omega (arith, c.look_at-look.ensures.fewer, c.loop-left-
 
 pub loop-left-preserved : goal.loop-left-preserved
 loop-left-preserved g c =
-    let value = g.I.OverlayInt.value in
-    let p = whole (point_of value c.args.point) in
-    let shapes = shapes_of value c.args.shapes.now in
+    let value = g.I.IntNumber.value in
+    let p = whole c.args.point in
+    let shapes = shapes_of c.args.shapes.now in
     let order = c.args.order.now in
     let all = c.args.fields.now in
     let n = c.loop-left.left - 1 in
@@ -77,10 +76,9 @@ loop-left-preserved g c =
 
 pub returns : goal.returns
 returns g c =
-    let value = g.I.OverlayInt.value in
-    let p = whole (point_of value c.args.point) in
-    let shapes = shapes_of value c.args.shapes.now in
+    let p = whole c.args.point in
+    let shapes = shapes_of c.args.shapes.now in
     let none : c.loop-left.left ≡ zero = omega (arith, c.loop-left-test.false) in
-    let long = length-map c.args.shapes.now (λ (s : IntShape g.row.I.Denot). contours_of value s.contours.items) in
+    let long = length-map c.args.shapes.now (λ (s : IntShape g.row.I.Denot). contours_of s.contours.items) in
     sym (none_contains shapes c.args.order.now p (λ n l. c.requires.each n (omega (arith, l, long)))
     (subst (λ k. NoneContains shapes c.args.order.now p (end_before c.args.fields.now k) (length c.args.order.now)) none c.loop-left.invariant.1))

@@ -16,8 +16,8 @@ fields_of-requires g c =
 
 pub returns-clause-indexed : goal.returns-clause-indexed
 returns-clause-indexed g c =
-    let value = g.I.OverlayInt.value in
-    let shapes = shapes_of value c.args.shapes.now in
+    let value = g.I.IntNumber.value in
+    let shapes = shapes_of c.args.shapes.now in
     let outlines = c.in_ok-outlines.outlines.items in
     let order = c.in_ok-order.order.items in
     let outlined : AreOutlined value shapes outlines = c.in_ok-outlines.ensures.outlined in

@@ -1,6 +1,5 @@
 use Rattle.std.proofs.Common.{◌∙◌, inl, inr, refl, sym, arith}
 use Rattle.std.proofs.lemmas.Bool.{false≢true}
-use Rattle.plane_base.specs.Views.{point_of}
 use Rattle.contour_walk.specs.ShapeViews.{shapes_of}
 use Rattle.polygon_overlay.specs.PointBoxes.{bounds_of}
 use Rattle.polygon_overlay.proofs.Locating.IndexLaws.{field_off}
@@ -14,11 +13,11 @@ returns-then-is_off-clause-found g c = λ e. absurd (false≢true e)
 
 pub returns-then-is_off-clause-looked : goal.returns-then-is_off-clause-looked
 returns-then-is_off-clause-looked g c =
-    let value = g.I.OverlayInt.value in
+    let value = g.I.IntNumber.value in
     let field = c.args.field in
     inr (
       refl,
-      λ _. field_off (shapes_of value c.args.shapes.now) c.args.order.now (point_of value c.args.point) (bounds_of value field.bounds) field.first field.end
+      λ _. field_off (shapes_of c.args.shapes.now) c.args.order.now c.args.point (bounds_of value field.bounds) field.first field.end
           c.requires.within c.requires.boxed (sym c.is_off.ensures ∙ c.if-is_off.true),
     )
 

@@ -7,4 +7,4 @@ use Rattle.polygon_overlay.proofs.point_location.shape_index.outlines_of.Given a
 -- The contours before this one are outlined.
 abbrev pub invariant-loop-contour : goal.invariant-loop-contour
 invariant-loop-contour g l =
-    AllZip (IsOutlined g.I.OverlayInt.value) (contours_of g.I.OverlayInt.value (take l.contour-index l.contours)) l.outlines.items
+    AllZip (IsOutlined g.I.IntNumber.value) (contours_of (take l.contour-index l.contours)) l.outlines.items

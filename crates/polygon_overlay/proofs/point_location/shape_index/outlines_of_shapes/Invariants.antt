@@ -5,4 +5,4 @@ use Rattle.polygon_overlay.proofs.point_location.shape_index.outlines_of_shapes.
 
 -- The shapes before this one are outlined.
 abbrev pub invariant-loop-shape : goal.invariant-loop-shape
-invariant-loop-shape g l = AreOutlined g.I.OverlayInt.value (shapes_of g.I.OverlayInt.value (take l.shape-index l.shapes)) l.all.items
+invariant-loop-shape g l = AreOutlined g.I.IntNumber.value (shapes_of (take l.shape-index l.shapes)) l.all.items

@@ -8,7 +8,7 @@ use Rattle.polygon_overlay.proofs.point_location.shape_index.push_field.Goals as
 
 pub returns-clause-pushed : goal.returns-clause-pushed
 returns-clause-pushed g c = λ shapes outlined are.
-    let value = g.I.OverlayInt.value in
+    let value = g.I.IntNumber.value in
     let order = c.args.order.now in
     let all = c.args.fields.now.items in
     let first = c.args.first in

@@ -5,11 +5,11 @@ use Rattle.polygon_overlay.proofs.Locating.IndexLaws.{HasBox, shape_boxed}
 use Rattle.polygon_overlay.proofs.point_location.shape_index.with_outlines.Goals as goal
 
 pub loop-outline-init : goal.loop-outline-init
-loop-outline-init g c = (λ p h. h, All-nil (HasBox g.I.OverlayInt.value c.args.bounds))
+loop-outline-init g c = (λ p h. h, All-nil (HasBox g.I.IntNumber.value c.args.bounds))
 
 pub loop-outline-preserved : goal.loop-outline-preserved
 loop-outline-preserved g c =
-    let value = g.I.OverlayInt.value in
+    let value = g.I.IntNumber.value in
     let outlines = c.args.outlines.now in
     let i = c.loop-outline.outline-index in
     let x = c.outline-item.result in
@@ -29,7 +29,7 @@ returns-clause-kept g c = c.loop-outline.invariant.0
 
 pub returns-clause-shape : goal.returns-clause-shape
 returns-clause-shape g c = λ cs zip.
-    let value = g.I.OverlayInt.value in
+    let value = g.I.IntNumber.value in
     shape_boxed value c.loop-outline.wider cs c.args.outlines.now zip
     (subst (All (HasBox value c.loop-outline.wider)) (take_all c.loop-outline.outline-index c.args.outlines.now (omega (arith, c.loop-outline-test.false)))
     c.loop-outline.invariant.1)

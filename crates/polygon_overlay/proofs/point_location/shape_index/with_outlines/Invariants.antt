@@ -9,5 +9,5 @@ use Rattle.polygon_overlay.proofs.point_location.shape_index.with_outlines.Given
 -- The box has all that it had, and the boxes of the outlines before this one.
 abbrev pub invariant-loop-outline : goal.invariant-loop-outline
 invariant-loop-outline g l =
-    ((p : Point) → LiesWithin (bounds_of g.I.OverlayInt.value l.fn.bounds) p → LiesWithin (bounds_of g.I.OverlayInt.value l.wider) p)
-    × All (HasBox g.I.OverlayInt.value l.wider) (take l.outline-index l.outlines)
+    ((p : Point) → LiesWithin (bounds_of g.I.IntNumber.value l.fn.bounds) p → LiesWithin (bounds_of g.I.IntNumber.value l.wider) p)
+    × All (HasBox g.I.IntNumber.value l.wider) (take l.outline-index l.outlines)

@@ -4,17 +4,17 @@ use Rattle.polygon_overlay.proofs.Locating.StretchLaws.{joins_itself, joins_two}
 use Rattle.polygon_overlay.proofs.point_location.stretches.join_two.Goals as goal
 
 pub returns-then-count-eq0-clause-joined : goal.returns-then-count-eq0-clause-joined
-returns-then-count-eq0-clause-joined g c = joins_itself g.I.OverlayInt.value c.args.stretches.now.items
+returns-then-count-eq0-clause-joined g c = joins_itself g.I.IntNumber.value c.args.stretches.now.items
 
 pub returns-then-from-eq0-clause-joined : goal.returns-then-from-eq0-clause-joined
-returns-then-from-eq0-clause-joined g c = joins_itself g.I.OverlayInt.value c.args.stretches.now.items
+returns-then-from-eq0-clause-joined g c = joins_itself g.I.IntNumber.value c.args.stretches.now.items
 
 pub returns-then-from-count-clause-joined : goal.returns-then-from-count-clause-joined
-returns-then-from-count-clause-joined g c = joins_itself g.I.OverlayInt.value c.args.stretches.now.items
+returns-then-from-count-clause-joined g c = joins_itself g.I.IntNumber.value c.args.stretches.now.items
 
 pub returns-clause-joined : goal.returns-clause-joined
 returns-clause-joined g c =
-    let value = g.I.OverlayInt.value in
+    let value = g.I.IntNumber.value in
     let all = c.args.stretches.now.items in
     let count = c.len-count.result in
     let many : count ≡ length all = omega (arith, c.len-count.ensures, c.args.stretches.now.ok.0) in

@@ -6,11 +6,11 @@ use Rattle.polygon_overlay.proofs.query.flat.contours_of_arrangement.Goals as go
 
 pub extract_contours_into-requires : goal.extract_contours_into-requires
 extract_contours_into-requires g c =
-    record { graph = (fill_rule_of c.args.query.fill_rule, entries_of g.I.OverlayInt.value c.args.segments.now, c.requires.arrangement, inr c.in_ok-graph.ensures.links) }
+    record { graph = (fill_rule_of c.args.query.fill_rule, entries_of c.args.segments.now, c.requires.arrangement, inr c.in_ok-graph.ensures.links) }
 
 pub returns-clause-laid : goal.returns-clause-laid
 returns-clause-laid g c = record {
-  is = c.extract_contours_into.ensures.is (fill_rule_of c.args.query.fill_rule) (entries_of g.I.OverlayInt.value c.args.segments.now) (inr c.in_ok-graph.ensures.links);
+  is = c.extract_contours_into.ensures.is (fill_rule_of c.args.query.fill_rule) (entries_of c.args.segments.now) (inr c.in_ok-graph.ensures.links);
   well_formed = c.extract_contours_into.ensures.well_formed;
   refused = c.extract_contours_into.ensures.refused;
 }

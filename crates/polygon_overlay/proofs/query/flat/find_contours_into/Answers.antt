@@ -31,7 +31,7 @@ returns-in_err-redraw-clause-refused g c =
 
 pub returns-clause-laid : goal.returns-clause-laid
 returns-clause-laid g c =
-    subst (λ es. LaysFlat g.I.OverlayInt.value (flat_answer (answering_of c.args.query.options)
+    subst (λ es. LaysFlat (flat_answer (answering_of c.args.query.options)
     (borders (fill_rule_of c.args.query.fill_rule) (overlay_rule_of c.args.query.overlay_rule) es)) c.contours_of_redrawn.new.output c.contours_of_redrawn.result)
     (ap (λ h. h.edges) c.in_ok-redraw.ensures.redrawn) c.contours_of_redrawn.ensures.laid
 

@@ -1,5 +1,4 @@
 use Rattle.std.proofs.Common.{false}
-use Rattle.plane_base.specs.Views.{points_of}
 use Rattle.polygon_overlay.proofs.Holding.HeldLaws.{held_after_contour}
 use Rattle.polygon_overlay.proofs.relate.PredicateOverlay.add_contour.Goals as goal
 
@@ -8,6 +7,6 @@ invariant_of-self g c =
     record {
       balanced = held_after_contour g.I.OverlayInt.least g.I.OverlayInt.greatest c.args.shape_type false
           c.args.self.now.held.edges c.add_contour.new.self.edges c.args.self.now.balanced
-          c.add_contour.result (points_of g.I.OverlayInt.value c.args.contour.now) c.requires.in_range
+          c.add_contour.result c.args.contour.now c.requires.in_range
           (rw c.count_of_type.ensures at c.add_contour.ensures.added) c.add_contour.ensures.unchanged;
     }

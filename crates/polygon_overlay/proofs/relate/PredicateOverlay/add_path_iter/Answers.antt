@@ -3,7 +3,6 @@ use Rattle.std.proofs.Common.{Bool, true, false, List, All, sym, ◌∙◌, subs
 use Rattle.std.specs.Iterator.{Drains, DrainsIf}
 use Rattle.plane_base.specs.Plane.{IsWithin}
 use Rattle.plane_base.specs.Counts.{boolean}
-use Rattle.plane_base.specs.Views.{points_of}
 use Rattle.plane_base.specs.declared.fault.Fault.{Fault}
 use Rattle.segment_split.specs.Adding.{Adds, IsRefused}
 use Rattle.segment_split.specs.Holdings.{IsRefusedBy}
@@ -25,14 +24,13 @@ add_contour-requires g c =
     let same = sym (c.deref.ensures.value ∙ ran.2.0) in
     record {
       in_range =
-          subst (λ points. All (IsWithin g.I.OverlayInt.least g.I.OverlayInt.greatest) (points_of g.I.OverlayInt.value points)) same
+          subst (λ points. All (IsWithin g.I.OverlayInt.least g.I.OverlayInt.greatest) points) same
           (c.requires.in_range ran.0 (drained g.It.Iterator.next_gives (Unit {0}) c.args.iter ran.0 tt ran.1));
     }
 
 pub returns : goal.returns
 returns g c =
     let ran = c.in_ok-points.ensures.ran in
-    let value = g.I.OverlayInt.value in
     let self = c.args.self.now in
     let same = c.deref.ensures.value ∙ ran.2.0 in
     let gives = drained g.It.Iterator.next_gives (Unit {0}) c.args.iter ran.0 tt ran.1 in
@@ -41,12 +39,12 @@ returns g c =
     let added = c.add_contour.ensures in
     record {
       added = on_answer c.add_contour.result
-          (λ adds. (ran.0, gives, subst (λ points. Adds boolean t keep_all (points_of value points) self.held.edges c.add_contour.new.self.held.edges) same adds))
+          (λ adds. (ran.0, gives, subst (λ points. Adds boolean t keep_all points self.held.edges c.add_contour.new.self.held.edges) same adds))
           added.takes.added;
       unchanged = added.takes.unchanged;
       refused = if_refused c.add_contour.result
           (λ fault. for_more self.held.has_failed
-          (λ f why. inr (ran.0, gives, subst (λ points. IsRefused boolean t keep_all (points_of value points) self.held.edges f) same why)) fault)
+          (λ f why. inr (ran.0, gives, subst (λ points. IsRefused boolean t keep_all points self.held.edges f) same why)) fault)
           added.takes.refused;
       ready = added.takes.ready;
       failed = added.takes.stays;

@@ -6,7 +6,7 @@ use Rattle.polygon_overlay.proofs.relate.PredicateOverlay.touches.Goals as goal
 
 pub returns-clause-is : goal.returns-clause-is
 returns-clause-is g c =
-    none_met g.I.OverlayInt.value (λ ps qs. touches_with false ps qs (links_of c.args.self.now)) c.new.result.subj_points.items c.new.result.clip_points.items c.new.ensures.subjects c.new.ensures.clips c.evaluate.result
+    none_met g.I.IntNumber.value (λ ps qs. touches_with false ps qs (links_of c.args.self.now)) c.new.result.subj_points.items c.new.result.clip_points.items c.new.ensures.subjects c.new.ensures.clips c.evaluate.result
     c.evaluate.ensures.is
 
 pub returns-clause-asked : goal.returns-clause-asked

@@ -1,5 +1,3 @@
-use Rattle.std.proofs.Common.{map}
-use Rattle.plane_base.specs.Views.{points_of}
 use Rattle.polygon_overlay.specs.RelationLaws.{LieApart}
 use Rattle.polygon_overlay.specs.Singles.{AreDisjoint}
 use Rattle.polygon_overlay.proofs.Relating.ApartLaws.{apart_related}
@@ -8,14 +6,14 @@ use Rattle.polygon_overlay.proofs.relate.apart.lie_apart.Goals.{After-holding_go
 use Rattle.polygon_overlay.proofs.relate.apart.lie_apart.Goals as goal
 
 -- what lies apart is disjoint
-told : (g : Over) (c : After-holding_goes_on g) → LieApart (map (points_of g.I.OverlayInt.value) (g.S.IntShapeResource.paths c.args.subj.now))
-    (map (points_of g.I.OverlayInt.value) (g.C.IntShapeResource.paths c.args.clip.now))
-    → AreDisjoint (map (points_of g.I.OverlayInt.value) (g.S.IntShapeResource.paths c.args.subj.now))
-    (map (points_of g.I.OverlayInt.value) (g.C.IntShapeResource.paths c.args.clip.now))
+told : (g : Over) (c : After-holding_goes_on g) → LieApart (g.S.IntShapeResource.paths c.args.subj.now)
+    (g.C.IntShapeResource.paths c.args.clip.now)
+    → AreDisjoint (g.S.IntShapeResource.paths c.args.subj.now)
+    (g.C.IntShapeResource.paths c.args.clip.now)
 told g c =
     apart_related c.holding_goes_on.ensures c.apart_is_disjoint.ensures g.I.OverlayInt.least g.I.OverlayInt.greatest
-    (map (points_of g.I.OverlayInt.value) (g.S.IntShapeResource.paths c.args.subj.now))
-    (map (points_of g.I.OverlayInt.value) (g.C.IntShapeResource.paths c.args.clip.now)) c.requires.subj_in_range c.requires.clip_in_range
+    (g.S.IntShapeResource.paths c.args.subj.now)
+    (g.C.IntShapeResource.paths c.args.clip.now) c.requires.subj_in_range c.requires.clip_in_range
 
 pub returns-then-are_stacked : goal.returns-then-are_stacked
 returns-then-are_stacked g c = λ _. told g (goal.at.returns-then-are_stacked g c).After-holding_goes_on (c.are_stacked.ensures c.if-are_stacked.true)

@@ -40,15 +40,14 @@ either f (inr (inr c)) = inr c
 
 pub returns-clause-refused : goal.returns-clause-refused
 returns-clause-refused g c =
-    let value = g.I.OverlayInt.value in
     let same = c.segments.ensures.is ∙ ap (λ h. h.edges) c.in_ok-redraw_with_steps.ensures.redrawn in
     let fault = c.in-Err.fault in
-    let es = all_seen (λ c. c) value c.segments.result.now in
+    let es = all_seen (λ c. c) c.segments.result.now in
     not_swept c.args.solver.now.precision c.args.held.now.edges fault
     (subst (λ es. (fault ≡ Memory) ⊎ ((fault ≡ Count) × HasSideOutOfRange es)) same
     (either (told_refused (λ h n s. g.H.FillHandler.handles h n s.x_segment s.count s.datum) (λ h n s. g.H.FillHandler.refuses h n s.x_segment s.count s.datum)
     (λ f. f ≡ Memory) (λ h n s fill f why. g.met.H.PredicateHandler.memory h n s.x_segment s.count s.datum fill f why)
-    (fill_told boolean_fill value (fill_rule_of c.args.fill_rule) es) 0 c.segments.result.now c.args.handler fault)
+    (fill_told boolean_fill (fill_rule_of c.args.fill_rule) es) 0 c.segments.result.now c.args.handler fault)
     c.in-Err.ensures.err))
 
 -- ---- swept
@@ -62,12 +61,11 @@ run_with_fill_rule-requires-clause-arrangement g c = subst IsArrangement (sym c.
 
 pub returns-in-Ok-clause-is : goal.returns-in-Ok-clause-is
 returns-in-Ok-clause-is g c =
-    let value = g.I.OverlayInt.value in
     let rule = fill_rule_of c.args.fill_rule in
     let ss = c.segments.result.now in
-    told (λ h n s. g.H.FillHandler.handles h n s.x_segment s.count s.datum) g.H.FillHandler.finishes g.H.PredicateHandler.answers (λ s fill. link_told value s.x_segment fill)
+    told (λ h n s. g.H.FillHandler.handles h n s.x_segment s.count s.datum) g.H.FillHandler.finishes g.H.PredicateHandler.answers (λ s fill. link_told s.x_segment fill)
     (λ old new n s fill flow call. g.met.H.PredicateHandler.tells old new n s.x_segment s.count s.datum fill flow call) g.met.H.PredicateHandler.ends
-    (fill_told boolean_fill value rule (all_seen (λ c. c) value ss)) 0 ss c.args.handler c.in-Ok.answer c.in-Ok.ensures.ok
+    (fill_told boolean_fill rule (all_seen (λ c. c) ss)) 0 ss c.args.handler c.in-Ok.answer c.in-Ok.ensures.ok
     ∙ ap (g.H.PredicateHandler.answers c.args.handler)
-    (links_told (entry_of value) rule ss (redrawn_of c.args.solver.now.precision c.args.held.now.edges)
+    (links_told entry_of rule ss (redrawn_of c.args.solver.now.precision c.args.held.now.edges)
     (c.segments.ensures.is ∙ ap (λ h. h.edges) c.in_ok-redraw_with_steps.ensures.redrawn))

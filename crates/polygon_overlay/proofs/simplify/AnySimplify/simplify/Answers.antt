@@ -1,7 +1,6 @@
-use Rattle.std.proofs.Common.{[], ◌∙◌, map, inl, sym, subst}
+use Rattle.std.proofs.Common.{[], ◌∙◌, inl, subst}
 use Rattle.std.proofs.lemmas.Result.{err_from_is_err_and}
 use Rattle.plane_base.specs.Counts.{boolean, one_subject}
-use Rattle.plane_base.specs.Views.{points_of}
 use Rattle.segment_arrangement.specs.RuleViews.{fill_rule_of}
 use Rattle.segment_split.specs.Adding.{AddsAll}
 use Rattle.segment_split.proofs.Facts.Adding.Laws.{if_answered, if_refused}
@@ -17,8 +16,7 @@ returns-in_err-overlay g c =
 
 pub returns : goal.returns
 returns g c =
-    let value = g.I.OverlayInt.value in
-    let contours = map (points_of value) (g.S.IntShapeResource.paths c.args.self.now) in
+    let contours = (g.S.IntShapeResource.paths c.args.self.now) in
     let fill = fill_rule_of c.args.fill_rule in
     let made = c.in_ok-overlay.overlay in
     let new = c.in_ok-overlay.ensures.made in
@@ -29,8 +27,8 @@ returns g c =
         held = h.held;
         adds = subst (λ o. AddsAll boolean one_subject o.preserve_input_collinear contours [] h.held) new.options h.adds;
         is =
-            subst (λ o. IsSourceSimplified g.I.OverlayInt.least g.I.OverlayInt.greatest o fill default_precision contours h.held (shapes_of value shapes.shapes.items)) new.options
-            (subst (λ s. IsSourceSimplified g.I.OverlayInt.least g.I.OverlayInt.greatest made.options fill s.precision contours h.held (shapes_of value shapes.shapes.items)) solver h.answer);
+            subst (λ o. IsSourceSimplified g.I.OverlayInt.least g.I.OverlayInt.greatest o fill default_precision contours h.held (shapes_of shapes.shapes.items)) new.options
+            (subst (λ s. IsSourceSimplified g.I.OverlayInt.least g.I.OverlayInt.greatest made.options fill s.precision contours h.held (shapes_of shapes.shapes.items)) solver h.answer);
       }) finds.answered;
       refused = if_refused c.simplify_source.result
           (λ fault why. subst (λ o. IsNotSimplified o.preserve_input_collinear default_precision contours fault) new.options

@@ -1,9 +1,8 @@
-use Rattle.std.proofs.Common.{◌≡◌, ◌∙◌, sym, ap, subst, List, [], ◌∷◌, ◌++◌, ◌+◌, map, drop, All, append_assoc, append-nil, arith}
-use Rattle.std.proofs.lemmas.List.{length-map, map-append, drop_all}
+use Rattle.std.proofs.Common.{◌≡◌, ◌∙◌, sym, ap, subst, List, [], ◌∷◌, ◌++◌, ◌+◌, drop, All, append_assoc, append-nil, arith}
+use Rattle.std.proofs.lemmas.List.{drop_all}
 use Rattle.plane_base.specs.Plane.{Point}
-use Rattle.plane_base.specs.Views.{point_of, points_of}
 use Rattle.plane_base.specs.Windings.{contour_winding}
-use Rattle.plane_base.proofs.Facts.Lists.Views.{drop-mapped}
+use Rattle.plane_base.proofs.Facts.Lists.Views.{drop_at}
 use Rattle.segment_split.specs.Groups.{LiesWithin}
 use Rattle.polygon_overlay.specs.Tiles.{clamped}
 use Rattle.polygon_overlay.specs.TileViews.{bounds_of}
@@ -15,23 +14,20 @@ loop-point-init g c = rw c.in_ok-kept.ensures.items
 
 pub loop-point-preserved : goal.loop-point-preserved
 loop-point-preserved g c =
-    let f = point_of g.I.OverlayInt.value in
-    let tile = bounds_of g.I.OverlayInt.value c.args.self.now in
+    let tile = bounds_of g.I.IntNumber.value c.args.self.now in
     let points = c.args.points.now in
     let before = c.loop-point.kept.items in
-    let rest = clamped tile (drop (c.loop-point.point-index + 1) (map f points)) in
-    let next = drop-mapped f points c.loop-point.point-index c.point-item.result c.loop-point-test.true c.point-item.is in
+    let rest = clamped tile (drop (c.loop-point.point-index + 1) points) in
+    let next = drop_at points c.loop-point.point-index c.point-item.result c.loop-point-test.true c.point-item.is in
     rw c.in_ok-push.ensures.items
-    (ap (λ ps. ps ++ rest) (map-append f before (c.clamp.result ∷ []))
-    ∙ (append_assoc (map f before) (f c.clamp.result ∷ []) rest
-    ∙ (ap (λ ps. map f before ++ ps) (ap (λ (p : Point). p ∷ rest) c.clamp.ensures ∙ sym (ap (clamped tile) next)) ∙ c.loop-point.invariant)))
+    (append_assoc before (c.clamp.result ∷ []) rest
+    ∙ (ap (λ ps. before ++ ps) (ap (λ (p : Point). p ∷ rest) c.clamp.ensures ∙ sym (ap (clamped tile) next)) ∙ c.loop-point.invariant))
 
 pub returns-clause-answered : goal.returns-clause-answered
 returns-clause-answered g c =
-    let f = point_of g.I.OverlayInt.value in
-    let tile = bounds_of g.I.OverlayInt.value c.args.self.now in
-    let points = points_of g.I.OverlayInt.value c.args.points.now in
-    let all : drop c.loop-point.point-index points ≡ [] = drop_all c.loop-point.point-index points (omega (arith, length-map c.args.points.now f, c.loop-point-test.false)) in
+    let tile = bounds_of g.I.IntNumber.value c.args.self.now in
+    let points = c.args.points.now in
+    let all : drop c.loop-point.point-index points ≡ [] = drop_all c.loop-point.point-index points (omega (arith, c.loop-point-test.false)) in
     let is = rw (all, append-nil) at c.loop-point.invariant in
     record {
       is = is;

@@ -1,5 +1,4 @@
 use Rattle.std.proofs.Common.{◌≡◌, ◌++◌, drop}
-use Rattle.plane_base.specs.Views.{points_of}
 use Rattle.polygon_overlay.specs.Tiles.{clamped}
 use Rattle.polygon_overlay.specs.TileViews.{bounds_of}
 use Rattle.polygon_overlay.proofs.tile.IntTile.clamped.Given as goal
@@ -7,6 +6,6 @@ use Rattle.polygon_overlay.proofs.tile.IntTile.clamped.Given as goal
 -- The clamped points so far and those still to come are all.
 abbrev pub invariant-loop-point : goal.invariant-loop-point
 invariant-loop-point g l =
-    let value = g.I.OverlayInt.value in
+    let value = g.I.IntNumber.value in
     let tile = bounds_of value l.self in
-    points_of value l.kept.items ++ clamped tile (drop l.point-index (points_of value l.points)) ≡ clamped tile (points_of value l.points)
+    l.kept.items ++ clamped tile (drop l.point-index l.points) ≡ clamped tile l.points

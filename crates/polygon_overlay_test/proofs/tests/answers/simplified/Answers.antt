@@ -6,9 +6,9 @@ use Rattle.plane_base.specs.declared.path.IntPath.{IntPath}
 use Rattle.polygon_overlay_test.proofs.tests.answers.simplified.Goals as goal
 
 -- a shape's contours, as a source has them and as they are tested
-paths_are : (cs : List (IntPath ℤ)) → map (points_of (λ x. x)) (map (λ c. c.points.items) cs) ≡ contours_of (λ x. x) cs
+paths_are : (cs : List (IntPath ℤ)) → (map (λ c. c.points.items) cs) ≡ contours_of cs
 paths_are [] = refl
-paths_are (c ∷ cs) = ap (λ t. points_of (λ x. x) c.points.items ∷ t) (paths_are cs)
+paths_are (c ∷ cs) = ap (λ t. points_of c.points.items ∷ t) (paths_are cs)
 
 pub simplify-requires-clause-in_range : goal.simplify-requires-clause-in_range
 simplify-requires-clause-in_range c =

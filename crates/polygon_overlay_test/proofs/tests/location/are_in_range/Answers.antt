@@ -1,5 +1,4 @@
-use Rattle.std.proofs.Common.{◌≡◌, take, flat_map, List, [], ◌∷◌, All, sym, arith}
-use Rattle.std.proofs.lemmas.Bool.{false≢true}
+use Rattle.std.proofs.Common.{◌≡◌, take, flat_map, List, [], ◌∷◌, All, arith}
 use Rattle.std.proofs.lemmas.List.{take_all}
 use Rattle.std.proofs.lemmas.List.Elements.{All-nil, All-append, All-head, All-tail}
 use Rattle.plane_base.specs.GivenViews.{contours_of}
@@ -17,10 +16,10 @@ pub loop-shape-preserved : goal.loop-shape-preserved
 loop-shape-preserved g c =
     let within = All (IsWithin g.I.OverlayInt.least g.I.OverlayInt.greatest) in
     let own = rw c.deref.ensures.value at (c.all_contours_in_range.ensures.0 c.if-not-all_contours_in_range.false) in
-    All-taken_more (λ (shape : IntShape _). contours_of g.I.OverlayInt.value shape.contours.items) c.args.shapes.now c.loop-shape.shape-index c.shape-item.result
+    All-taken_more (λ (shape : IntShape _). contours_of shape.contours.items) c.args.shapes.now c.loop-shape.shape-index c.shape-item.result
     c.loop-shape-test.true c.shape-item.is (All within) c.loop-shape.invariant own
 
 pub returns : goal.returns
 returns g c =
     let all : take c.loop-shape.shape-index c.args.shapes.now ≡ c.args.shapes.now = take_all c.loop-shape.shape-index c.args.shapes.now (omega (arith, c.loop-shape-test.false)) in
-    λ _. all_from_shapes (All (IsWithin g.I.OverlayInt.least g.I.OverlayInt.greatest)) (shapes_of g.I.OverlayInt.value c.args.shapes.now) (rw all at c.loop-shape.invariant)
+    λ _. all_from_shapes (All (IsWithin g.I.OverlayInt.least g.I.OverlayInt.greatest)) (shapes_of c.args.shapes.now) (rw all at c.loop-shape.invariant)

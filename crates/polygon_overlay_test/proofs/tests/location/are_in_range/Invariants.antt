@@ -5,4 +5,4 @@ use Rattle.polygon_overlay_test.proofs.tests.location.are_in_range.Given as goal
 
 -- The shapes before this one are in range.
 abbrev pub invariant-loop-shape : goal.invariant-loop-shape
-invariant-loop-shape g l = All (All (All (IsWithin g.I.OverlayInt.least g.I.OverlayInt.greatest))) (shapes_of g.I.OverlayInt.value (take l.shape-index l.shapes))
+invariant-loop-shape g l = All (All (All (IsWithin g.I.OverlayInt.least g.I.OverlayInt.greatest))) (shapes_of (take l.shape-index l.shapes))

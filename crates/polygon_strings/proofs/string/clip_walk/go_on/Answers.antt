@@ -1,9 +1,8 @@
 use Rattle.std.proofs.Common.{◌≡◌, ◌<◌, ◌++◌, ◌∷◌, [], length, sym, ap, ◌∙◌, subst, arith}
 use Rattle.std.specs.Prelude.{IsPermutation}
-use Rattle.std.proofs.lemmas.List.{map_push, append-nil}
+use Rattle.std.proofs.lemmas.List.{append-nil}
 use Rattle.std.proofs.lemmas.List.Sorted.{IsPermutation-refl, length_permutation}
 use Rattle.plane_base.specs.Plane.{Edge}
-use Rattle.plane_base.specs.Views.{point_of, points_of}
 use Rattle.polygon_strings.specs.ClipWalks.{link_edges, step_along, steps_left, walk_steps}
 use Rattle.polygon_strings.specs.Clips.{last_of}
 use Rattle.polygon_strings.proofs.Clips.Left.{stay_through}
@@ -12,21 +11,20 @@ use Rattle.polygon_strings.proofs.string.clip_walk.go_on.Goals as goal
 
 pub loop-next-init : goal.loop-next-init
 loop-next-init g c =
-    let points = points_of g.I.OverlayInt.value c.args.points.now.items in
+    let points = c.args.points.now.items in
     record {
       remaining = c.requires.remaining;
       numbered = c.requires.numbered;
       last = c.requires.last;
       begins = ([], sym (append-nil points));
       stay = λ from_a i h. h;
-      passes = IsPermutation-refl (walk_steps c.args.forward points ++ steps_left (link_edges g.I.OverlayInt.value c.args.links.now) c.args.left.now.steps.items);
+      passes = IsPermutation-refl (walk_steps c.args.forward points ++ steps_left (link_edges c.args.links.now) c.args.left.now.steps.items);
     }
 
 pub loop-next-smaller : goal.loop-next-smaller
 loop-next-smaller g c =
-    let value = g.I.OverlayInt.value in
-    let edges = link_edges value c.args.links.now in
-    let step : Edge = step_along c.args.forward (record { a = point_of value c.loop-next.at.point; b = point_of value c.in-Some.next.point }) in
+    let edges = link_edges c.args.links.now in
+    let step : Edge = step_along c.args.forward (record { a = c.loop-next.at.point; b = c.in-Some.next.point }) in
     let less : length (step ∷ steps_left edges c.take_step.new.left.steps.items) ≡ length (steps_left edges c.loop-next.left.steps.items) =
     length_permutation (steps_left edges c.loop-next.left.steps.items) (step ∷ steps_left edges c.take_step.new.left.steps.items) c.in-Some.ensures.passes in
     let h : length (steps_left edges c.take_step.new.left.steps.items) < length (steps_left edges c.loop-next.left.steps.items) = omega (arith, less) in
@@ -34,20 +32,18 @@ loop-next-smaller g c =
 
 pub loop-next-preserved : goal.loop-next-preserved
 loop-next-preserved g c =
-    let value = g.I.OverlayInt.value in
-    let edges = link_edges value c.args.links.now in
+    let edges = link_edges c.args.links.now in
     let before = c.loop-next.invariant in
-    let old = points_of value c.loop-next.points.items in
-    let v = point_of value c.loop-next.at.point in
-    let far = point_of value c.in-Some.next.point in
-    let is : points_of value c.push.new.self.items ≡ old ++ far ∷ [] =
-    ap (points_of value) c.in_ok-push.ensures.items ∙ map_push (point_of value) c.loop-next.points.items c.in-Some.next.point in
-    let all = walk_steps c.args.forward (points_of value c.args.points.now.items) ++ steps_left edges c.args.left.now.steps.items in
+    let old = c.loop-next.points.items in
+    let v = c.loop-next.at.point in
+    let far = c.in-Some.next.point in
+    let is : c.push.new.self.items ≡ old ++ far ∷ [] = c.in_ok-push.ensures.items in
+    let all = walk_steps c.args.forward c.args.points.now.items ++ steps_left edges c.args.left.now.steps.items in
     record {
       remaining = c.take_step.ensures.remaining;
       numbered = c.in-Some.ensures.numbered;
       last = ap last_of is ∙ last_pushed old far;
-      begins = begun_more (points_of value c.args.points.now.items) old (points_of value c.push.new.self.items) far before.begins is;
+      begins = begun_more c.args.points.now.items old c.push.new.self.items far before.begins is;
       stay = stay_through c.args.left.now.steps.items c.loop-next.left.steps.items c.take_step.new.left.steps.items before.stay c.take_step.ensures.stay;
       passes =
           subst (λ l. IsPermutation all (walk_steps c.args.forward l ++ steps_left edges c.take_step.new.left.steps.items)) (sym is)

@@ -9,24 +9,22 @@ use Rattle.polygon_strings.proofs.string.clip_walk.paths_of_steps.Goals as goal
 
 pub loop-first-init : goal.loop-first-init
 loop-first-init g c =
-    let value = g.I.OverlayInt.value in
-    let left = steps_left (link_edges value c.args.links.now) c.args.left.now.steps.items in
+    let left = steps_left (link_edges c.args.links.now) c.args.left.now.steps.items in
     record {
       remaining = c.requires.remaining;
       passed = λ from_a i low. absurd (omega (arith, low));
-      added = subst (λ paths. AddsClipPaths left [] left (contours_of value paths)) (sym c.new-paths.ensures.items) (adds_none left []);
+      added = subst (λ paths. AddsClipPaths left [] left (contours_of paths)) (sym c.new-paths.ensures.items) (adds_none left []);
     }
 
 pub loop-first-preserved : goal.loop-first-preserved
 loop-first-preserved g c =
-    let value = g.I.OverlayInt.value in
-    let edges = link_edges value c.args.links.now in
+    let edges = link_edges c.args.links.now in
     let one = c.loop-first.left.steps.items in
     let two = c.begin_path.new.left.steps.items in
     let three = c.begin_path-in-loop-first.new.left.steps.items in
-    let before = contours_of value c.loop-first.paths.items in
-    let between = contours_of value c.begin_path.new.paths.items in
-    let after = contours_of value c.begin_path-in-loop-first.new.paths.items in
+    let before = contours_of c.loop-first.paths.items in
+    let between = contours_of c.begin_path.new.paths.items in
+    let after = contours_of c.begin_path-in-loop-first.new.paths.items in
     record {
       remaining = c.begin_path-in-loop-first.ensures.remaining;
       passed = passed_more c.loop-first.first one two three c.loop-first.invariant.passed c.in_ok-begin_path.ensures.stay c.in_ok-begin_path.ensures.used
@@ -39,12 +37,11 @@ loop-first-preserved g c =
 
 pub returns-clause-clip : goal.returns-clause-clip
 returns-clause-clip g c =
-    let value = g.I.OverlayInt.value in
     let links = c.args.links.now in
-    let edges = link_edges value links in
+    let edges = link_edges links in
     let left = c.loop-first.left.steps.items in
-    let paths = contours_of value c.loop-first.paths.items in
-    let same = length-map links (link_edge_of value) in
+    let paths = contours_of c.loop-first.paths.items in
+    let same = length-map links link_edge_of in
     let none =
     none_are_left edges left
     (λ from_a i within. c.loop-first.invariant.passed from_a i (omega (arith, within, same, c.loop-first-test.false))) in

@@ -7,8 +7,7 @@ use Rattle.polygon_strings.proofs.string.pieces.add_loops.Given as goal
 -- The loops before this one are added.
 abbrev pub invariant-loop-place : goal.invariant-loop-place
 invariant-loop-place g l =
-    let value = g.I.OverlayInt.value in
     record {
-      shapes : shapes_of value l.shapes.items ≡ shapes_of value l.initial.shapes.items ++ outlines_of l.clockwise (take l.place (contours_of value l.loops));
-      holes : contours_of value l.holes.items ≡ contours_of value l.initial.holes.items ++ holes_of l.clockwise (take l.place (contours_of value l.loops));
+      shapes : shapes_of l.shapes.items ≡ shapes_of l.initial.shapes.items ++ outlines_of l.clockwise (take l.place (contours_of l.loops));
+      holes : contours_of l.holes.items ≡ contours_of l.initial.holes.items ++ holes_of l.clockwise (take l.place (contours_of l.loops));
     }

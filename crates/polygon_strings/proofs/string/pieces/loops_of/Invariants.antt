@@ -6,5 +6,4 @@ use Rattle.polygon_strings.proofs.string.pieces.loops_of.Given as goal
 -- The loops of the walks before this one are found.
 abbrev pub invariant-loop-place : goal.invariant-loop-place
 invariant-loop-place g l =
-    let value = g.I.OverlayInt.value in
-    contours_of value l.loops.items ≡ flat_map (long_loops l.min_area) (take l.place (contours_of value l.walks))
+    contours_of l.loops.items ≡ flat_map (long_loops l.min_area) (take l.place (contours_of l.walks))

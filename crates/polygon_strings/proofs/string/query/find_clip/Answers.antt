@@ -63,7 +63,7 @@ build_string_clip-requires-clause-arrangement g c =
 
 pub find_paths-requires : goal.find_paths-requires
 find_paths-requires g c =
-    let value = g.I.OverlayInt.value in
+    let value = g.I.IntNumber.value in
     let fill = fill_rule_of c.args.fill_rule in
     let clip = c.args.clip_rule in
     let es = string_map c.args.solver.now.precision c.args.held.now.edges in
@@ -74,22 +74,21 @@ find_paths-requires g c =
     (lists_lent_by c.in_ok-graph.graph) c.in_ok-graph.ensures.nodes c.in_ok-graph.ensures.numbers in
     record {
       walkable =
-          subst (λ l. IsWalkable value l (map (λ n. n.items) c.nodes.result.now)) (sym c.links.ensures)
-          (subst (IsWalkable value links) (sym c.nodes.ensures) walkable);
+          subst (λ l. IsWalkable l (map (λ n. n.items) c.nodes.result.now)) (sym c.links.ensures)
+          (subst (IsWalkable links) (sym c.nodes.ensures) walkable);
     }
 
 pub returns-clause-clip : goal.returns-clause-clip
 returns-clause-clip g c =
-    let value = g.I.OverlayInt.value in
     let fill = fill_rule_of c.args.fill_rule in
     let clip = c.args.clip_rule in
     let es = string_map c.args.solver.now.precision c.args.held.now.edges in
     let same = c.segments.ensures.is ∙ ap (λ h. h.edges) c.in_ok-redraw.ensures.redrawn in
     let steps =
-    ap (λ l. flat_map link_steps (map (overlay_link_of value) l)) c.links.ensures
+    ap (λ l. flat_map link_steps (map overlay_link_of l)) c.links.ensures
     ∙ ap (flat_map link_steps) (c.in_ok-graph.ensures.links ∙ ap (clip_links fill clip) same)
     ∙ steps_kept fill clip es in
-    if_answered c.find_paths.result (λ paths is. subst (λ s. IsClip s (contours_of value paths.items)) steps is) c.find_paths.ensures.clip
+    if_answered c.find_paths.result (λ paths is. subst (λ s. IsClip s (contours_of paths.items)) steps is) c.find_paths.ensures.clip
 
 pub returns-clause-in_range : goal.returns-clause-in_range
 returns-clause-in_range g c =
@@ -97,10 +96,10 @@ returns-clause-in_range g c =
     let es = string_map c.args.solver.now.precision c.args.held.now.edges in
     let inside : AreWithin g.I.OverlayInt.least g.I.OverlayInt.greatest es =
     subst (AreWithin g.I.OverlayInt.least g.I.OverlayInt.greatest) (ap (λ h. h.edges) c.in_ok-redraw.ensures.redrawn) c.in_ok-redraw.ensures.held.within in
-    let found : IfOk c.find_paths.result (λ paths. IsClip (kept_steps (fill_rule_of c.args.fill_rule) c.args.clip_rule es) (contours_of g.I.OverlayInt.value paths.items)) =
+    let found : IfOk c.find_paths.result (λ paths. IsClip (kept_steps (fill_rule_of c.args.fill_rule) c.args.clip_rule es) (contours_of paths.items)) =
     returns-clause-clip g c in
     if_answered c.find_paths.result
-    (λ paths is. clip_stands within (fill_rule_of c.args.fill_rule) c.args.clip_rule es (contours_of g.I.OverlayInt.value paths.items) inside is) found
+    (λ paths is. clip_stands within (fill_rule_of c.args.fill_rule) c.args.clip_rule es (contours_of paths.items) inside is) found
 
 pub returns-clause-refused : goal.returns-clause-refused
 returns-clause-refused g c =

@@ -1,4 +1,4 @@
-use Rattle.std.proofs.Common.{◌≡◌, false, [], All, inl, sym, ap, ◌∙◌, subst}
+use Rattle.std.proofs.Common.{false, [], All, inl, sym, subst}
 use Rattle.std.proofs.lemmas.List.Elements.{All-nil}
 use Rattle.std.proofs.lemmas.Result.{err_from_is_err_and}
 use Rattle.plane_base.specs.Plane.{IsWithin}
@@ -33,26 +33,23 @@ returns-in_err-view-clause-asked g c =
 
 pub extract_shapes-requires : goal.extract_shapes-requires
 extract_shapes-requires g c =
-    let value = g.I.OverlayInt.value in
     let fill = fill_rule_of c.args.fill_rule in
     let es = string_map default_precision (held_by c.args.overlay.now) in
-    let lent = subst (LendsGraph value g.I.OverlayInt.least g.I.OverlayInt.greatest fill es) c.in-Some.is c.in_ok-view.ensures.lent in
+    let lent = subst (LendsGraph g.I.OverlayInt.least g.I.OverlayInt.greatest fill es) c.in-Some.is c.in_ok-view.ensures.lent in
     record { graph = (fill, es, record { arrangement = lent.arrangement; links = lent.links }) }
 
 pub returns-in-Some-clause-slice : goal.returns-in-Some-clause-slice
 returns-in-Some-clause-slice g c =
-    let value = g.I.OverlayInt.value in
     let fill = fill_rule_of c.args.fill_rule in
     let es = string_map default_precision (held_by c.args.overlay.now) in
-    let lent = subst (LendsGraph value g.I.OverlayInt.least g.I.OverlayInt.greatest fill es) c.in-Some.is c.in_ok-view.ensures.lent in
+    let lent = subst (LendsGraph g.I.OverlayInt.least g.I.OverlayInt.greatest fill es) c.in-Some.is c.in_ok-view.ensures.lent in
     if_answered c.extract_shapes.result (λ shapes is. is fill es (record { arrangement = lent.arrangement; links = lent.links })) c.extract_shapes.ensures.slice
 
 pub returns-in-Some-clause-winds : goal.returns-in-Some-clause-winds
 returns-in-Some-clause-winds g c =
-    let value = g.I.OverlayInt.value in
     let fill = fill_rule_of c.args.fill_rule in
     let es = string_map default_precision (held_by c.args.overlay.now) in
-    let lent = subst (LendsGraph value g.I.OverlayInt.least g.I.OverlayInt.greatest fill es) c.in-Some.is c.in_ok-view.ensures.lent in
+    let lent = subst (LendsGraph g.I.OverlayInt.least g.I.OverlayInt.greatest fill es) c.in-Some.is c.in_ok-view.ensures.lent in
     if_answered c.extract_shapes.result (λ shapes winds. winds fill es (record { arrangement = lent.arrangement; links = lent.links })) c.extract_shapes.ensures.winds
 
 pub returns-in-Some-clause-asked : goal.returns-in-Some-clause-asked
@@ -63,25 +60,23 @@ returns-in-Some-clause-asked g c =
 
 pub returns-in-None-clause-slice : goal.returns-in-None-clause-slice
 returns-in-None-clause-slice g c =
-    let value = g.I.OverlayInt.value in
     let fill = fill_rule_of c.args.fill_rule in
     let es = string_map default_precision (held_by c.args.overlay.now) in
-    let lent = subst (LendsGraph value g.I.OverlayInt.least g.I.OverlayInt.greatest fill es) c.in-None.is c.in_ok-view.ensures.lent in
-    subst (λ items. IsSlice false 0 fill es (shapes_of value items)) (sym c.new.ensures.items) (none_sliced false 0 fill es lent.none)
+    let lent = subst (LendsGraph g.I.OverlayInt.least g.I.OverlayInt.greatest fill es) c.in-None.is c.in_ok-view.ensures.lent in
+    subst (λ items. IsSlice false 0 fill es (shapes_of items)) (sym c.new.ensures.items) (none_sliced false 0 fill es lent.none)
 
 pub returns-in-None-clause-winds : goal.returns-in-None-clause-winds
 returns-in-None-clause-winds g c =
-    let value = g.I.OverlayInt.value in
     let fill = fill_rule_of c.args.fill_rule in
     let es = string_map default_precision (held_by c.args.overlay.now) in
-    let lent = subst (LendsGraph value g.I.OverlayInt.least g.I.OverlayInt.greatest fill es) c.in-None.is c.in_ok-view.ensures.lent in
-    subst (λ items. WindRoundSubject false fill es (all_contours (shapes_of value items))) (sym c.new.ensures.items)
+    let lent = subst (LendsGraph g.I.OverlayInt.least g.I.OverlayInt.greatest fill es) c.in-None.is c.in_ok-view.ensures.lent in
+    subst (λ items. WindRoundSubject false fill es (all_contours (shapes_of items))) (sym c.new.ensures.items)
     (c.pieces_wind.ensures fill es false [] lent.arrangement (none_sliced false 0 fill es lent.none))
 
 pub returns-in-None-clause-in_range : goal.returns-in-None-clause-in_range
 returns-in-None-clause-in_range g c =
     let within = IsWithin g.I.OverlayInt.least g.I.OverlayInt.greatest in
-    subst (λ items. All (All within) (all_contours (shapes_of g.I.OverlayInt.value items))) (sym c.new.ensures.items) (All-nil (All within))
+    subst (λ items. All (All within) (all_contours (shapes_of items))) (sym c.new.ensures.items) (All-nil (All within))
 
 pub returns-in-None-clause-asked : goal.returns-in-None-clause-asked
 returns-in-None-clause-asked g c = record { ready = c.in_ok-view.ensures.asked.ready; refused = tt }

@@ -9,7 +9,7 @@ use Rattle.polygon_strings.proofs.string.slice_walk.find_walks.Goals as goal
 
 pub walks_of_steps-requires-clause-sliceable : goal.walks_of_steps-requires-clause-sliceable
 walks_of_steps-requires-clause-sliceable g c =
-    subst (λ b. IsSliceable g.I.OverlayInt.value g.I.OverlayInt.least g.I.OverlayInt.greatest b (string_links_of c.args.graph.now) (lists_lent_by c.args.graph.now))
+    subst (λ b. IsSliceable g.I.OverlayInt.least g.I.OverlayInt.greatest b (string_links_of c.args.graph.now) (lists_lent_by c.args.graph.now))
     (sym c.in_ok-turns.ensures.clockwise) c.requires
 
 pub walks_of_steps-requires-clause-beside : goal.walks_of_steps-requires-clause-beside
@@ -24,6 +24,5 @@ walks_of_steps-requires-clause-all g c =
 
 pub returns-clause-walks : goal.returns-clause-walks
 returns-clause-walks g c =
-    let value = g.I.OverlayInt.value in
-    subst (λ b. IfOk c.walks_of_steps.result (λ walks. AreSliceWalks b (halves_along (map (overlay_link_of value) (string_links_of c.args.graph.now))) (contours_of value walks.items)))
+    subst (λ b. IfOk c.walks_of_steps.result (λ walks. AreSliceWalks b (halves_along (map overlay_link_of (string_links_of c.args.graph.now))) (contours_of walks.items)))
     c.in_ok-turns.ensures.clockwise c.walks_of_steps.ensures.walks

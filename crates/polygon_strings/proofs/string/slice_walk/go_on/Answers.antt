@@ -1,10 +1,7 @@
-use Rattle.std.proofs.Common.{◌≡◌, ◌<◌, ◌++◌, ◌∷◌, [], length, map, Some, All, sym, ap, ◌∙◌, subst, arith}
-use Rattle.std.specs.Prelude.{IsPermutation}
-use Rattle.std.proofs.lemmas.List.{map_push}
+use Rattle.std.proofs.Common.{◌≡◌, ◌<◌, ◌++◌, ◌∷◌, [], length, map, All, sym, ap, ◌∙◌, subst, arith}
 use Rattle.std.proofs.lemmas.List.Elements.{All-append, All-cons, All-nil}
 use Rattle.std.proofs.lemmas.List.Sorted.{length_permutation}
 use Rattle.plane_base.specs.Plane.{Edge, IsWithin}
-use Rattle.plane_base.specs.Views.{point_of, points_of}
 use Rattle.segment_arrangement.specs.LentGraphs.{string_links_of}
 use Rattle.segment_arrangement.specs.LinkViews.{overlay_link_of}
 use Rattle.polygon_strings.specs.Clips.{last_of}
@@ -13,14 +10,13 @@ use Rattle.polygon_strings.specs.SliceWalks.{halves_along, GoesOnBy, IsUnderWay}
 use Rattle.polygon_strings.proofs.Clips.Built.{last_pushed}
 use Rattle.polygon_strings.proofs.Clips.Left.{stay_through}
 use Rattle.polygon_strings.proofs.Slicing.Nodes.{step_within}
-use Rattle.polygon_strings.proofs.Slicing.Rounds.{one_more, last_step, come_to_end}
+use Rattle.polygon_strings.proofs.Slicing.Rounds.{one_more, come_to_end}
 use Rattle.polygon_strings.proofs.string.slice_walk.go_on.Goals as goal
 
 pub loop-next-smaller : goal.loop-next-smaller
 loop-next-smaller g c =
-    let value = g.I.OverlayInt.value in
-    let edges = link_edges value (string_links_of c.args.graph.now) in
-    let step : Edge = record { a = point_of value c.loop-next.at.point; b = point_of value c.in-Some.next.point } in
+    let edges = link_edges (string_links_of c.args.graph.now) in
+    let step : Edge = record { a = c.loop-next.at.point; b = c.in-Some.next.point } in
     let less : length (step ∷ steps_left edges c.take_next.new.left) ≡ length (steps_left edges c.loop-next.left) =
     length_permutation (steps_left edges c.loop-next.left) (step ∷ steps_left edges c.take_next.new.left) c.in-Some.ensures.passes in
     let h : length (steps_left edges c.take_next.new.left) < length (steps_left edges c.loop-next.left) = omega (arith, less) in
@@ -42,17 +38,16 @@ returns-in_err-push-clause-stay g c = stay_through c.args.left.now c.loop-next.l
 
 pub loop-next-preserved : goal.loop-next-preserved
 loop-next-preserved g c =
-    let value = g.I.OverlayInt.value in
+    let value = g.I.IntNumber.value in
     let links = string_links_of c.args.graph.now in
-    let edges = link_edges value links in
-    let old = points_of value c.loop-next.points.items in
-    let from = point_of value c.loop-next.from in
-    let at = point_of value c.loop-next.at.point in
-    let next = point_of value c.in-Some.next.point in
-    let goes_on = GoesOnBy c.args.turns.now.clockwise (halves_along (map (overlay_link_of value) links)) in
+    let edges = link_edges links in
+    let old = c.loop-next.points.items in
+    let from = c.loop-next.from in
+    let at = c.loop-next.at.point in
+    let next = c.in-Some.next.point in
+    let goes_on = GoesOnBy c.args.turns.now.clockwise (halves_along (map overlay_link_of links)) in
     let before = c.loop-next.invariant in
-    let is : points_of value c.push.new.self.items ≡ old ++ at ∷ [] =
-    ap (points_of value) c.in_ok-push.ensures.items ∙ map_push (point_of value) c.loop-next.points.items c.loop-next.at.point in
+    let is : c.push.new.self.items ≡ old ++ at ∷ [] = c.in_ok-push.ensures.items in
     let within = step_within value g.I.OverlayInt.least g.I.OverlayInt.greatest c.args.turns.now.clockwise links (record { a = from; b = at }) c.requires.sliceable.in_range before.along in
     record {
       beside = c.take_next.ensures.beside;
@@ -72,12 +67,11 @@ loop-next-preserved g c =
 
 pub returns-clause-come : goal.returns-clause-come
 returns-clause-come g c = λ all h.
-    let value = g.I.OverlayInt.value in
     let links = string_links_of c.args.graph.now in
-    let edges = link_edges value links in
-    let goes_on = GoesOnBy c.args.turns.now.clockwise (halves_along (map (overlay_link_of value) links)) in
+    let edges = link_edges links in
+    let goes_on = GoesOnBy c.args.turns.now.clockwise (halves_along (map overlay_link_of links)) in
     let end = c.loop-next.invariant in
-    come_to_end goes_on all (points_of value c.loop-next.points.items) (point_of value c.loop-next.from) (point_of value c.loop-next.at.point)
+    come_to_end goes_on all c.loop-next.points.items c.loop-next.from c.loop-next.at.point
     (steps_left edges c.take_next.new.left) end.came
-    (subst (λ l. IsUnderWay goes_on all (points_of value c.loop-next.points.items) (point_of value c.loop-next.at.point) (steps_left edges l)) (sym c.in_default.ensures.unchanged)
+    (subst (λ l. IsUnderWay goes_on all c.loop-next.points.items c.loop-next.at.point (steps_left edges l)) (sym c.in_default.ensures.unchanged)
     (end.under all h)) c.in_default.ensures.none

@@ -1,4 +1,4 @@
-use Rattle.std.proofs.Common.{◌≡◌, [], length, map, All, sym, ap, ◌∙◌, subst, arith}
+use Rattle.std.proofs.Common.{◌≡◌, [], length, map, All, sym, ap, subst, arith}
 use Rattle.std.specs.Prelude.{IsPermutation}
 use Rattle.std.proofs.lemmas.List.{length-map}
 use Rattle.std.proofs.lemmas.List.Elements.{All-nil}
@@ -16,20 +16,20 @@ use Rattle.polygon_strings.proofs.string.slice_walk.walks_of_steps.Goals as goal
 
 pub loop-first-init : goal.loop-first-init
 loop-first-init g c =
-    let value = g.I.OverlayInt.value in
+    let value = g.I.IntNumber.value in
     let links = string_links_of c.args.graph.now in
-    let seen = map (overlay_link_of value) links in
+    let seen = map overlay_link_of links in
     let within = All (IsWithin g.I.OverlayInt.least g.I.OverlayInt.greatest) in
     let all = half_steps c.args.turns.now.clockwise seen in
     let goes_on = GoesOnBy c.args.turns.now.clockwise (halves_along seen) in
-    let none : contours_of value c.new-walks.result.items ≡ [] = ap (contours_of value) c.new-walks.ensures.items in
+    let none : contours_of c.new-walks.result.items ≡ [] = ap contours_of c.new-walks.ensures.items in
     record {
       beside = c.requires.beside;
       passed = λ from_a i low. absurd (omega (arith, low));
       walked =
-          subst (λ w. HavePassed goes_on all w (steps_left (link_edges value links) c.args.left.now)) (sym none)
-          (none_walked goes_on all (steps_left (link_edges value links) c.args.left.now)
-          (subst (λ l. IsPermutation all (steps_left (link_edges value links) l)) (sym c.requires.all) (steps_at_first value c.args.turns.now.clockwise links)));
+          subst (λ w. HavePassed goes_on all w (steps_left (link_edges links) c.args.left.now)) (sym none)
+          (none_walked goes_on all (steps_left (link_edges links) c.args.left.now)
+          (subst (λ l. IsPermutation all (steps_left (link_edges links) l)) (sym c.requires.all) (steps_at_first value c.args.turns.now.clockwise links)));
       in_range = subst (All within) (sym none) (All-nil within);
     }
 
@@ -48,13 +48,12 @@ loop-first-preserved g c =
 
 pub returns-clause-walks : goal.returns-clause-walks
 returns-clause-walks g c =
-    let value = g.I.OverlayInt.value in
     let links = string_links_of c.args.graph.now in
-    let edges = link_edges value links in
-    let seen = map (overlay_link_of value) links in
+    let edges = link_edges links in
+    let seen = map overlay_link_of links in
     let left = c.loop-first.left in
-    let walks = contours_of value c.loop-first.walks.items in
-    let same = length-map links (link_edge_of value) in
+    let walks = contours_of c.loop-first.walks.items in
+    let same = length-map links link_edge_of in
     let long = ap length c.links-first-end.ensures in
     let none =
     none_are_left edges left

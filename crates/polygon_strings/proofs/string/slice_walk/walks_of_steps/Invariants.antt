@@ -10,12 +10,11 @@ use Rattle.polygon_strings.proofs.string.slice_walk.walks_of_steps.Given as goal
 -- No step is left along the links before this one: the walks that are found pass them, and come round.
 abbrev pub invariant-loop-first : goal.invariant-loop-first
 invariant-loop-first g l =
-    let value = g.I.OverlayInt.value in
     let links = string_links_of l.graph in
-    let seen = map (overlay_link_of value) links in
+    let seen = map overlay_link_of links in
     record {
       beside : length l.left ≡ length links;
       passed : ArePassedBefore l.first l.left;
-      walked : HavePassed (GoesOnBy l.turns.clockwise (halves_along seen)) (half_steps l.turns.clockwise seen) (contours_of value l.walks.items) (steps_left (link_edges value links) l.left);
-      in_range : All (All (IsWithin g.I.OverlayInt.least g.I.OverlayInt.greatest)) (contours_of value l.walks.items);
+      walked : HavePassed (GoesOnBy l.turns.clockwise (halves_along seen)) (half_steps l.turns.clockwise seen) (contours_of l.walks.items) (steps_left (link_edges links) l.left);
+      in_range : All (All (IsWithin g.I.OverlayInt.least g.I.OverlayInt.greatest)) (contours_of l.walks.items);
     }

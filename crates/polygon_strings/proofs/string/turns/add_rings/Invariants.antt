@@ -7,4 +7,4 @@ use Rattle.polygon_strings.proofs.string.turns.add_rings.Given as goal
 abbrev pub invariant-loop-number : goal.invariant-loop-number
 invariant-loop-number g l =
     (l.turns.clockwise ≡ l.initial.turns.clockwise)
-    × AreTurns g.I.OverlayInt.value (string_links_of l.graph) l.turns.rings.items
+    × AreTurns (string_links_of l.graph) l.turns.rings.items

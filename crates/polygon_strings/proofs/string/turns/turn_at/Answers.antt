@@ -1,6 +1,5 @@
 use Rattle.std.proofs.Common.{◌≡◌, ◌<◌, not, length, get_or, sym, ap, ◌∙◌, subst}
 use Rattle.std.proofs.lemmas.List.{get_or_default}
-use Rattle.plane_base.specs.Views.{point_of}
 use Rattle.contour_walk.specs.NodeRings.{place_after}
 use Rattle.contour_walk.specs.declared.walk.spokes.Spokes.{Spokes}
 use Rattle.contour_walk.proofs.RoundNodes.{after_inside}
@@ -8,7 +7,6 @@ use Rattle.polygon_strings.proofs.string.turns.turn_at.Goals as goal
 
 pub returns : goal.returns
 returns g c =
-    let value = g.I.OverlayInt.value in
     let rings = c.args.turns.now.rings.items in
     let n = c.in_ok-number.number in
     let inside = c.in_ok-number.ensures.inside in
@@ -21,9 +19,9 @@ returns g c =
     record {
       ring = ring;
       among = (n, inside, sym here);
-      here = ap (λ (s : Spokes g.row.I.Denot). point_of value s.center) here ∙ c.in_ok-number.ensures.here ring;
+      here = ap (λ (s : Spokes g.row.I.Denot). s.center) here ∙ c.in_ok-number.ensures.here ring;
       place = place;
       inside = within;
-      came = λ d. subst (λ (s : Spokes g.row.I.Denot). point_of value (get_or s.spokes.items place d).far ≡ point_of value c.args.from) same (c.in_ok-place.ensures.came d);
+      came = λ d. subst (λ (s : Spokes g.row.I.Denot). (get_or s.spokes.items place d).far ≡ c.args.from) same (c.in_ok-place.ensures.came d);
       is = λ d. ap (λ s. s.place) (c.after-next.ensures ∙ get_or_default ring.spokes.items (place_after (not c.args.turns.now.clockwise) (length ring.spokes.items) place) _ d (after_inside (not c.args.turns.now.clockwise) (length ring.spokes.items) place within));
     }

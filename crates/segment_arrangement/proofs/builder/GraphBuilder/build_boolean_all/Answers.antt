@@ -9,8 +9,8 @@ pub returns : goal.returns
 returns g c = (
   (refl, (λ _. tt), c.build.follows.holds-at-none),
   record {
-    links = IfOk-weaker c.build.result _ _ (λ graph parts. (all_made g.I.OverlayInt.value (entry_of g.I.OverlayInt.value) (λ s. s.datum) (fill_rule_of c.args.fill_rule) c.args.segments.now graph.links.now parts).0) c.build.ensures.parts;
-    carried = IfOk-weaker c.build.result _ _ (λ graph parts. (all_made g.I.OverlayInt.value (entry_of g.I.OverlayInt.value) (λ s. s.datum) (fill_rule_of c.args.fill_rule) c.args.segments.now graph.links.now parts).1) c.build.ensures.parts;
+    links = IfOk-weaker c.build.result _ _ (λ graph parts. (all_made g.I.IntNumber.value entry_of (λ s. s.datum) (fill_rule_of c.args.fill_rule) c.args.segments.now graph.links.now parts).0) c.build.ensures.parts;
+    carried = IfOk-weaker c.build.result _ _ (λ graph parts. (all_made g.I.IntNumber.value entry_of (λ s. s.datum) (fill_rule_of c.args.fill_rule) c.args.segments.now graph.links.now parts).1) c.build.ensures.parts;
     nodes = c.build.ensures.nodes;
     numbers = c.build.ensures.numbers;
     err = c.build.ensures.err;

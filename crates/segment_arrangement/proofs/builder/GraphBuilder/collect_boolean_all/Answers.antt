@@ -7,11 +7,11 @@ use Rattle.segment_arrangement.proofs.builder.GraphBuilder.collect_boolean_all.G
 pub returns-clause-links : goal.returns-clause-links
 returns-clause-links g c =
     on_ok_weaker c.collect.result
-    (λ parts. (all_made g.I.OverlayInt.value (entry_of g.I.OverlayInt.value) (λ s. s.datum) (fill_rule_of c.args.fill_rule) c.args.segments.now c.collect.new.self.links.items parts).0)
+    (λ parts. (all_made g.I.IntNumber.value entry_of (λ s. s.datum) (fill_rule_of c.args.fill_rule) c.args.segments.now c.collect.new.self.links.items parts).0)
     c.collect.ensures.parts
 
 pub returns-clause-carried : goal.returns-clause-carried
 returns-clause-carried g c =
     on_ok_weaker c.collect.result
-    (λ parts. (all_made g.I.OverlayInt.value (entry_of g.I.OverlayInt.value) (λ s. s.datum) (fill_rule_of c.args.fill_rule) c.args.segments.now c.collect.new.self.links.items parts).1)
+    (λ parts. (all_made g.I.IntNumber.value entry_of (λ s. s.datum) (fill_rule_of c.args.fill_rule) c.args.segments.now c.collect.new.self.links.items parts).1)
     c.collect.ensures.parts

@@ -10,9 +10,9 @@ use Rattle.segment_arrangement.proofs.builder.GraphBuilder.collect_string_all.Go
 pub returns-clause-links : goal.returns-clause-links
 returns-clause-links g c =
     on_ok_weaker c.collect_strings.result
-    (λ parts. all_strings_made (entry_of g.I.OverlayInt.value) c.args.segments.now g.I.OverlayInt.value (λ s. s.datum) (fill_rule_of c.args.fill_rule) c.collect_strings.new.self.string_links.items parts)
+    (λ parts. all_strings_made entry_of c.args.segments.now g.I.IntNumber.value (λ s. s.datum) (fill_rule_of c.args.fill_rule) c.collect_strings.new.self.string_links.items parts)
     c.collect_strings.ensures.parts
 
 pub returns-clause-err : goal.returns-clause-err
 returns-clause-err g c =
-    subst (λ es. IfErr c.collect_strings.result (IsRefusal es)) (seen_is_subject (entry_of g.I.OverlayInt.value) c.args.segments.now) c.collect_strings.ensures.err
+    subst (λ es. IfErr c.collect_strings.result (IsRefusal es)) (seen_is_subject entry_of c.args.segments.now) c.collect_strings.ensures.err

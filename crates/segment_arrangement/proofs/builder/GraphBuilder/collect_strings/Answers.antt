@@ -11,9 +11,8 @@ use Rattle.segment_arrangement.proofs.builder.GraphBuilder.collect_strings.Goals
 
 pub make_graph-requires-clause-in_range : goal.make_graph-requires-clause-in_range
 make_graph-requires-clause-in_range g c =
-    let value = g.I.OverlayInt.value in
-    All-map (λ e. IsEdgeWithin g.I.OverlayInt.least g.I.OverlayInt.greatest e.edge) (seen_of subject_alone value) c.args.segments.now
-    (All-unmap (entry_of value) (λ e. IsEdgeWithin g.I.OverlayInt.least g.I.OverlayInt.greatest e.edge) c.args.segments.now c.requires.in_range)
+    All-map (λ e. IsEdgeWithin g.I.OverlayInt.least g.I.OverlayInt.greatest e.edge) (seen_of subject_alone) c.args.segments.now
+    (All-unmap entry_of (λ e. IsEdgeWithin g.I.OverlayInt.least g.I.OverlayInt.greatest e.edge) c.args.segments.now c.requires.in_range)
 
 pub make_graph-requires-clause-arrangement : goal.make_graph-requires-clause-arrangement
-make_graph-requires-clause-arrangement g c = subst IsArrangement (sym (seen_is_subject (entry_of g.I.OverlayInt.value) c.args.segments.now)) c.requires.arrangement
+make_graph-requires-clause-arrangement g c = subst IsArrangement (sym (seen_is_subject entry_of c.args.segments.now)) c.requires.arrangement

@@ -1,11 +1,9 @@
-use Rattle.std.proofs.Common.{◌≡◌, ℤ, ◌≤◌, length, map, take, to_z, of_z, w32, refl, sym, ap, ◌∙◌, subst, arith}
+use Rattle.std.proofs.Common.{◌≡◌, ℤ, map, to_z, of_z, w32, sym, ap, ◌∙◌, subst, arith}
 use Rattle.std.proofs.lemmas.Grind.{common_steps}
 use Rattle.std.proofs.lemmas.List.{take_all}
-use Rattle.plane_base.specs.Segments.{IsEdgeWithin}
 use Rattle.plane_base.specs.SegmentViews.{edge_of}
-use Rattle.plane_base.specs.Counts.{Entry}
 use Rattle.segment_split.specs.SegmentViews.{entry_of, entries_of, AreWithin}
-use Rattle.segment_split.specs.Strings.{StringCount, string_of}
+use Rattle.segment_split.specs.Strings.{string_of}
 use Rattle.segment_arrangement.specs.SideLaws.{IsArrangement}
 use Rattle.segment_arrangement.specs.Strings.{subject_of}
 use Rattle.segment_arrangement_test.proofs.StringMaps.{lined, pushed, lined_arranged, lined_within, lined_length}

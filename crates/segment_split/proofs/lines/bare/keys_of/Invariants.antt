@@ -7,5 +7,4 @@ use Rattle.segment_split.proofs.lines.bare.keys_of.Given as goal
 -- Those before this one are there.
 abbrev pub invariant-loop-segment : goal.invariant-loop-segment
 invariant-loop-segment g l =
-    let value = g.I.OverlayInt.value in
-    with_counts (of_count g.C.WindingCount.of) (entries_of value l.keys.items) ≡ entries_of value (take l.segment-index l.segments)
+    with_counts (of_count g.C.WindingCount.of) (entries_of l.keys.items) ≡ entries_of (take l.segment-index l.segments)

@@ -7,5 +7,4 @@ use Rattle.segment_split.proofs.lines.bare.put_all.Given as goal
 -- Those before this one are there.
 abbrev pub invariant-loop-key : goal.invariant-loop-key
 invariant-loop-key g l =
-    let value = g.I.OverlayInt.value in
-    entries_of value l.segments.items ≡ with_counts (of_count g.C.WindingCount.of) (entries_of value (take l.key-index l.keys))
+    entries_of l.segments.items ≡ with_counts (of_count g.C.WindingCount.of) (entries_of (take l.key-index l.keys))

@@ -1,4 +1,4 @@
-use Rattle.std.proofs.Common.{◌≡◌, ◌∙◌, ◌-◌, ◌<◌, take, drop, refl, sym, ap, subst, arith}
+use Rattle.std.proofs.Common.{◌∙◌, ◌-◌, ◌<◌, take, drop, refl, sym, subst, arith}
 use Rattle.std.proofs.lemmas.List.{drop_all, length-take}
 use Rattle.plane_base.specs.Views.{point_of}
 use Rattle.segment_split.specs.SecondEnds.{in_order, AreRunning}
@@ -10,12 +10,11 @@ use Rattle.segment_split.proofs.lines.cut.count_all.Goals as goal
 
 pub loop-left-init : goal.loop-left-init
 loop-left-init g c =
-    let value = g.I.OverlayInt.value in
     let more = c.args.more in
-    let order = in_order more (entries_of value c.args.keys.now) c.args.ends.now in
+    let order = in_order more (entries_of c.args.keys.now) c.args.ends.now in
     let many = c.args.many in (
       omega arith,
-      none_yet more (point_of value c.args.point) order many,
+      none_yet more (point_of c.args.point) order many,
       refl,
       λ lines have are. subst (λ l. AreRunning (all_changed more l lines) c.args.running.now) (sym (drop_all many (take many order) (omega (arith, length-take many order)))) are,
       c.requires.as_many,
@@ -23,15 +22,14 @@ loop-left-init g c =
 
 pub loop-left-preserved : goal.loop-left-preserved
 loop-left-preserved g c =
-    let value = g.I.OverlayInt.value in
     let left = c.loop-left.left in
     let many = c.args.many in
     let more = c.args.more in
-    let p = point_of value c.args.point in
-    let es = entries_of value c.args.keys.now in
+    let p = point_of c.args.point in
+    let es = entries_of c.args.keys.now in
     let order = in_order more es c.args.ends.now in
     let key = c.in-Some.key in
-    let e = entry_of value key in
+    let e = entry_of key in
     let last = c.in-Some.ensures.there in
     let some : 0 < left = omega (arith, c.loop-left-test.true) in
     let dropped = dropped_last order many left e some c.loop-left.invariant.0 c.requires.within last.is in (
@@ -53,9 +51,8 @@ returns-in_default-clause-all g c = record { within = c.loop-left.invariant.0; a
 
 pub returns-clause-all : goal.returns-clause-all
 returns-clause-all g c =
-    let value = g.I.OverlayInt.value in
     record {
       within = c.loop-left.invariant.0;
       at = c.loop-left.invariant.1;
-      none = none_left c.args.more (point_of value c.args.point) (in_order c.args.more (entries_of value c.args.keys.now) c.args.ends.now) c.loop-left.left (omega (arith, c.loop-left-test.false));
+      none = none_left c.args.more (point_of c.args.point) (in_order c.args.more (entries_of c.args.keys.now) c.args.ends.now) c.loop-left.left (omega (arith, c.loop-left-test.false));
     }

@@ -8,13 +8,12 @@ use Rattle.segment_split.proofs.lines.cut.count_all.Given as goal
 -- Those from this one on came or went.
 abbrev pub invariant-loop-left : goal.invariant-loop-left
 invariant-loop-left g l =
-    let value = g.I.OverlayInt.value in
-    let es = entries_of value l.keys in
+    let es = entries_of l.keys in
     let order = in_order l.more es l.ends in
     (l.left ≤ l.many)
-    × All (λ e. end_of l.more e.edge ≡ point_of value l.point) (drop l.left (take l.many order))
+    × All (λ e. end_of l.more e.edge ≡ point_of l.point) (drop l.left (take l.many order))
     × (l.running.last ≡ l.initial.running.last)
-    × ((lines : LinesView) → HaveRows es (value l.point.y) l.place lines.rows → AreRunning lines l.initial.running → AreRunning (all_changed l.more (drop l.left (take l.many order)) lines) l.running)
+    × ((lines : LinesView) → HaveRows es l.point.y l.place lines.rows → AreRunning lines l.initial.running → AreRunning (all_changed l.more (drop l.left (take l.many order)) lines) l.running)
     × (length l.running.places ≡ length l.running.rows.items)
 
 abbrev pub decreases-loop-left : goal.decreases-loop-left

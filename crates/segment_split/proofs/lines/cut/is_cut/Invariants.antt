@@ -7,8 +7,8 @@ use Rattle.segment_split.proofs.lines.cut.is_cut.Given as goal
 -- No stop so far lies strictly inside a key.
 abbrev pub invariant-loop-left : goal.invariant-loop-left
 invariant-loop-left g l =
-    let value = g.I.OverlayInt.value in
-    let es = entries_of value l.keys in
+    let value = g.I.IntNumber.value in
+    let es = entries_of l.keys in
     (l.left.starts ≤ length es) × (l.left.ends ≤ length l.ends) × IsCounted es l.ends (heights_in (rows_of value l.lines.rows.items)) l.left l.running × (length l.running.places ≡ length l.running.rows.items)
 
 abbrev pub decreases-loop-left : goal.decreases-loop-left

@@ -6,12 +6,12 @@ use Rattle.segment_split.proofs.lines.marked.lay_marked.Goals.{else-not-is_marke
 use Rattle.segment_split.proofs.lines.marked.lay_marked.Goals as goal
 
 pub returns-in_err-are_cut-clause-ticked : goal.returns-in_err-are_cut-clause-ticked
-returns-in_err-are_cut-clause-ticked g c = none_ticked (entries_of g.I.OverlayInt.value c.args.keys.now) c.args.steps.now.pairs
+returns-in_err-are_cut-clause-ticked g c = none_ticked (entries_of c.args.keys.now) c.args.steps.now.pairs
 
 -- nothing is cut
 
 pub returns-then-not-branch-clause-ticked : goal.returns-then-not-branch-clause-ticked
-returns-then-not-branch-clause-ticked g c = none_ticked (entries_of g.I.OverlayInt.value c.args.keys.now) c.args.steps.now.pairs
+returns-then-not-branch-clause-ticked g c = none_ticked (entries_of c.args.keys.now) c.args.steps.now.pairs
 
 pub returns-then-not-branch-clause-now : goal.returns-then-not-branch-clause-now
 returns-then-not-branch-clause-now g c = λ _ precision. (

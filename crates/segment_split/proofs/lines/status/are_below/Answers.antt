@@ -6,7 +6,7 @@ use Rattle.segment_split.proofs.lines.status.are_below.Goals as goal
 
 pub returns-else-place-eq0 : goal.returns-else-place-eq0
 returns-else-place-eq0 g c = λ low.
-    let value = g.I.OverlayInt.value in
+    let value = g.I.IntNumber.value in
     let rows = c.args.rows.now in
     let place = c.args.place in
     let y = value c.args.y in

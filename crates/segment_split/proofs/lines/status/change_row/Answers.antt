@@ -13,7 +13,7 @@ use Rattle.segment_split.proofs.lines.status.change_row.Goals as goal
 
 pub returns-in_ok-line-clause-changed : goal.returns-in_ok-line-clause-changed
 returns-in_ok-line-clause-changed g c =
-    let value = g.I.OverlayInt.value in
+    let value = g.I.IntNumber.value in
     let rows = c.args.lines.now.rows.items in
     let place = c.args.place in
     let r = c.index_mut.result.now in
@@ -22,13 +22,13 @@ returns-in_ok-line-clause-changed g c =
     let within = rw c.deref.ensures.value at c.is_at.ensures.at c.if-is_at.true in
     let height = rw c.deref.ensures.value at c.is_at.ensures.height c.if-is_at.true r in
     let same : c.index.result.now ≡ r = same_element rows place c.index.result.now r within c.index.ensures c.index_mut.ensures.value in
-    let line = c.in_ok-line.ensures.changed ∙ ap (λ s. f (line_of value s.line)) same in
+    let line = c.in_ok-line.ensures.changed ∙ ap (λ s. f (line_of s.line)) same in
     put_at (row_of value) rows place (value c.args.y) c.requires.rising below r within c.index_mut.ensures.value (ap (λ s. value s.y) c.index_mut.ensures.value ∙ height) f
     (record { y = r.y; line = c.in_ok-line.line }) (λ i. record { y = value r.y; line = line i })
 
 pub returns-in_ok-line-clause-seen : goal.returns-in_ok-line-clause-seen
 returns-in_ok-line-clause-seen g c =
-    let value = g.I.OverlayInt.value in
+    let value = g.I.IntNumber.value in
     let lines = c.args.lines.now in
     let place = c.args.place in
     let row : Row g.row.I.Denot = record { y = c.index_mut.result.now.y; line = c.in_ok-line.line } in
@@ -41,7 +41,7 @@ returns-in_ok-line-clause-seen g c =
 
 pub returns-else-is_at-clause-changed : goal.returns-else-is_at-clause-changed
 returns-else-is_at-clause-changed g c =
-    let value = g.I.OverlayInt.value in
+    let value = g.I.IntNumber.value in
     let rows = c.args.lines.now.rows.items in
     let place = c.args.place in
     let below = rows_below (row_of value) rows (value c.args.y) place c.requires.placed in
@@ -51,7 +51,7 @@ returns-else-is_at-clause-changed g c =
 
 pub returns-in_err-line-clause-refused : goal.returns-in_err-line-clause-refused
 returns-in_err-line-clause-refused g c =
-    let value = g.I.OverlayInt.value in
+    let value = g.I.IntNumber.value in
     let rows = c.args.lines.now.rows.items in
     let place = c.args.place in
     let y = value c.args.y in

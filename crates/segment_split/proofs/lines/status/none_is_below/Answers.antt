@@ -6,7 +6,7 @@ use Rattle.segment_split.proofs.lines.status.none_is_below.Goals as goal
 
 pub returns-else-place-rows : goal.returns-else-place-rows
 returns-else-place-rows g c = λ high.
-    let value = g.I.OverlayInt.value in
+    let value = g.I.IntNumber.value in
     let rows = c.args.rows.now in
     let place = c.args.place in
     let y = value c.args.y in

@@ -7,14 +7,14 @@ use Rattle.segment_split.proofs.lines.status.visit.Goals as goal
 
 pub returns-clause-rising : goal.returns-clause-rising
 returns-clause-rising g c =
-    let value = g.I.OverlayInt.value in
-    let p = point_of value c.args.point in
+    let value = g.I.IntNumber.value in
+    let p = point_of c.args.point in
     subst AreRising (sym c.in_ok-visit_row.ensures.rows) (rising_kept p.y (stopped p) (rows_of value c.args.lines.now.rows.items) c.requires.rising)
 
 pub returns-clause-seen : goal.returns-clause-seen
 returns-clause-seen g c =
-    let value = g.I.OverlayInt.value in
-    let p = point_of value c.args.point in
+    let value = g.I.IntNumber.value in
+    let p = point_of c.args.point in
     let rows = rows_of value c.args.lines.now.rows.items in
     let new = c.in_ok-visit_row.ensures.rows in
     record {

@@ -16,18 +16,18 @@ use Rattle.segment_split.proofs.maps.merge.add_new.Goals as goal
 
 pub returns-clause-told : goal.returns-clause-told
 returns-clause-told g c =
-    let value = g.I.OverlayInt.value in
+    let value = g.I.IntNumber.value in
     let joins = g.D.OverlayEdgeData.JOINS in
-    let f = entry_of value in
+    let f = entry_of in
     let before = c.args.joined.now in
     let after = c.add_counted.new.joined in
-    let es = edges_of (entries_of value before.items) in
-    let fresh = counted_with_data g.C.WindingCount.counting (seen_entries_of value joins c.args.fresh.now) in
+    let es = edges_of (entries_of before.items) in
+    let fresh = counted_with_data g.C.WindingCount.counting (seen_entries_of joins c.args.fresh.now) in
     let run = edges_of (without_data fresh) in
     let next = c.args.next_new.now.items in
     let told_next = c.tell_new.new.next_new.items in
-    let longer : edges_of (entries_of value after.items) ≡ es ++ run =
-    ap edges_of (seen_added value joins before.items after.items fresh c.in_ok-add_counted.ensures.added) ∙ map-append (λ e. e.edge) (entries_of value before.items) (without_data fresh) in
+    let longer : edges_of (entries_of after.items) ≡ es ++ run =
+    ap edges_of (seen_added value joins before.items after.items fresh c.in_ok-add_counted.ensures.added) ∙ map-append (λ e. e.edge) (entries_of before.items) (without_data fresh) in
     let from : c.len-from.result ≡ length es = omega (arith, edges_length f before.items, before.ok.0, c.len-from.ensures) in
     let to : c.len.result ≡ length (es ++ run) = omega (arith, edges_length f after.items, after.ok.0, c.len.ensures, ap length longer) in
     on_ok_weaker c.tell_new.result

@@ -11,13 +11,12 @@ loop-segment-init g c = λ k d l. absurd (omega (arith, l))
 
 pub loop-segment-preserved : goal.loop-segment-preserved
 loop-segment-preserved g c =
-    let value = g.I.OverlayInt.value in
     let i = c.loop-segment.segment-index in
     let segment = c.segment-item.result in
-    let before = entries_of value (take i c.args.segments.now) in
-    let next : entries_of value (take (i + 1) c.args.segments.now) ≡ before ++ entry_of value segment ∷ [] =
-    ap (entries_of value) (taken_to c.args.segments.now i (i + 1) segment refl (omega (arith, c.loop-segment-test.true)) c.segment-item.is) ∙ map-append (entry_of value) (take i c.args.segments.now) (segment ∷ []) in
-    rw next (All-push (λ (e : Entry g.row.C.Denot). g.C.WindingCount.counting.is_empty e.count ≡ false) before (entry_of value segment) c.loop-segment.invariant (sym c.is_empty.ensures ∙ c.if-is_empty.false))
+    let before = entries_of (take i c.args.segments.now) in
+    let next : entries_of (take (i + 1) c.args.segments.now) ≡ before ++ entry_of segment ∷ [] =
+    ap entries_of (taken_to c.args.segments.now i (i + 1) segment refl (omega (arith, c.loop-segment-test.true)) c.segment-item.is) ∙ map-append entry_of (take i c.args.segments.now) (segment ∷ []) in
+    rw next (All-push (λ (e : Entry g.row.C.Denot). g.C.WindingCount.counting.is_empty e.count ≡ false) before (entry_of segment) c.loop-segment.invariant (rw (← c.segment.view_is) (sym c.is_empty.ensures ∙ c.if-is_empty.false)))
 
 pub returns : goal.returns
 returns g c =

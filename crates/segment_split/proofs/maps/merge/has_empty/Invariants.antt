@@ -4,4 +4,4 @@ use Rattle.segment_split.proofs.maps.merge.has_empty.Given as goal
 
 -- The segments before this one count for something.
 abbrev pub invariant-loop-segment : goal.invariant-loop-segment
-invariant-loop-segment g l = AreCounted g.C.WindingCount.counting (entries_of g.I.OverlayInt.value (take l.segment-index l.segments))
+invariant-loop-segment g l = AreCounted g.C.WindingCount.counting (entries_of (take l.segment-index l.segments))

@@ -9,14 +9,13 @@ use Rattle.segment_split.proofs.maps.merge.join_maps.Given as goal
 -- Of both lists a part is joined, and what is left of them is to follow it. Of what is joined it is told which are old.
 abbrev pub invariant-loop-more : goal.invariant-loop-more
 invariant-loop-more g l =
-    let value = g.I.OverlayInt.value in
     let joins = g.D.OverlayEdgeData.JOINS in
     let all = normal_seen g.C.WindingCount.counting joins g.D.OverlayEdgeData.join in
-    let seen = seen_entries_of value joins in
+    let seen = seen_entries_of joins in
     (seen l.joined.items ++ all (seen l.left ++ seen l.more) ≡ all (seen l.kept ++ seen l.pieces))
-    × ((run : List (Entry g.row.C.Denot)) × (entries_of value l.kept ≡ run ++ entries_of value l.left))
+    × ((run : List (Entry g.row.C.Denot)) × (entries_of l.kept ≡ run ++ entries_of l.left))
     × ((run : List (Entry (g.row.C.Denot × Seen joins g.row.D.Denot))) × (seen l.pieces ≡ run ++ seen l.more))
-    × IsTold (edges_of (entries_of value l.joined.items)) (edges_of (entries_of value l.kept)) l.next_new.items
+    × IsTold (edges_of (entries_of l.joined.items)) (edges_of (entries_of l.kept)) l.next_new.items
     × ((run : List (Entry (g.row.C.Denot × Seen joins g.row.D.Denot))) × (seen l.kept ≡ run ++ seen l.left))
 
 abbrev pub decreases-loop-more : goal.decreases-loop-more

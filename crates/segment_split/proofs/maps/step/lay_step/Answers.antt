@@ -18,10 +18,10 @@ returns-in_err-push-clause-data g c = rw ((err_from_is_err_and c.from_residual.r
 
 pub returns-in_ok-push-clause-data : goal.returns-in_ok-push-clause-data
 returns-in_ok-push-clause-data g c =
-    let value = g.I.OverlayInt.value in
+    let value = g.I.IntNumber.value in
     let joins = g.D.OverlayEdgeData.JOINS in
     let old = c.args.pieces.now.items in
-    ap (seen_entries_of value joins) c.in_ok-push.ensures.items
-    ∙ (map-append (seen_entry_of value joins) old (c.new.result ∷ [])
-    ∙ ap (λ l. seen_entries_of value joins old ++ l)
-    (seen_lay g.C.WindingCount.counting value joins g.D.OverlayEdgeData.join c.new.result (point_of value c.args.from) (point_of value c.args.to) c.args.count c.args.datum c.new.ensures.is c.new.ensures.joined))
+    ap (seen_entries_of joins) c.in_ok-push.ensures.items
+    ∙ (map-append (seen_entry_of joins) old (c.new.result ∷ [])
+    ∙ ap (λ l. seen_entries_of joins old ++ l)
+    (seen_lay g.C.WindingCount.counting value joins g.D.OverlayEdgeData.join c.new.result (point_of c.args.from) (point_of c.args.to) c.args.count c.args.datum c.new.ensures.is c.new.ensures.joined))

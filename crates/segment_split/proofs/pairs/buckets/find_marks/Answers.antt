@@ -18,38 +18,35 @@ use Rattle.segment_split.proofs.pairs.buckets.find_marks.Goals as goal
 
 pub pass_all-requires : goal.pass_all-requires
 pass_all-requires g c =
-    let value = g.I.OverlayInt.value in
     let segments = c.pass.inside.segments.now in
     let trees = c.in-Some.trees in
-    as_seen (entry_of value) segments (pass_seen c.pass.invariant c.pass.view_is) (λ es told _. HoldAll es told 0 trees.new_ones trees.old_ones)
-    (hold_none (edges_of (entries_of value segments)) c.pass.inside.next_new.now trees.new_ones trees.old_ones (rw c.in-Some.is at c.in_ok-trees.ensures.new_ones) (rw c.in-Some.is at c.in_ok-trees.ensures.old_ones))
+    as_seen entry_of segments (pass_seen c.pass.invariant c.pass.view_is) (λ es told _. HoldAll es told 0 trees.new_ones trees.old_ones)
+    (hold_none (edges_of (entries_of segments)) c.pass.inside.next_new.now trees.new_ones trees.old_ones (rw c.in-Some.is at c.in_ok-trees.ensures.new_ones) (rw c.in-Some.is at c.in_ok-trees.ensures.old_ones))
 
 pub returns-clause-found : goal.returns-clause-found
 returns-clause-found g c =
     let least = g.I.OverlayInt.least in
     let greatest = g.I.OverlayInt.greatest in
-    let value = g.I.OverlayInt.value in
     let rounding = c.args.pass.now.rounding in
     let es = c.args.pass.now.edges in
     let pass = pass_seen c.pass.invariant c.pass.view_is in
-    let laid = laid_marks value g.I.Wide.WideIntNumber.number c.pass_all.new.marks.items in
+    let laid = laid_marks g.I.Wide.WideIntNumber.number c.pass_all.new.marks.items in
     let off = c.in_ok-is_off_grid.is_off_grid in
     let meets = Meets es c.args.pass.now.next_new in
-    let found = subst (λ ms. Finds g.I.OverlayInt.stride least greatest (marks_by rounding) es meets (laid_marks value g.I.Wide.WideIntNumber.number ms) laid off) c.clear.ensures.items c.in_ok-is_off_grid.ensures.found in
+    let found = subst (λ ms. Finds g.I.OverlayInt.stride least greatest (marks_by rounding) es meets (laid_marks g.I.Wide.WideIntNumber.number ms) laid off) c.clear.ensures.items c.in_ok-is_off_grid.ensures.found in
     finds_all g.I.OverlayInt.stride least greatest rounding es pass.rising meets laid off found (all_met g.I.OverlayInt.stride least greatest rounding es pass.rising pass.directed c.args.pass.now.next_new c.requires)
 
 pub returns-clause-whole : goal.returns-clause-whole
 returns-clause-whole g c =
     let least = g.I.OverlayInt.least in
     let greatest = g.I.OverlayInt.greatest in
-    let value = g.I.OverlayInt.value in
     let rounding = c.args.pass.now.rounding in
     let es = c.args.pass.now.edges in
     let pass = pass_seen c.pass.invariant c.pass.view_is in
-    let laid = laid_marks value g.I.Wide.WideIntNumber.number c.pass_all.new.marks.items in
+    let laid = laid_marks g.I.Wide.WideIntNumber.number c.pass_all.new.marks.items in
     let off = c.in_ok-is_off_grid.is_off_grid in
     let meets = Meets es c.args.pass.now.next_new in
-    let found = subst (λ ms. Finds g.I.OverlayInt.stride least greatest (marks_by rounding) es meets (laid_marks value g.I.Wide.WideIntNumber.number ms) laid off) c.clear.ensures.items c.in_ok-is_off_grid.ensures.found in
+    let found = subst (λ ms. Finds g.I.OverlayInt.stride least greatest (marks_by rounding) es meets (laid_marks g.I.Wide.WideIntNumber.number ms) laid off) c.clear.ensures.items c.in_ok-is_off_grid.ensures.found in
     finds_whole g.I.OverlayInt.stride least greatest rounding es pass.rising meets laid off found (all_met g.I.OverlayInt.stride least greatest rounding es pass.rising pass.directed c.args.pass.now.next_new c.requires)
 
 pub clear-requires : goal.clear-requires
@@ -112,17 +109,17 @@ returns-in_err-trees-clause-buckets g c = none_counted c.args.steps.now (most_by
 pub returns-in_default-clause-buckets : goal.returns-in_default-clause-buckets
 returns-in_default-clause-buckets g c =
     let es = c.args.pass.now.edges in
-    let laid_out = as_seen (entry_of g.I.OverlayInt.value) c.pass.inside.segments.now (pass_seen c.pass.invariant c.pass.view_is) (λ es _ _. has_layout (all_values y_range es) ≡ false) (rw c.in_default.is at c.in_ok-trees.ensures.none) in
+    let laid_out = as_seen entry_of c.pass.inside.segments.now (pass_seen c.pass.invariant c.pass.view_is) (λ es _ _. has_layout (all_values y_range es) ≡ false) (rw c.in_default.is at c.in_ok-trees.ensures.none) in
     subst (λ (b : Bool). CountsPairsUpTo c.args.steps.now c.find_marks.new.steps (cond b (bucket_pairs (y_buckets es) es) (all_pairs es))) (sym laid_out) c.find_marks.ensures.steps
 
 pub returns-in_err-is_off_grid-clause-buckets : goal.returns-in_err-is_off_grid-clause-buckets
 returns-in_err-is_off_grid-clause-buckets g c =
     let es = c.args.pass.now.edges in
-    let laid_out = as_seen (entry_of g.I.OverlayInt.value) c.pass.inside.segments.now (pass_seen c.pass.invariant c.pass.view_is) (λ es _ _. has_layout (all_values y_range es) ≡ true) (rw c.in-Some.is at c.in_ok-trees.ensures.some) in
+    let laid_out = as_seen entry_of c.pass.inside.segments.now (pass_seen c.pass.invariant c.pass.view_is) (λ es _ _. has_layout (all_values y_range es) ≡ true) (rw c.in-Some.is at c.in_ok-trees.ensures.some) in
     subst (λ (b : Bool). CountsPairsUpTo c.args.steps.now c.pass_all.new.steps (cond b (bucket_pairs (y_buckets es) es) (all_pairs es))) (sym laid_out) c.pass_all.ensures.steps
 
 pub returns-clause-buckets : goal.returns-clause-buckets
 returns-clause-buckets g c =
     let es = c.args.pass.now.edges in
-    let laid_out = as_seen (entry_of g.I.OverlayInt.value) c.pass.inside.segments.now (pass_seen c.pass.invariant c.pass.view_is) (λ es _ _. has_layout (all_values y_range es) ≡ true) (rw c.in-Some.is at c.in_ok-trees.ensures.some) in
+    let laid_out = as_seen entry_of c.pass.inside.segments.now (pass_seen c.pass.invariant c.pass.view_is) (λ es _ _. has_layout (all_values y_range es) ≡ true) (rw c.in-Some.is at c.in_ok-trees.ensures.some) in
     subst (λ (b : Bool). CountsPairsUpTo c.args.steps.now c.pass_all.new.steps (cond b (bucket_pairs (y_buckets es) es) (all_pairs es))) (sym laid_out) c.pass_all.ensures.steps

@@ -14,29 +14,28 @@ use Rattle.segment_split.proofs.pairs.buckets.hold_met.Goals as goal
 
 pub hold_found-requires-clause-earlier : goal.hold_found-requires-clause-earlier
 hold_found-requires-clause-earlier g c =
-    let met = met_in c.args.tree.now (edge_of g.I.OverlayInt.value c.args.s) in
+    let met = met_in c.args.tree.now (edge_of c.args.s) in
     subst (All (λ p. p.number < c.args.j)) (sym c.deref.ensures.value)
     (All-permutation (λ p. p.number < c.args.j) met c.in_ok-found.found.items c.in_ok-found.ensures.found c.requires.earlier)
 
 pub returns-clause-found : goal.returns-clause-found
 returns-clause-found g c =
-    let value = g.I.OverlayInt.value in
-    let met = met_in c.args.tree.now (edge_of value c.args.s) in
+    let met = met_in c.args.tree.now (edge_of c.args.s) in
     let here : IsPermutation met c.deref.result.now = subst (IsPermutation met) (sym c.deref.ensures.value) c.in_ok-found.ensures.found in
     finds_fewer g.I.OverlayInt.stride g.I.OverlayInt.least g.I.OverlayInt.greatest c.args.pass.now.rounding c.args.pass.now.edges
     (λ h k. (k ≡ c.args.j) × HasNumber c.deref.result.now h) (λ h k. (k ≡ c.args.j) × HasNumber met h) (λ h k m. (m.0, has_number met c.deref.result.now here h m.1))
-    (laid_marks value g.I.Wide.WideIntNumber.number c.args.marks.now.items) (laid_marks value g.I.Wide.WideIntNumber.number c.hold_found.new.marks.items) c.in_ok-own.own c.in_ok-own.ensures.found
+    (laid_marks g.I.Wide.WideIntNumber.number c.args.marks.now.items) (laid_marks g.I.Wide.WideIntNumber.number c.hold_found.new.marks.items) c.in_ok-own.own c.in_ok-own.ensures.found
 
 pub returns-clause-steps : goal.returns-clause-steps
 returns-clause-steps g c =
-    let met = met_in c.args.tree.now (edge_of g.I.OverlayInt.value c.args.s) in
+    let met = met_in c.args.tree.now (edge_of c.args.s) in
     let long : length c.in_ok-found.found.items ≡ length met = length_permutation met c.in_ok-found.found.items c.in_ok-found.ensures.found in
     let same : length c.deref.result.now ≡ length c.in_ok-found.found.items = ap length c.deref.ensures.value in
     up_to_greater c.args.steps.now c.hold_found.new.steps (length c.deref.result.now) (length met) (omega (arith, same, long)) c.hold_found.ensures.steps
 
 pub returns-in_err-own-clause-steps : goal.returns-in_err-own-clause-steps
 returns-in_err-own-clause-steps g c =
-    let met = met_in c.args.tree.now (edge_of g.I.OverlayInt.value c.args.s) in
+    let met = met_in c.args.tree.now (edge_of c.args.s) in
     let long : length c.in_ok-found.found.items ≡ length met = length_permutation met c.in_ok-found.found.items c.in_ok-found.ensures.found in
     let same : length c.deref.result.now ≡ length c.in_ok-found.found.items = ap length c.deref.ensures.value in
     up_to_greater c.args.steps.now c.hold_found.new.steps (length c.deref.result.now) (length met) (omega (arith, same, long)) c.hold_found.ensures.steps
@@ -100,4 +99,4 @@ none_counted : (now : Counts) (n : ℕ) → CountsPairsUpTo now now n
 none_counted now n = record { comparisons = refl; pairs = omega arith; bound = omega arith }
 
 pub returns-in_err-found-clause-steps : goal.returns-in_err-found-clause-steps
-returns-in_err-found-clause-steps g c = none_counted c.args.steps.now (length (met_in c.args.tree.now (edge_of g.I.OverlayInt.value c.args.s)))
+returns-in_err-found-clause-steps g c = none_counted c.args.steps.now (length (met_in c.args.tree.now (edge_of c.args.s)))

@@ -14,14 +14,13 @@ use Rattle.segment_split.proofs.pairs.buckets.pass_all.Goals as goal
 
 pub loop-j-preserved : goal.loop-j-preserved
 loop-j-preserved g c =
-    let value = g.I.OverlayInt.value in
     let rounding = c.args.pass.now.rounding in
     let es = c.args.pass.now.edges in
     let j = c.loop-j.j in
-    let within : j < length es = omega (arith, c.loop-j-test.true, seen_long (entry_of value) c.pass.inside.segments.now (pass_seen c.pass.invariant c.pass.view_is)) in
-    let first = laid_marks value g.I.Wide.WideIntNumber.number c.args.marks.now.items in
-    let now = laid_marks value g.I.Wide.WideIntNumber.number c.loop-j.marks.items in
-    let next = laid_marks value g.I.Wide.WideIntNumber.number c.pass_one.new.marks.items in
+    let within : j < length es = omega (arith, c.loop-j-test.true, seen_long entry_of c.pass.inside.segments.now (pass_seen c.pass.invariant c.pass.view_is)) in
+    let first = laid_marks g.I.Wide.WideIntNumber.number c.args.marks.now.items in
+    let now = laid_marks g.I.Wide.WideIntNumber.number c.loop-j.marks.items in
+    let next = laid_marks g.I.Wide.WideIntNumber.number c.pass_one.new.marks.items in
     let meets = Meets es c.args.pass.now.next_new in
     let more = pairs_more es j within in (
       c.in_ok-own.ensures.trees,
@@ -36,25 +35,24 @@ pub returns-in_err-own-clause-steps : goal.returns-in_err-own-clause-steps
 returns-in_err-own-clause-steps g c =
     let es = c.args.pass.now.edges in
     let j = c.loop-j.j in
-    let within : j < length es = omega (arith, c.loop-j-test.true, seen_long (entry_of g.I.OverlayInt.value) c.pass.inside.segments.now (pass_seen c.pass.invariant c.pass.view_is)) in
+    let within : j < length es = omega (arith, c.loop-j-test.true, seen_long entry_of c.pass.inside.segments.now (pass_seen c.pass.invariant c.pass.view_is)) in
     let more = pairs_more es j within in
     let all = pairs_taken (λ s t. share_point (x_range s) (x_range t) && share_bucket (y_buckets es) (y_range s) (y_range t)) (j + 1) es in
     up_to_more c.args.steps.now c.loop-j.steps c.pass_one.new.steps (bucket_pairs (y_buckets es) (take j es)) (met_before es j) (bucket_pairs (y_buckets es) es) (omega (arith, more, all)) c.loop-j.invariant.2 c.pass_one.ensures.steps
 
 pub returns-clause-found : goal.returns-clause-found
 returns-clause-found g c =
-    let value = g.I.OverlayInt.value in
     let es = c.args.pass.now.edges in
-    let end : length es ≤ c.loop-j.j = omega (arith, c.loop-j-test.false, seen_long (entry_of value) c.pass.inside.segments.now (pass_seen c.pass.invariant c.pass.view_is)) in
+    let end : length es ≤ c.loop-j.j = omega (arith, c.loop-j-test.false, seen_long entry_of c.pass.inside.segments.now (pass_seen c.pass.invariant c.pass.view_is)) in
     finds_passed g.I.OverlayInt.stride g.I.OverlayInt.least g.I.OverlayInt.greatest (marks_by c.args.pass.now.rounding) es (Meets es c.args.pass.now.next_new) c.loop-j.j end
-    (laid_marks value g.I.Wide.WideIntNumber.number c.args.marks.now.items) (laid_marks value g.I.Wide.WideIntNumber.number c.loop-j.marks.items) c.loop-j.is_off_grid c.loop-j.invariant.1
+    (laid_marks g.I.Wide.WideIntNumber.number c.args.marks.now.items) (laid_marks g.I.Wide.WideIntNumber.number c.loop-j.marks.items) c.loop-j.is_off_grid c.loop-j.invariant.1
 
 pub loop-j-init : goal.loop-j-init
 loop-j-init g c =
     let es = c.args.pass.now.edges in (
       c.requires,
       finds_none g.I.OverlayInt.stride g.I.OverlayInt.least g.I.OverlayInt.greatest c.args.pass.now.rounding es (λ i k. (k < 0) × Meets es c.args.pass.now.next_new i k)
-          (λ i k h. omega (arith, h.0)) (laid_marks g.I.OverlayInt.value g.I.Wide.WideIntNumber.number c.args.marks.now.items),
+          (λ i k h. omega (arith, h.0)) (laid_marks g.I.Wide.WideIntNumber.number c.args.marks.now.items),
       record { comparisons = refl; pairs = omega arith; bound = omega arith },
     )
 
@@ -62,7 +60,7 @@ pub loop-j-smaller : goal.loop-j-smaller
 loop-j-smaller g c = omega (arith, c.loop-j-test.true)
 
 pub pass_one-requires-clause-within : goal.pass_one-requires-clause-within
-pass_one-requires-clause-within g c = omega (arith, c.loop-j-test.true, seen_long (entry_of g.I.OverlayInt.value) c.pass.inside.segments.now (pass_seen c.pass.invariant c.pass.view_is))
+pass_one-requires-clause-within g c = omega (arith, c.loop-j-test.true, seen_long entry_of c.pass.inside.segments.now (pass_seen c.pass.invariant c.pass.view_is))
 
 pub pass_one-requires-clause-trees : goal.pass_one-requires-clause-trees
 pass_one-requires-clause-trees g c = c.loop-j.invariant.0

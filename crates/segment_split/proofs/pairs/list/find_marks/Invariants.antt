@@ -9,5 +9,5 @@ use Rattle.segment_split.proofs.pairs.list.find_marks.Given as goal
 abbrev pub invariant-loop-i : goal.invariant-loop-i
 invariant-loop-i g l =
     let es = l.pass.edges in
-    Finds g.I.OverlayInt.stride g.I.OverlayInt.least g.I.OverlayInt.greatest (marks_by l.pass.rounding) es (λ h k. (h < l.i) × MarksAhead (marks_by l.pass.rounding) es h k) [] (laid_marks g.I.OverlayInt.value g.I.Wide.WideIntNumber.number l.marks.items) l.is_off_grid
+    Finds g.I.OverlayInt.stride g.I.OverlayInt.least g.I.OverlayInt.greatest (marks_by l.pass.rounding) es (λ h k. (h < l.i) × MarksAhead (marks_by l.pass.rounding) es h k) [] (laid_marks g.I.Wide.WideIntNumber.number l.marks.items) l.is_off_grid
     × CountsPairsUpTo l.fn.steps l.steps (pairs_to (length es) l.i)

@@ -34,14 +34,13 @@ pub returns-clause-found : goal.returns-clause-found
 returns-clause-found g c =
     let least = g.I.OverlayInt.least in
     let greatest = g.I.OverlayInt.greatest in
-    let value = g.I.OverlayInt.value in
     let rounding = c.args.pass.now.rounding in
     let es = c.args.pass.now.edges in
     let next_new = c.args.pass.now.next_new in
     let pass = pass_seen c.pass.invariant c.pass.view_is in
-    let laid = laid_marks value g.I.Wide.WideIntNumber.number c.find_marks_of_new.new.marks.items in
+    let laid = laid_marks g.I.Wide.WideIntNumber.number c.find_marks_of_new.new.marks.items in
     let off = c.in_ok-off_grid.off_grid in
-    let found = subst (λ ms. Finds g.I.OverlayInt.stride least greatest (marks_by rounding) es (IsNewPair next_new) (laid_marks value g.I.Wide.WideIntNumber.number ms) laid (off.among_new || off.with_old)) c.clear.ensures.items c.in_ok-off_grid.ensures.found in
+    let found = subst (λ ms. Finds g.I.OverlayInt.stride least greatest (marks_by rounding) es (IsNewPair next_new) (laid_marks g.I.Wide.WideIntNumber.number ms) laid (off.among_new || off.with_old)) c.clear.ensures.items c.in_ok-off_grid.ensures.found in
     finds_all g.I.OverlayInt.stride least greatest rounding es pass.rising (IsNewPair next_new) laid (off.among_new || off.with_old) found
     (new_or_parted g.I.OverlayInt.stride least greatest rounding es pass.rising next_new c.requires)
 
@@ -49,14 +48,13 @@ pub returns-clause-whole : goal.returns-clause-whole
 returns-clause-whole g c = λ down.
     let least = g.I.OverlayInt.least in
     let greatest = g.I.OverlayInt.greatest in
-    let value = g.I.OverlayInt.value in
     let rounding = c.args.pass.now.rounding in
     let es = c.args.pass.now.edges in
     let next_new = c.args.pass.now.next_new in
     let pass = pass_seen c.pass.invariant c.pass.view_is in
-    let laid = laid_marks value g.I.Wide.WideIntNumber.number c.find_marks_of_new.new.marks.items in
+    let laid = laid_marks g.I.Wide.WideIntNumber.number c.find_marks_of_new.new.marks.items in
     let off = c.in_ok-off_grid.off_grid in
-    let found = subst (λ ms. Finds g.I.OverlayInt.stride least greatest (marks_by rounding) es (IsNewPair next_new) (laid_marks value g.I.Wide.WideIntNumber.number ms) laid (off.among_new || off.with_old)) c.clear.ensures.items c.in_ok-off_grid.ensures.found in
+    let found = subst (λ ms. Finds g.I.OverlayInt.stride least greatest (marks_by rounding) es (IsNewPair next_new) (laid_marks g.I.Wide.WideIntNumber.number ms) laid (off.among_new || off.with_old)) c.clear.ensures.items c.in_ok-off_grid.ensures.found in
     finds_whole g.I.OverlayInt.stride least greatest rounding es pass.rising (IsNewPair next_new) laid (off.among_new || off.with_old) found
     (new_or_parted g.I.OverlayInt.stride least greatest rounding es pass.rising next_new c.requires) (sym c.either.ensures ∙ down)
 
@@ -64,24 +62,22 @@ returns-clause-whole g c = λ down.
 
 pub returns-then-first-pass-clause-found : goal.returns-then-first-pass-clause-found
 returns-then-first-pass-clause-found g c =
-    let value = g.I.OverlayInt.value in
     let rounding = c.args.pass.now.rounding in
     let es = c.args.pass.now.edges in
     let pass = pass_seen c.pass.invariant c.pass.view_is in
     let next = c.next_from-first.result in
-    let last : length es ≤ next = as_seen (entry_of value) c.pass.inside.segments.now pass (λ _ _ n. n ≤ next) (omega (arith, c.if-first-pass.true)) in
-    let passed = as_seen (entry_of value) c.pass.inside.segments.now pass (λ _ told _. (n : ℕ) → 0 ≤ n → n < next → n < slice_index_or told 0 0) c.next_from-first.ensures.passed in
-    subst (λ ms. AreMarks g.I.OverlayInt.stride g.I.OverlayInt.least g.I.OverlayInt.greatest (marks_by rounding) es (laid_marks value g.I.Wide.WideIntNumber.number ms)) (sym c.clear.ensures.items)
+    let last : length es ≤ next = as_seen entry_of c.pass.inside.segments.now pass (λ _ _ n. n ≤ next) (omega (arith, c.if-first-pass.true)) in
+    let passed = as_seen entry_of c.pass.inside.segments.now pass (λ _ told _. (n : ℕ) → 0 ≤ n → n < next → n < slice_index_or told 0 0) c.next_from-first.ensures.passed in
+    subst (λ ms. AreMarks g.I.OverlayInt.stride g.I.OverlayInt.least g.I.OverlayInt.greatest (marks_by rounding) es (laid_marks g.I.Wide.WideIntNumber.number ms)) (sym c.clear.ensures.items)
     (none_new g.I.OverlayInt.stride g.I.OverlayInt.least g.I.OverlayInt.greatest rounding es pass.rising c.args.pass.now.next_new c.requires next last passed)
 
 pub returns-then-first-pass-clause-whole : goal.returns-then-first-pass-clause-whole
 returns-then-first-pass-clause-whole g c = λ _.
-    let value = g.I.OverlayInt.value in
     let es = c.args.pass.now.edges in
     let pass = pass_seen c.pass.invariant c.pass.view_is in
     let next = c.next_from-first.result in
-    let last : length es ≤ next = as_seen (entry_of value) c.pass.inside.segments.now pass (λ _ _ n. n ≤ next) (omega (arith, c.if-first-pass.true)) in
-    let passed = as_seen (entry_of value) c.pass.inside.segments.now pass (λ _ told _. (n : ℕ) → 0 ≤ n → n < next → n < slice_index_or told 0 0) c.next_from-first.ensures.passed in
+    let last : length es ≤ next = as_seen entry_of c.pass.inside.segments.now pass (λ _ _ n. n ≤ next) (omega (arith, c.if-first-pass.true)) in
+    let passed = as_seen entry_of c.pass.inside.segments.now pass (λ _ told _. (n : ℕ) → 0 ≤ n → n < next → n < slice_index_or told 0 0) c.next_from-first.ensures.passed in
     none_new_whole g.I.OverlayInt.stride g.I.OverlayInt.least g.I.OverlayInt.greatest c.args.pass.now.rounding es pass.rising c.args.pass.now.next_new c.requires next last passed
 
 pub returns-then-first-pass-clause-columns : goal.returns-then-first-pass-clause-columns

@@ -19,21 +19,20 @@ use Rattle.segment_split.proofs.pairs.rows.find_marks_of_new.Goals as goal
 few_of_new : (g : Over) (c : After-hold_all g) → (test : Edge → Edge → Bool) → TakesNew c.args.pass.now.edges c.args.pass.now.next_new test
     → CountsPairsUpTo c.args.steps.now c.hold_all.new.steps (pairs_by test c.args.pass.now.edges)
 few_of_new g c test takes =
-    let value = g.I.OverlayInt.value in
     let es = c.args.pass.now.edges in
     let next_new = c.args.pass.now.next_new in
     let pass = pass_seen c.pass.invariant c.pass.view_is in
     let rows = c.in_ok-rows.rows in
     let layout = c.over-layout.result in
     let reaches = all_reaches es c.deref.result.now in
-    let told = as_seen (entry_of value) c.pass.inside.segments.now pass (λ es _ _. AreTold es c.deref.result.now) (rw c.deref.ensures.value c.in_ok-reaches.ensures.told) in
+    let told = as_seen entry_of c.pass.inside.segments.now pass (λ es _ _. AreTold es c.deref.result.now) (rw c.deref.ensures.value c.in_ok-reaches.ensures.told) in
     let far = told_are es c.deref.result.now pass.rising told in
     let few : length es < 4294967296 = omega (arith, pass.few) in
     let fb = rows.fresh.begins.items in
     let fp = rows.fresh.passes.items in
     let ob = rows.old.begins.items in
     let op = rows.old.passes.items in
-    let placed = as_seen (entry_of value) c.pass.inside.segments.now pass (λ es told n. ArePlaced layout.least layout.width es told n fb fp ob op) c.in_ok-rows.ensures.placed in
+    let placed = as_seen entry_of c.pass.inside.segments.now pass (λ es told n. ArePlaced layout.least layout.width es told n fb fp ob op) c.in_ok-rows.ensures.placed in
     up_to_greater c.args.steps.now c.hold_all.new.steps ((row_followers reaches fb fp fb fp + row_followers reaches fb fp ob op) + row_followers reaches ob op fb fp)
     (pairs_by test es) (rows_bound es pass.rising pass.directed reaches far layout.least layout.width layout.wide next_new test takes fb fp ob op few placed) c.hold_all.ensures.steps
 
@@ -49,7 +48,6 @@ pub returns-clause-found : goal.returns-clause-found
 returns-clause-found g c =
     let least = g.I.OverlayInt.least in
     let greatest = g.I.OverlayInt.greatest in
-    let value = g.I.OverlayInt.value in
     let rounding = c.args.pass.now.rounding in
     let es = c.args.pass.now.edges in
     let next_new = c.args.pass.now.next_new in
@@ -57,25 +55,24 @@ returns-clause-found g c =
     let rows = c.in_ok-rows.rows in
     let layout = c.over-layout.result in
     let reaches = all_reaches es c.deref.result.now in
-    let told = as_seen (entry_of value) c.pass.inside.segments.now pass (λ es _ _. AreTold es c.deref.result.now) (rw c.deref.ensures.value c.in_ok-reaches.ensures.told) in
+    let told = as_seen entry_of c.pass.inside.segments.now pass (λ es _ _. AreTold es c.deref.result.now) (rw c.deref.ensures.value c.in_ok-reaches.ensures.told) in
     let far = told_are es c.deref.result.now pass.rising told in
     let fb = rows.fresh.begins.items in
     let fp = rows.fresh.passes.items in
     let ob = rows.old.begins.items in
     let op = rows.old.passes.items in
-    let placed = as_seen (entry_of value) c.pass.inside.segments.now pass (λ es told n. ArePlaced layout.least layout.width es told n fb fp ob op) c.in_ok-rows.ensures.placed in
+    let placed = as_seen entry_of c.pass.inside.segments.now pass (λ es told n. ArePlaced layout.least layout.width es told n fb fp ob op) c.in_ok-rows.ensures.placed in
     let pairs = FollowsAmong reaches fb fp ob op in
-    let laid = laid_marks value g.I.Wide.WideIntNumber.number c.hold_all.new.marks.items in
+    let laid = laid_marks g.I.Wide.WideIntNumber.number c.hold_all.new.marks.items in
     let off = c.in_ok-off_grid.off_grid in
     finds_more g.I.OverlayInt.stride least greatest rounding es pass.rising pairs (IsNewPair next_new)
     (λ i j s t p at there. new_pairs_met g.I.OverlayInt.stride least greatest rounding es pass.rising pass.directed layout.least layout.width layout.wide reaches far next_new fb fp ob op placed i j s t p.0 at there p.1)
-    (laid_marks value g.I.Wide.WideIntNumber.number c.args.marks.now.items) laid (off.among_new || off.with_old) c.in_ok-off_grid.ensures.found
+    (laid_marks g.I.Wide.WideIntNumber.number c.args.marks.now.items) laid (off.among_new || off.with_old) c.in_ok-off_grid.ensures.found
 
 pub returns-clause-whole : goal.returns-clause-whole
 returns-clause-whole g c = λ down i j s t at there differ.
     let least = g.I.OverlayInt.least in
     let greatest = g.I.OverlayInt.greatest in
-    let value = g.I.OverlayInt.value in
     let rounding = c.args.pass.now.rounding in
     let es = c.args.pass.now.edges in
     let next_new = c.args.pass.now.next_new in
@@ -83,13 +80,13 @@ returns-clause-whole g c = λ down i j s t at there differ.
     let rows = c.in_ok-rows.rows in
     let layout = c.over-layout.result in
     let reaches = all_reaches es c.deref.result.now in
-    let told = as_seen (entry_of value) c.pass.inside.segments.now pass (λ es _ _. AreTold es c.deref.result.now) (rw c.deref.ensures.value c.in_ok-reaches.ensures.told) in
+    let told = as_seen entry_of c.pass.inside.segments.now pass (λ es _ _. AreTold es c.deref.result.now) (rw c.deref.ensures.value c.in_ok-reaches.ensures.told) in
     let far = told_are es c.deref.result.now pass.rising told in
     let fb = rows.fresh.begins.items in
     let fp = rows.fresh.passes.items in
     let ob = rows.old.begins.items in
     let op = rows.old.passes.items in
-    let placed = as_seen (entry_of value) c.pass.inside.segments.now pass (λ es told n. ArePlaced layout.least layout.width es told n fb fp ob op) c.in_ok-rows.ensures.placed in
+    let placed = as_seen entry_of c.pass.inside.segments.now pass (λ es told n. ArePlaced layout.least layout.width es told n fb fp ob op) c.in_ok-rows.ensures.placed in
     let pairs = FollowsBetween reaches fb fp ob op in
     kinds_whole es next_new
     (λ i j s t before at there differ. whole_or_none g.I.OverlayInt.stride least greatest rounding es pass.rising pairs (c.in_ok-off_grid.ensures.whole down) i j s t at there
@@ -100,22 +97,22 @@ returns-clause-whole g c = λ down i j s t at there differ.
 
 pub hold_all-requires-clause-told : goal.hold_all-requires-clause-told
 hold_all-requires-clause-told g c =
-    as_seen (entry_of g.I.OverlayInt.value) c.pass.inside.segments.now (pass_seen c.pass.invariant c.pass.view_is) (λ es _ _. AreTold es c.deref.result.now) (rw c.deref.ensures.value c.in_ok-reaches.ensures.told)
+    as_seen entry_of c.pass.inside.segments.now (pass_seen c.pass.invariant c.pass.view_is) (λ es _ _. AreTold es c.deref.result.now) (rw c.deref.ensures.value c.in_ok-reaches.ensures.told)
 
 pub hold_all-requires-clause-fresh_rows : goal.hold_all-requires-clause-fresh_rows
 hold_all-requires-clause-fresh_rows g c =
     let fresh = c.in_ok-rows.rows.fresh in
-    as_seen (entry_of g.I.OverlayInt.value) c.pass.inside.segments.now (pass_seen c.pass.invariant c.pass.view_is) (λ _ _ n. AreRows n fresh.begins.items fresh.passes.items) c.in_ok-rows.ensures.fresh_rows
+    as_seen entry_of c.pass.inside.segments.now (pass_seen c.pass.invariant c.pass.view_is) (λ _ _ n. AreRows n fresh.begins.items fresh.passes.items) c.in_ok-rows.ensures.fresh_rows
 
 pub hold_all-requires-clause-old_rows : goal.hold_all-requires-clause-old_rows
 hold_all-requires-clause-old_rows g c =
     let old = c.in_ok-rows.rows.old in
-    as_seen (entry_of g.I.OverlayInt.value) c.pass.inside.segments.now (pass_seen c.pass.invariant c.pass.view_is) (λ _ _ n. AreRows n old.begins.items old.passes.items) c.in_ok-rows.ensures.old_rows
+    as_seen entry_of c.pass.inside.segments.now (pass_seen c.pass.invariant c.pass.view_is) (λ _ _ n. AreRows n old.begins.items old.passes.items) c.in_ok-rows.ensures.old_rows
 
 pub place_all-requires-clause-few : goal.place_all-requires-clause-few
 place_all-requires-clause-few g c =
     let pass = pass_seen c.pass.invariant c.pass.view_is in
-    omega (arith, pass.few, seen_long (entry_of g.I.OverlayInt.value) c.pass.inside.segments.now pass)
+    omega (arith, pass.few, seen_long entry_of c.pass.inside.segments.now pass)
 
 pub place_all-requires-clause-in_range : goal.place_all-requires-clause-in_range
 place_all-requires-clause-in_range g c = c.pass.invariant.within

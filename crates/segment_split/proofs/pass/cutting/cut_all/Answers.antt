@@ -18,18 +18,17 @@ use Rattle.segment_split.proofs.pass.cutting.cut_all.Goals as goal
 
 pub loop-left-init : goal.loop-left-init
 loop-left-init g c =
-    let value = g.I.OverlayInt.value in
-    let seen = seen_entries_of value g.D.OverlayEdgeData.JOINS in (
-      all_left (laid_marks value g.I.Wide.WideIntNumber.number c.args.marks.now),
+    let seen = seen_entries_of g.D.OverlayEdgeData.JOINS in (
+      all_left (laid_marks g.I.Wide.WideIntNumber.number c.args.marks.now),
       omega arith,
-      λ precision k marked. (ap (entries_of value) c.clear.ensures.items, ap (entries_of value) c.clear-2.ensures.items),
+      λ precision k marked. (ap entries_of c.clear.ensures.items, ap entries_of c.clear-2.ensures.items),
       λ precision k marked. (ap seen c.clear.ensures.items, ap seen c.clear-2.ensures.items),
     )
 
 -- ---- the segment of the first mark that is left
 
 abbrev view : (g : Over) → Mark g.row.I.Denot g.row.I-Wide.Denot → LaidMark
-view g = laid_of g.I.OverlayInt.value g.I.Wide.WideIntNumber.number
+view g = laid_of g.I.Wide.WideIntNumber.number
 
 abbrev next : (g : Over) (c : After-split_at g) → ℕ
 next g c = (get_or c.loop-left.left.now 0 c.index-left-0.result).segment
@@ -95,7 +94,7 @@ loop-left-smaller g c =
 pub loop-left-preserved : goal.loop-left-preserved
 loop-left-preserved g c =
     let at = (goal.at.loop-left-preserved g c).After-split_at in
-    let value = g.I.OverlayInt.value in
+    let value = g.I.IntNumber.value in
     let stride = g.I.OverlayInt.stride in
     let least = g.I.OverlayInt.least in
     let greatest = g.I.OverlayInt.greatest in
@@ -121,13 +120,13 @@ loop-left-preserved g c =
     let bare : kept_now ≡ kept ++ drop from (take i segments) = c.in_ok-keep_all.ensures.kept ∙ ap (λ l. kept ++ l) (take_rest (take i segments) from) in (
       run_passed all rest run more i in_place now parts own apart,
       omega (arith, l.1),
-      turned (entry_of value) segments c.requires.normal stride least greatest span g.met.I.OverlayInt.strides g.met.I.OverlayInt.reach all in_place
+      turned entry_of segments c.requires.normal stride least greatest span g.met.I.OverlayInt.strides g.met.I.OverlayInt.reach all in_place
           rest run more from i left l.0 now parts own apart (some_own g at) segment l.1 c.index-segments-i.is kept kept_now
-          (entries_of value c.loop-left.pieces.items) (entries_of value c.lay_run.new.pieces.items) bare c.in_ok-lay_run.ensures.laid c.loop-left.invariant.2,
-      turned (seen_entry_of value joins) segments (seen_normal value joins g.C.WindingCount.counting g.D.OverlayEdgeData.join segments c.requires.normal)
+          (entries_of c.loop-left.pieces.items) (entries_of c.lay_run.new.pieces.items) bare c.in_ok-lay_run.ensures.laid c.loop-left.invariant.2,
+      turned (seen_entry_of joins) segments (seen_normal value joins g.C.WindingCount.counting g.D.OverlayEdgeData.join segments c.requires.normal)
           stride least greatest span g.met.I.OverlayInt.strides g.met.I.OverlayInt.reach all in_place
           rest run more from i left l.0 now parts own apart (some_own g at) segment l.1 c.index-segments-i.is kept kept_now
-          (seen_entries_of value joins c.loop-left.pieces.items) (seen_entries_of value joins c.lay_run.new.pieces.items) bare c.in_ok-lay_run.ensures.«data» c.loop-left.invariant.3,
+          (seen_entries_of joins c.loop-left.pieces.items) (seen_entries_of joins c.lay_run.new.pieces.items) bare c.in_ok-lay_run.ensures.«data» c.loop-left.invariant.3,
     )
 
 -- ---- none is left
@@ -139,22 +138,21 @@ none_left g c =
 
 pub returns-clause-cut : goal.returns-clause-cut
 returns-clause-cut g c =
-    let value = g.I.OverlayInt.value in
     let segments = c.args.segments.now in
     let kept = c.loop-left.kept.items in
-    cut_to_end (entry_of value) segments c.requires.normal g.I.OverlayInt.stride g.I.OverlayInt.least g.I.OverlayInt.greatest g.I.OverlayInt.span
+    cut_to_end entry_of segments c.requires.normal g.I.OverlayInt.stride g.I.OverlayInt.least g.I.OverlayInt.greatest g.I.OverlayInt.span
     g.met.I.OverlayInt.strides g.met.I.OverlayInt.reach (map (view g) c.args.marks.now) c.requires.in_place c.loop-left.from (none_left g c) c.loop-left.invariant.1
-    kept c.extend_from_slice.new.self.items (entries_of value c.loop-left.pieces.items)
+    kept c.extend_from_slice.new.self.items (entries_of c.loop-left.pieces.items)
     (c.in_ok-extend_from_slice.ensures.items ∙ ap (λ l. kept ++ l) (take_rest segments c.loop-left.from)) c.loop-left.invariant.2
 
 pub returns-clause-data : goal.returns-clause-data
 returns-clause-data g c =
-    let value = g.I.OverlayInt.value in
+    let value = g.I.IntNumber.value in
     let joins = g.D.OverlayEdgeData.JOINS in
     let segments = c.args.segments.now in
     let kept = c.loop-left.kept.items in
-    cut_to_end (seen_entry_of value joins) segments (seen_normal value joins g.C.WindingCount.counting g.D.OverlayEdgeData.join segments c.requires.normal)
+    cut_to_end (seen_entry_of joins) segments (seen_normal value joins g.C.WindingCount.counting g.D.OverlayEdgeData.join segments c.requires.normal)
     g.I.OverlayInt.stride g.I.OverlayInt.least g.I.OverlayInt.greatest g.I.OverlayInt.span
     g.met.I.OverlayInt.strides g.met.I.OverlayInt.reach (map (view g) c.args.marks.now) c.requires.in_place c.loop-left.from (none_left g c) c.loop-left.invariant.1
-    kept c.extend_from_slice.new.self.items (seen_entries_of value joins c.loop-left.pieces.items)
+    kept c.extend_from_slice.new.self.items (seen_entries_of joins c.loop-left.pieces.items)
     (c.in_ok-extend_from_slice.ensures.items ∙ ap (λ l. kept ++ l) (take_rest segments c.loop-left.from)) c.loop-left.invariant.3

@@ -9,17 +9,16 @@ use Rattle.segment_split.proofs.pass.cutting.cut_all.Given as goal
 -- The segments before this one are cut or kept, and their marks are done with.
 abbrev pub invariant-loop-left : goal.invariant-loop-left
 invariant-loop-left g l =
-    let value = g.I.OverlayInt.value in
     let stride = g.I.OverlayInt.stride in
     let least = g.I.OverlayInt.least in
     let greatest = g.I.OverlayInt.greatest in
     let kind = g.C.WindingCount.counting in
     let joins = g.D.OverlayEdgeData.JOINS in
-    let seen = seen_entries_of value joins in
-    let all = laid_marks value g.I.Wide.WideIntNumber.number l.marks in
-    IsLeft all (laid_marks value g.I.Wide.WideIntNumber.number l.left) l.from
+    let seen = seen_entries_of joins in
+    let all = laid_marks g.I.Wide.WideIntNumber.number l.marks in
+    IsLeft all (laid_marks g.I.Wide.WideIntNumber.number l.left) l.from
     × (l.from ≤ length l.segments)
-    × IsCutTo stride least greatest kind all (entries_of value l.segments) l.from (entries_of value l.kept.items) (entries_of value l.pieces.items)
+    × IsCutTo stride least greatest kind all (entries_of l.segments) l.from (entries_of l.kept.items) (entries_of l.pieces.items)
     × IsCutTo stride least greatest (carrying kind joins g.D.OverlayEdgeData.join) all (seen l.segments) l.from (seen l.kept.items) (seen l.pieces.items)
 
 abbrev pub decreases-loop-left : goal.decreases-loop-left

@@ -13,11 +13,10 @@ eq-requires g c κs = λ h. h
 
 pub returns-clause-data : goal.returns-clause-data
 returns-clause-data g c =
-    let value = g.I.OverlayInt.value in
     let joins = g.D.OverlayEdgeData.JOINS in
     let kind = carrying g.C.WindingCount.counting joins g.D.OverlayEdgeData.join in
     c.in_ok-lay_step.ensures.«data»
-    ∙ ap (λ d. seen_entries_of value joins c.args.pieces.now.items ++ lay kind (point_of value c.args.cut.a) (point_of value c.args.cut.p) (c.args.count, d))
+    ∙ ap (λ d. seen_entries_of joins c.args.pieces.now.items ++ lay kind (point_of c.args.cut.a) (point_of c.args.cut.p) (c.args.count, d))
     (seen_same joins c.split.result.0 c.args.datum c.split.ensures.first)
 
 pub returns-clause-rest : goal.returns-clause-rest

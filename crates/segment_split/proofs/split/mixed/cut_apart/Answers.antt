@@ -18,28 +18,27 @@ cut_by_slope-requires-clause-in_place g c = rw c.deref.ensures.value c.in_ok-put
 
 -- the segments, cut apart and the pieces in order
 apart : (g : Over) (c : Joined-is_marked g) → IsCutApart g.I.OverlayInt.stride g.I.OverlayInt.least g.I.OverlayInt.greatest g.C.WindingCount.counting (of_count g.C.WindingCount.of)
-    (laid_marks g.I.OverlayInt.value g.I.Wide.WideIntNumber.number c.args.room.now.marks.items) (entries_of g.I.OverlayInt.value c.args.segments.now)
-    (entries_of g.I.OverlayInt.value c.if-is_marked.lines.items) (entries_of g.I.OverlayInt.value c.cut_by_slope.new.others.items)
+    (laid_marks g.I.Wide.WideIntNumber.number c.args.room.now.marks.items) (entries_of c.args.segments.now)
+    (entries_of c.if-is_marked.lines.items) (entries_of c.cut_by_slope.new.others.items)
 apart g c =
-    let value = g.I.OverlayInt.value in
-    let seen = laid_of value g.I.Wide.WideIntNumber.number in
-    let es = entries_of value c.args.segments.now in
+    let seen = laid_of g.I.Wide.WideIntNumber.number in
+    let es = entries_of c.args.segments.now in
     let found = c.args.room.now.marks.items in
     let ordered = c.put_in_order.new.marks.items in
     let lines = c.cut_by_slope.new.lines.items in
-    let others = entries_of value c.cut_by_slope.new.others.items in
+    let others = entries_of c.cut_by_slope.new.others.items in
     let marks = IsPermutation-map seen found ordered c.in_ok-put_in_order.ensures.same in
     let cut = rw c.deref.ensures.value at c.in_ok-cut_by_slope.ensures.cut in
     elim c.if-is_marked.branch [
       | then-is_marked+in_ok-sort w ↦
           let sorted = w.sort.new.segments.items in
           rw w.lines-is
-          (cut_permuted g.C.WindingCount.counting (of_count g.C.WindingCount.of) es g.I.OverlayInt.stride g.I.OverlayInt.least g.I.OverlayInt.greatest (laid_marks value g.I.Wide.WideIntNumber.number found) (laid_marks value g.I.Wide.WideIntNumber.number ordered) (entries_of value lines) (entries_of value sorted) others
-          marks (IsPermutation-map (entry_of value) lines sorted w.in_ok-sort.ensures.same) cut)
+          (cut_permuted g.C.WindingCount.counting (of_count g.C.WindingCount.of) es g.I.OverlayInt.stride g.I.OverlayInt.least g.I.OverlayInt.greatest (laid_marks g.I.Wide.WideIntNumber.number found) (laid_marks g.I.Wide.WideIntNumber.number ordered) (entries_of lines) (entries_of sorted) others
+          marks (IsPermutation-map entry_of lines sorted w.in_ok-sort.ensures.same) cut)
       | else-is_marked w ↦
           rw w.lines-is
-          (cut_permuted g.C.WindingCount.counting (of_count g.C.WindingCount.of) es g.I.OverlayInt.stride g.I.OverlayInt.least g.I.OverlayInt.greatest (laid_marks value g.I.Wide.WideIntNumber.number found) (laid_marks value g.I.Wide.WideIntNumber.number ordered) (entries_of value lines) (entries_of value lines) others
-          marks (IsPermutation-refl (entries_of value lines)) cut)
+          (cut_permuted g.C.WindingCount.counting (of_count g.C.WindingCount.of) es g.I.OverlayInt.stride g.I.OverlayInt.least g.I.OverlayInt.greatest (laid_marks g.I.Wide.WideIntNumber.number found) (laid_marks g.I.Wide.WideIntNumber.number ordered) (entries_of lines) (entries_of lines) others
+          marks (IsPermutation-refl (entries_of lines)) cut)
     ]
 
 pub returns-clause-cut : goal.returns-clause-cut
@@ -65,8 +64,7 @@ returns-clause-unmarked g c = λ none.
 
 pub returns-clause-order : goal.returns-clause-order
 returns-clause-order g c =
-    let value = g.I.OverlayInt.value in
-    let es = entries_of value c.args.segments.now in
+    let es = entries_of c.args.segments.now in
     let marks = c.args.room.now.marks in
     let ordered = c.put_in_order.new.marks.items in
     let lines = c.cut_by_slope.new.lines.items in
@@ -75,14 +73,14 @@ returns-clause-order g c =
       | then-is_marked+in_ok-sort w ↦
           let sorted = w.sort.new.segments.items in
           rw w.lines-is
-          (sorted_in_order (entries_of value sorted)
-          (All-permutation (λ e. is_before e.edge.a e.edge.b ≡ true) (entries_of value lines) (entries_of value sorted) (IsPermutation-map (entry_of value) lines sorted w.in_ok-sort.ensures.same)
+          (sorted_in_order (entries_of sorted)
+          (All-permutation (λ e. is_before e.edge.a e.edge.b ≡ true) (entries_of lines) (entries_of sorted) (IsPermutation-map entry_of lines sorted w.in_ok-sort.ensures.same)
           c.in_ok-cut_by_slope.ensures.directed)
           w.in_ok-sort.ensures.sorted)
       | else-is_marked w ↦
           let no_marks = (are_marked marks.items marks.len (omega (arith, marks.ok.0)) c.is_empty-is_marked.ensures).0 (ap not w.if-is_marked.false) in
           rw w.lines-is
-          (lines_in_order (g.met.C.WindingCount.added c.requires.adds) es (entries_of value lines) c.requires.normal (whole (none_ordered marks.items ordered c.in_ok-put_in_order.ensures.same no_marks)))
+          (lines_in_order (g.met.C.WindingCount.added c.requires.adds) es (entries_of lines) c.requires.normal (whole (none_ordered marks.items ordered c.in_ok-put_in_order.ensures.same no_marks)))
     ]
 
 pub returns-then-len-ge-TOO_MANY-clause-refused : goal.returns-then-len-ge-TOO_MANY-clause-refused

@@ -1,6 +1,6 @@
 use mathlib.Core.Bool.{beq}
 use Rattle.std.specs.Prelude.{◌≡◌, ◌+◌, ◌≤◌, Bool, true, false, not, cond, length, Result, Ok, Err, OnOk}
-use Rattle.std.proofs.Common.{get_or, refl, sym, ◌∙◌, subst, arith}
+use Rattle.std.proofs.Common.{ap, get_or, refl, sym, ◌∙◌, subst, arith}
 use Rattle.plane_base.specs.Plane.{Edge}
 use Rattle.plane_base.specs.SegmentViews.{edge_of}
 use Rattle.segment_split.specs.LineLaws.{is_rectilinear}
@@ -34,23 +34,23 @@ old_is flag level told e same = by flag level (subst (λ b. not (beq b flag) ≡
 
 pub loop-i-preserved : goal.loop-i-preserved
 loop-i-preserved g c =
-    let value = g.I.OverlayInt.value in
-    let es = edges_of (entries_of value c.args.segments.now) in
+    let es = edges_of (entries_of c.args.segments.now) in
     let i = c.loop-i.i in
     let flag = c.args.are_lines_old in
     let test = λ (s : Edge). cond flag (is_rectilinear s) (not (is_rectilinear s)) in
     let segment = c.index-segments-i.result in
-    let s = edge_of value (get_or c.args.segments.now i segment).x_segment in
-    let at : IsAt es i s = edge_read (entry_of value) c.args.segments.now i segment (omega (arith, c.loop-i-test.true)) c.index-segments-i.is in
+    let s = edge_of (get_or c.args.segments.now i segment).x_segment in
+    let at : IsAt es i s = edge_read entry_of c.args.segments.now i segment (omega (arith, c.loop-i-test.true)) c.index-segments-i.is in
     let before = c.loop-i.next_new.items in
     let told = c.is_rectilinear.result in
+    let own = rw (ap (λ s. s.x_segment) c.segment.view_is, c.index-segments-i.is) at c.is_rectilinear.ensures in
     elim c.if-is_rectilinear-are_lines_old.branch [
       | then-is_rectilinear-are_lines_old+in_ok-fill+in_ok-push w ↦
           let full = w.fill.new.next_new.items in
           let long = w.in_ok-fill.ensures.len c.loop-i.invariant.short in
-          rw w.next_new-is (tells_new test es before full w.push.new.self.items i s at (new_is flag (is_rectilinear s) told c.is_rectilinear.ensures w.if-is_rectilinear-are_lines_old.true) long w.in_ok-fill.ensures.is w.in_ok-push.ensures.items c.loop-i.invariant)
+          rw w.next_new-is (tells_new test es before full w.push.new.self.items i s at (new_is flag (is_rectilinear s) told own w.if-is_rectilinear-are_lines_old.true) long w.in_ok-fill.ensures.is w.in_ok-push.ensures.items c.loop-i.invariant)
       | else-is_rectilinear-are_lines_old w ↦
-          rw w.next_new-is (tells_old test es before i s at (old_is flag (is_rectilinear s) told c.is_rectilinear.ensures w.if-is_rectilinear-are_lines_old.false) c.loop-i.invariant)
+          rw w.next_new-is (tells_old test es before i s at (old_is flag (is_rectilinear s) told own w.if-is_rectilinear-are_lines_old.false) c.loop-i.invariant)
     ]
 
 on_ok_both : {T E P Q R : Type 0} (r : Result T E) → (P → Q → R) → OnOk r P → OnOk r Q → OnOk r R
@@ -59,14 +59,13 @@ on_ok_both (Err e) f p q = tt
 
 pub returns-clause-told : goal.returns-clause-told
 returns-clause-told g c =
-    let value = g.I.OverlayInt.value in
-    let es = edges_of (entries_of value c.args.segments.now) in
+    let es = edges_of (entries_of c.args.segments.now) in
     let flag = c.args.are_lines_old in
     let test = λ (s : Edge). cond flag (is_rectilinear s) (not (is_rectilinear s)) in
     let before = c.loop-i.next_new.items in
     let full = c.fill-2.new.next_new.items in
     let n = length c.args.segments.now in
-    let many : length es ≡ n = edges_length (entry_of value) c.args.segments.now in
+    let many : length es ≡ n = edges_length entry_of c.args.segments.now in
     let end : c.loop-i.i ≡ n = omega (arith, c.loop-i-test.false, c.loop-i.auto.i-end) in
     let told = subst (TellsTo test es before) (end ∙ sym many) c.loop-i.invariant in
     let room : length before ≤ n = omega (arith, c.loop-i.invariant.short, end) in

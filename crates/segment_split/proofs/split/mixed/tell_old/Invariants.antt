@@ -8,5 +8,5 @@ use Rattle.segment_split.proofs.split.mixed.tell_old.Given as goal
 -- The segments before this one are told of.
 abbrev pub invariant-loop-i : goal.invariant-loop-i
 invariant-loop-i g l =
-    TellsTo (λ s. cond l.are_lines_old (is_rectilinear s) (not (is_rectilinear s))) (edges_of (entries_of g.I.OverlayInt.value l.segments))
+    TellsTo (λ s. cond l.are_lines_old (is_rectilinear s) (not (is_rectilinear s))) (edges_of (entries_of l.segments))
     l.next_new.items l.i

@@ -27,11 +27,10 @@ pub returns-then-is_err-clause-is : goal.returns-then-is_err-clause-is
 returns-then-is_err-clause-is g c = where_refused _ c.join-done.result (sym c.is_err.ensures.value ∙ c.if-is_err.true)
 
 pub returns-then-is_err-clause-refused : goal.returns-then-is_err-clause-refused
-returns-then-is_err-clause-refused g c = where_it_may_be _ c.join-done.result (ap (shapes_of g.I.OverlayInt.value) c.clear.ensures.items)
+returns-then-is_err-clause-refused g c = where_it_may_be _ c.join-done.result (ap shapes_of c.clear.ensures.items)
 
 pub returns-else-is_err-clause-is : goal.returns-else-is_err-clause-is
 returns-else-is_err-clause-is g c =
-    let value = g.I.OverlayInt.value in
     let v = c.args.self.now.shapes in
     let new = c.join-done.new.shapes in
     let long : length new ≡ v.len = c.join-done.ensures.len ∙ c.deref_mut.ensures.len in
@@ -39,7 +38,7 @@ returns-else-is_err-clause-is g c =
     ap (λ n. take n (new ++ drop (length new) v.items)) (sym long)
     ∙ (take-append-le (length new) new (drop (length new) v.items) (omega arith) ∙ take_all (length new) new (omega arith)) in
     done_too _ _ c.join-done.result
-    (λ is. ap (shapes_of value) all ∙ (is ∙ ap (λ ss. joined c.args.clockwise (shapes_of value ss) (contours_of value c.args.holes.now)) c.deref_mut.ensures.value))
+    (λ is. ap shapes_of all ∙ (is ∙ ap (λ ss. joined c.args.clockwise (shapes_of ss) (contours_of c.args.holes.now)) c.deref_mut.ensures.value))
     c.join-done.ensures.is
 
 pub returns-else-is_err-clause-refused : goal.returns-else-is_err-clause-refused

@@ -1,4 +1,3 @@
-use Rattle.std.specs.Ordering.{ordering_then}
 use Rattle.std.proofs.Common.{sym, subst}
 use Rattle.polygon_overlay.specs.Tallies.{leaving_of, leavings_of, AreSorted}
 use Rattle.polygon_overlay.proofs.Holding.TallyLaws.{sorted_ends}
@@ -6,10 +5,8 @@ use Rattle.polygon_overlay.proofs.edge_overlay.tally.Tally.is_level.Goals as goa
 
 pub are_level-requires : goal.are_level-requires
 are_level-requires g c =
-    let value = g.I.OverlayInt.value in
     record {
       sorted =
-          subst (λ es. AreSorted (leavings_of value es)) (sym c.deref.ensures.value)
-          (sorted_ends (λ d e. ordering_then (g.I.Ord.cmp d.point.x e.point.x) (g.I.Ord.cmp d.point.y e.point.y)) (leaving_of value)
-          (λ d e. c.order_of_points.ensures.by_values d.point e.point) c.sort_unstable.new.self.items c.sort_unstable.ensures.sorted);
+          subst (λ es. AreSorted (leavings_of es)) (sym c.deref.ensures.value)
+          (sorted_ends _ leaving_of (λ d e. c.order_of_points.ensures.by_values d.point e.point) c.sort_unstable.new.self.items c.sort_unstable.ensures.sorted);
     }

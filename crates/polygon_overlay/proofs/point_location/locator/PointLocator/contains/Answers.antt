@@ -1,6 +1,5 @@
 use Rattle.std.proofs.Common.{◌∙◌, All, sym, ap, subst}
 use Rattle.plane_base.specs.Plane.{IsWithin}
-use Rattle.plane_base.specs.Views.{point_of}
 use Rattle.segment_arrangement.specs.FanLaws.{whole}
 use Rattle.contour_walk.specs.ShapeViews.{shapes_of}
 use Rattle.polygon_overlay.specs.Location.{in_shapes}
@@ -10,14 +9,13 @@ use Rattle.polygon_overlay.proofs.point_location.locator.PointLocator.contains.G
 pub is_in_shapes-requires-clause-in_range : goal.is_in_shapes-requires-clause-in_range
 is_in_shapes-requires-clause-in_range g c =
     let within = All (IsWithin g.I.OverlayInt.least g.I.OverlayInt.greatest) in
-    subst (λ ss. All (All within) (shapes_of g.I.OverlayInt.value ss)) (sym c.deref.ensures.value) c.self.invariant.0
+    subst (λ ss. All (All within) (shapes_of ss)) (sym c.deref.ensures.value) c.self.invariant.0
 
 pub is_in_shapes-requires-clause-indexed : goal.is_in_shapes-requires-clause-indexed
 is_in_shapes-requires-clause-indexed g c =
-    subst (λ ss. IsIndexed g.I.OverlayInt.value (shapes_of g.I.OverlayInt.value ss) c.self.inside.index) (sym c.deref.ensures.value) c.self.invariant.1
+    subst (λ ss. IsIndexed g.I.IntNumber.value (shapes_of ss) c.self.inside.index) (sym c.deref.ensures.value) c.self.invariant.1
 
 pub returns : goal.returns
 returns g c =
-    let value = g.I.OverlayInt.value in
-    let p = whole (point_of value c.args.point) in
-    c.is_in_shapes.ensures ∙ (ap (λ ss. in_shapes (shapes_of value ss) p) c.deref.ensures.value ∙ ap (λ ss. in_shapes ss p) c.self.view_is)
+    let p = whole c.args.point in
+    c.is_in_shapes.ensures ∙ (ap (λ ss. in_shapes (shapes_of ss) p) c.deref.ensures.value ∙ ap (λ ss. in_shapes ss p) c.self.view_is)

@@ -3,5 +3,5 @@ use Rattle.polygon_overlay.proofs.relate.reach.ToRightSide.farther.Goals as goal
 
 pub returns-clause-kept : goal.returns-clause-kept
 returns-clause-kept g c = λ p h.
-    let value = g.I.OverlayInt.value in
+    let value = g.I.IntNumber.value in
     through p.x (value c.args.reach) (value c.greater.result) h c.greater.ensures.first

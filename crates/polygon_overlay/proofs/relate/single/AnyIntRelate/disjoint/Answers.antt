@@ -1,7 +1,6 @@
-use Rattle.std.proofs.Common.{Bool, map, not, refl, sym, ap, subst}
+use Rattle.std.proofs.Common.{Bool, not, refl, sym, ap, subst}
 use Rattle.std.specs.declared.result.Result.TheVariants.{Ok, Err}
 use Rattle.std.proofs.lemmas.Result.{err_from_is_err_and}
-use Rattle.plane_base.specs.Views.{points_of}
 use Rattle.polygon_overlay.specs.Predicates.{intersects, disjoint}
 use Rattle.polygon_overlay.specs.Singles.{IsRelated, IsSingleRefused}
 use Rattle.polygon_overlay.proofs.Relating.ApartLaws.{disjoint_related}
@@ -10,18 +9,16 @@ use Rattle.polygon_overlay.proofs.relate.single.AnyIntRelate.disjoint.Goals as g
 
 pub returns-then-lie_apart-clause-is : goal.returns-then-lie_apart-clause-is
 returns-then-lie_apart-clause-is g c =
-    let value = g.I.OverlayInt.value in
-    disjoint_related disjoint (λ r. r.disjoint) (λ links. refl) (map (points_of value) (g.S.IntShapeResource.paths c.args.self.now))
-    (map (points_of value) (g.R.IntShapeResource.paths c.args.other.now)) (c.lie_apart.ensures c.if-lie_apart.true)
+    disjoint_related disjoint (λ r. r.disjoint) (λ links. refl) (g.S.IntShapeResource.paths c.args.self.now)
+    (g.R.IntShapeResource.paths c.args.other.now) (c.lie_apart.ensures c.if-lie_apart.true)
 
 pub returns-in_err-meets-clause-refused : goal.returns-in_err-meets-clause-refused
 returns-in_err-meets-clause-refused g c =
     let p = err_from_is_err_and c.from_residual-in_err-meets.result c.from_residual-in_err-meets.ensures.1 in
-    let value = g.I.OverlayInt.value in
     let made = c.in_ok-overlay.overlay in
     let new = c.in_ok-overlay.ensures.made in
-    let subjects = map (points_of value) (g.S.IntShapeResource.paths c.args.self.now) in
-    let clips = map (points_of value) (g.R.IntShapeResource.paths c.args.other.now) in
+    let subjects = (g.S.IntShapeResource.paths c.args.self.now) in
+    let clips = (g.R.IntShapeResource.paths c.args.other.now) in
     let why : IsSingleRefused subjects clips c.in_err-meets.field-0.0 =
     asked_refused {T = Bool} subjects clips made.solver made.held.edges new.held made.held.has_failed (Err c.in_err-meets.field-0.0) new.solver new.ready
     c.in_err-meets.ensures.asked.refused in
@@ -29,11 +26,10 @@ returns-in_err-meets-clause-refused g c =
 
 pub returns-clause-is : goal.returns-clause-is
 returns-clause-is g c =
-    let value = g.I.OverlayInt.value in
     let made = c.in_ok-overlay.overlay in
     let new = c.in_ok-overlay.ensures.made in
-    let subjects = map (points_of value) (g.S.IntShapeResource.paths c.args.self.now) in
-    let clips = map (points_of value) (g.R.IntShapeResource.paths c.args.other.now) in
+    let subjects = (g.S.IntShapeResource.paths c.args.self.now) in
+    let clips = (g.R.IntShapeResource.paths c.args.other.now) in
     let related : IsRelated intersects subjects clips c.in_ok-meets.meets =
     asked_related subjects clips made.fill_rule made.solver made.held.edges new.held intersects (Ok c.in_ok-meets.meets) new.fill_rule new.solver c.in_ok-meets.ensures.is in
     record { held = related.held; holds = related.holds; is = ap not related.is }

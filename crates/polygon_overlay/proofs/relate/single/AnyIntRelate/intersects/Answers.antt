@@ -1,5 +1,4 @@
-use Rattle.std.proofs.Common.{map, refl}
-use Rattle.plane_base.specs.Views.{points_of}
+use Rattle.std.proofs.Common.{refl}
 use Rattle.polygon_overlay.specs.Predicates.{intersects}
 use Rattle.polygon_overlay.proofs.Relating.ApartLaws.{disjoint_related}
 use Rattle.polygon_overlay.proofs.Answering.SingleLaws.{asked_related, asked_refused}
@@ -7,22 +6,19 @@ use Rattle.polygon_overlay.proofs.relate.single.AnyIntRelate.intersects.Goals as
 
 pub returns-then-lie_apart-clause-is : goal.returns-then-lie_apart-clause-is
 returns-then-lie_apart-clause-is g c =
-    let value = g.I.OverlayInt.value in
-    disjoint_related intersects (λ r. r.intersects) (λ links. refl) (map (points_of value) (g.S.IntShapeResource.paths c.args.self.now))
-    (map (points_of value) (g.R.IntShapeResource.paths c.args.other.now)) (c.lie_apart.ensures c.if-lie_apart.true)
+    disjoint_related intersects (λ r. r.intersects) (λ links. refl) (g.S.IntShapeResource.paths c.args.self.now)
+    (g.R.IntShapeResource.paths c.args.other.now) (c.lie_apart.ensures c.if-lie_apart.true)
 
 pub returns-clause-is : goal.returns-clause-is
 returns-clause-is g c =
-    let value = g.I.OverlayInt.value in
     let made = c.in_ok-overlay.overlay in
     let new = c.in_ok-overlay.ensures.made in
-    asked_related (map (points_of value) (g.S.IntShapeResource.paths c.args.self.now)) (map (points_of value) (g.R.IntShapeResource.paths c.args.other.now))
+    asked_related (g.S.IntShapeResource.paths c.args.self.now) (g.R.IntShapeResource.paths c.args.other.now)
     made.fill_rule made.solver made.held.edges new.held intersects c.intersects.result new.fill_rule new.solver c.intersects.ensures.is
 
 pub returns-clause-refused : goal.returns-clause-refused
 returns-clause-refused g c =
-    let value = g.I.OverlayInt.value in
     let made = c.in_ok-overlay.overlay in
     let new = c.in_ok-overlay.ensures.made in
-    asked_refused (map (points_of value) (g.S.IntShapeResource.paths c.args.self.now)) (map (points_of value) (g.R.IntShapeResource.paths c.args.other.now))
+    asked_refused (g.S.IntShapeResource.paths c.args.self.now) (g.R.IntShapeResource.paths c.args.other.now)
     made.solver made.held.edges new.held made.held.has_failed c.intersects.result new.solver new.ready c.intersects.ensures.asked.refused

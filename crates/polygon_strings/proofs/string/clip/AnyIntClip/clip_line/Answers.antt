@@ -1,8 +1,7 @@
-use Rattle.std.proofs.Common.{map, sym, ◌∙◌, subst}
+use Rattle.std.proofs.Common.{sym, ◌∙◌, subst}
 use Rattle.std.proofs.lemmas.Result.{err_from_is_err_and}
 use Rattle.std.specs.Prelude.{[], ◌∷◌}
 use Rattle.plane_base.specs.GivenViews.{contours_of}
-use Rattle.plane_base.specs.Views.{points_of}
 use Rattle.segment_arrangement.specs.RuleViews.{fill_rule_of}
 use Rattle.polygon_strings.specs.ClipCalls.{IsClipRefused}
 use Rattle.polygon_strings.proofs.ClipCallLaws.{not_made, holds_one, one_not_added, clip_answered, clip_refused}
@@ -13,9 +12,8 @@ returns-in_err-overlay-clause-clip g c = rw ((err_from_is_err_and c.from_residua
 
 pub returns-in_err-overlay-clause-refused : goal.returns-in_err-overlay-clause-refused
 returns-in_err-overlay-clause-refused g c =
-    let value = g.I.OverlayInt.value in
-    let shape = map (points_of value) (g.S.IntShapeResource.paths c.args.self.now) in
-    let path = points_of value c.args.line in
+    let shape = (g.S.IntShapeResource.paths c.args.self.now) in
+    let path = c.args.line in
     let p = err_from_is_err_and c.from_residual.result c.from_residual.ensures.1 in
     rw p.1 (subst (IsClipRefused shape (path ∷ [])) (sym p.2) (not_made shape (path ∷ []) _ c.in_err-overlay.ensures.refused))
 
@@ -25,9 +23,8 @@ returns-in_err-add_string_path-clause-clip g c =
 
 pub returns-in_err-add_string_path-clause-refused : goal.returns-in_err-add_string_path-clause-refused
 returns-in_err-add_string_path-clause-refused g c =
-    let value = g.I.OverlayInt.value in
-    let shape = map (points_of value) (g.S.IntShapeResource.paths c.args.self.now) in
-    let path = points_of value c.args.line in
+    let shape = (g.S.IntShapeResource.paths c.args.self.now) in
+    let path = c.args.line in
     let new = c.in_ok-overlay.ensures.made in
     let p = err_from_is_err_and c.from_residual-in_err-add_string_path.result c.from_residual-in_err-add_string_path.ensures.1 in
     rw p.1 (subst (IsClipRefused shape (path ∷ [])) (sym p.2)
@@ -35,19 +32,17 @@ returns-in_err-add_string_path-clause-refused g c =
 
 pub returns-clause-clip : goal.returns-clause-clip
 returns-clause-clip g c =
-    let value = g.I.OverlayInt.value in
-    let shape = map (points_of value) (g.S.IntShapeResource.paths c.args.self.now) in
-    let path = points_of value c.args.line in
+    let shape = (g.S.IntShapeResource.paths c.args.self.now) in
+    let path = c.args.line in
     let new = c.in_ok-overlay.ensures.made in
     clip_answered shape (path ∷ []) (fill_rule_of c.args.fill_rule) c.args.clip_rule c.add_string_path.new.self.held.edges
-    (holds_one shape path _ _ new.held c.in_ok-add_string_path.ensures.takes.added) g.I.OverlayInt.least g.I.OverlayInt.greatest (λ paths. contours_of value paths.items) c.clip_string_lines.result
+    (holds_one shape path _ _ new.held c.in_ok-add_string_path.ensures.takes.added) g.I.OverlayInt.least g.I.OverlayInt.greatest (λ paths. contours_of paths.items) c.clip_string_lines.result
     c.clip_string_lines.ensures.clip c.clip_string_lines.ensures.in_range
 
 pub returns-clause-refused : goal.returns-clause-refused
 returns-clause-refused g c =
-    let value = g.I.OverlayInt.value in
-    let shape = map (points_of value) (g.S.IntShapeResource.paths c.args.self.now) in
-    let path = points_of value c.args.line in
+    let shape = (g.S.IntShapeResource.paths c.args.self.now) in
+    let path = c.args.line in
     let new = c.in_ok-overlay.ensures.made in
     clip_refused shape (path ∷ []) (fill_rule_of c.args.fill_rule) c.args.clip_rule c.add_string_path.new.self.held.edges
     (holds_one shape path _ _ new.held c.in_ok-add_string_path.ensures.takes.added) c.add_string_path.new.self.held.has_failed c.clip_string_lines.result

@@ -1,7 +1,6 @@
-use Rattle.std.proofs.Common.{map, sym, ◌∙◌, subst}
+use Rattle.std.proofs.Common.{sym, ◌∙◌, subst}
 use Rattle.std.proofs.lemmas.Result.{err_from_is_err_and}
 use Rattle.plane_base.specs.GivenViews.{contours_of}
-use Rattle.plane_base.specs.Views.{points_of}
 use Rattle.segment_arrangement.specs.RuleViews.{fill_rule_of}
 use Rattle.polygon_strings.specs.ClipCalls.{IsClipRefused}
 use Rattle.polygon_strings.proofs.ClipCallLaws.{not_made, not_added, clip_answered, clip_refused}
@@ -12,9 +11,8 @@ returns-in_err-overlay-clause-clip g c = rw ((err_from_is_err_and c.from_residua
 
 pub returns-in_err-overlay-clause-refused : goal.returns-in_err-overlay-clause-refused
 returns-in_err-overlay-clause-refused g c =
-    let value = g.I.OverlayInt.value in
-    let shape = map (points_of value) (g.S.IntShapeResource.paths c.args.self.now) in
-    let strings = map (points_of value) c.args.lines.now in
+    let shape = (g.S.IntShapeResource.paths c.args.self.now) in
+    let strings = c.args.lines.now in
     let p = err_from_is_err_and c.from_residual.result c.from_residual.ensures.1 in
     rw p.1 (subst (IsClipRefused shape strings) (sym p.2) (not_made shape strings _ c.in_err-overlay.ensures.refused))
 
@@ -24,9 +22,8 @@ returns-in_err-add_string_lines-clause-clip g c =
 
 pub returns-in_err-add_string_lines-clause-refused : goal.returns-in_err-add_string_lines-clause-refused
 returns-in_err-add_string_lines-clause-refused g c =
-    let value = g.I.OverlayInt.value in
-    let shape = map (points_of value) (g.S.IntShapeResource.paths c.args.self.now) in
-    let strings = map (points_of value) c.args.lines.now in
+    let shape = (g.S.IntShapeResource.paths c.args.self.now) in
+    let strings = c.args.lines.now in
     let new = c.in_ok-overlay.ensures.made in
     let p = err_from_is_err_and c.from_residual-in_err-add_string_lines.result c.from_residual-in_err-add_string_lines.ensures.1 in
     rw p.1 (subst (IsClipRefused shape strings) (sym p.2)
@@ -34,19 +31,17 @@ returns-in_err-add_string_lines-clause-refused g c =
 
 pub returns-clause-clip : goal.returns-clause-clip
 returns-clause-clip g c =
-    let value = g.I.OverlayInt.value in
-    let shape = map (points_of value) (g.S.IntShapeResource.paths c.args.self.now) in
-    let strings = map (points_of value) c.args.lines.now in
+    let shape = (g.S.IntShapeResource.paths c.args.self.now) in
+    let strings = c.args.lines.now in
     let new = c.in_ok-overlay.ensures.made in
     clip_answered shape strings (fill_rule_of c.args.fill_rule) c.args.clip_rule c.add_string_lines.new.self.held.edges
-    (c.in_ok-overlay.overlay.held.edges, new.held, c.in_ok-add_string_lines.ensures.added) g.I.OverlayInt.least g.I.OverlayInt.greatest (λ paths. contours_of value paths.items) c.clip_string_lines.result
+    (c.in_ok-overlay.overlay.held.edges, new.held, c.in_ok-add_string_lines.ensures.added) g.I.OverlayInt.least g.I.OverlayInt.greatest (λ paths. contours_of paths.items) c.clip_string_lines.result
     c.clip_string_lines.ensures.clip c.clip_string_lines.ensures.in_range
 
 pub returns-clause-refused : goal.returns-clause-refused
 returns-clause-refused g c =
-    let value = g.I.OverlayInt.value in
-    let shape = map (points_of value) (g.S.IntShapeResource.paths c.args.self.now) in
-    let strings = map (points_of value) c.args.lines.now in
+    let shape = (g.S.IntShapeResource.paths c.args.self.now) in
+    let strings = c.args.lines.now in
     let new = c.in_ok-overlay.ensures.made in
     clip_refused shape strings (fill_rule_of c.args.fill_rule) c.args.clip_rule c.add_string_lines.new.self.held.edges
     (c.in_ok-overlay.overlay.held.edges, new.held, c.in_ok-add_string_lines.ensures.added) c.add_string_lines.new.self.held.has_failed c.clip_string_lines.result

@@ -9,7 +9,7 @@ use Rattle.polygon_strings.proofs.string.overlay.StringOverlay.add_each_path.Giv
 abbrev pub invariant-loop-i : goal.invariant-loop-i
 invariant-loop-i g l = record {
   added :
-      held_by l.self ≡ held_by l.initial.self ++ flat_map (laid_path stringed one_line) (take l.i (contours_of g.I.OverlayInt.value l.paths));
+      held_by l.self ≡ held_by l.initial.self ++ flat_map (laid_path stringed one_line) (take l.i (contours_of l.paths));
   ready : has_failed l.self ≡ false;
   room : room_of l.initial.self ≤ room_of l.self;
   options : l.self.options ≡ l.initial.self.options;

@@ -2,7 +2,6 @@ use Rattle.std.specs.Prelude.{Option}
 use Rattle.std.proofs.Common.{Bool, true, false, List, All, sym, ◌∙◌, subst, inr}
 use Rattle.std.specs.Iterator.{Drains, DrainsIf}
 use Rattle.plane_base.specs.Plane.{IsWithin}
-use Rattle.plane_base.specs.Views.{points_of}
 use Rattle.plane_base.specs.declared.fault.Fault.{Fault}
 use Rattle.segment_split.specs.Adding.{Adds, IsRefused}
 use Rattle.segment_split.specs.Holdings.{IsRefusedBy}
@@ -25,26 +24,25 @@ add_shape_contour-requires g c =
     let same = sym (c.deref.ensures.value ∙ ran.2.0) in
     record {
       in_range =
-          subst (λ points. All (IsWithin g.I.OverlayInt.least g.I.OverlayInt.greatest) (points_of g.I.OverlayInt.value points)) same
+          subst (λ points. All (IsWithin g.I.OverlayInt.least g.I.OverlayInt.greatest) points) same
           (c.requires.in_range ran.0 (drained g.It.Iterator.next_gives (Unit {0}) c.args.iter ran.0 tt ran.1));
     }
 
 pub returns : goal.returns
 returns g c =
     let ran = c.in_ok-points.ensures.ran in
-    let value = g.I.OverlayInt.value in
     let self = c.args.self.now in
     let same = c.deref.ensures.value ∙ ran.2.0 in
     let gives = drained g.It.Iterator.next_gives (Unit {0}) c.args.iter ran.0 tt ran.1 in
     let added = c.add_shape_contour.ensures in
     record {
       added = on_answer c.add_shape_contour.result
-          (λ adds. (ran.0, gives, subst (λ points. Adds stringed one_shape false (points_of value points) self.held.edges c.add_shape_contour.new.self.held.edges) same adds))
+          (λ adds. (ran.0, gives, subst (λ points. Adds stringed one_shape false points self.held.edges c.add_shape_contour.new.self.held.edges) same adds))
           added.takes.added;
       unchanged = added.takes.unchanged;
       refused = if_refused c.add_shape_contour.result
           (λ fault. for_more self.held.has_failed
-          (λ f why. inr (ran.0, gives, subst (λ points. IsRefused stringed one_shape false (points_of value points) self.held.edges f) same why)) fault)
+          (λ f why. inr (ran.0, gives, subst (λ points. IsRefused stringed one_shape false points self.held.edges f) same why)) fault)
           added.takes.refused;
       ready = added.takes.ready;
       failed = added.takes.stays;

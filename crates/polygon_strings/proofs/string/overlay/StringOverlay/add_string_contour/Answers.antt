@@ -1,10 +1,9 @@
-use Rattle.std.proofs.Common.{◌<◌, ◌-◌, sym, subst, map, take, length, arith}
+use Rattle.std.proofs.Common.{◌<◌, ◌-◌, sym, subst, take, length, arith}
 use Rattle.std.specs.declared.result.Result.TheVariants.{Ok, Err}
 use Rattle.std.proofs.lemmas.Result.{err_from_is_err_and}
 use Rattle.plane_base.specs.Given.{closed}
 use Rattle.plane_base.specs.Plane.{IsWithin}
-use Rattle.plane_base.specs.Views.{point_of, points_of}
-use Rattle.plane_base.proofs.Facts.Lists.Views.{All-mapped, some_first, none_first}
+use Rattle.plane_base.proofs.Facts.Lists.Views.{All_at, some_first, none_first}
 use Rattle.polygon_strings.specs.Calls.{AddsStringPath}
 use Rattle.polygon_strings.proofs.PathLaws.{closed_refused, closed_nothing, ends_last, closes_first, closed_by}
 use Rattle.polygon_strings.proofs.string.overlay.StringOverlay.add_string_contour.Goals as goal
@@ -14,7 +13,7 @@ add_string_path-requires g c = record { in_range = c.requires.in_range }
 
 pub returns-in_err-add_string_path : goal.returns-in_err-add_string_path
 returns-in_err-add_string_path g c =
-    let points = points_of g.I.OverlayInt.value c.args.contour.now in
+    let points = c.args.contour.now in
     let old = c.args.self.now in
     let new = c.add_string_path.new.self in
     let p = err_from_is_err_and c.from_residual.result c.from_residual.ensures.1 in
@@ -25,29 +24,27 @@ returns-in_err-add_string_path g c =
 pub returns-then-is_empty : goal.returns-then-is_empty
 returns-then-is_empty g c =
     let contour = c.args.contour.now in
-    closed_nothing (point_of g.I.OverlayInt.value) contour (none_first (length contour) c.is_empty.ensures c.if-is_empty.true) c.args.self.now c.add_string_path.new.self (Ok tt)
+    closed_nothing contour (none_first (length contour) c.is_empty.ensures c.if-is_empty.true) c.args.self.now c.add_string_path.new.self (Ok tt)
     c.in_ok-add_string_path.ensures
 
 pub add_step-requires : goal.add_step-requires
 add_step-requires g c =
-    let f = point_of g.I.OverlayInt.value in
     let within = IsWithin g.I.OverlayInt.least g.I.OverlayInt.greatest in
     let contour = c.args.contour.now in
     let last = c.index-contour-contour.result in
     let first = c.index-contour-0.result in
     let some : 0 < length contour = some_first (length contour) c.is_empty.ensures c.if-is_empty.false in
-    let last_within = All-mapped within f contour (length contour - 1) last (omega (arith, some)) c.index-contour-contour.is c.requires.in_range in
-    let first_within = All-mapped within f contour 0 first some c.index-contour-0.is c.requires.in_range in
+    let last_within = All_at within contour (length contour - 1) last (omega (arith, some)) c.index-contour-contour.is c.requires.in_range in
+    let first_within = All_at within contour 0 first some c.index-contour-0.is c.requires.in_range in
     (last_within, first_within)
 
 pub returns : goal.returns
 returns g c =
-    let f = point_of g.I.OverlayInt.value in
     let contour = c.args.contour.now in
     let last = c.index-contour-contour.result in
     let first = c.index-contour-0.result in
     let some : 0 < length contour = some_first (length contour) c.is_empty.ensures c.if-is_empty.false in
-    closed_by (map f contour) (take (length contour - 1) (map f contour)) (f last) (f first)
-    (ends_last f contour some last first c.index-contour-contour.is c.index-contour-0.is)
-    (closes_first f contour some last first c.index-contour-contour.is c.index-contour-0.is)
+    closed_by contour (take (length contour - 1) contour) last first
+    (ends_last contour some last first c.index-contour-contour.is c.index-contour-0.is)
+    (closes_first contour some last first c.index-contour-contour.is c.index-contour-0.is)
     c.args.self.now c.add_string_path.new.self c.add_step.new.self tt c.add_step.result c.in_ok-add_string_path.ensures c.add_step.ensures

@@ -1,12 +1,11 @@
-use Rattle.std.proofs.Common.{◌≡◌, ◌+◌, ◌<◌, ◌∙◌, refl, sym, subst, [], map, length, get_or, arith, All}
+use Rattle.std.proofs.Common.{◌≡◌, ◌+◌, ◌<◌, ◌∙◌, sym, subst, [], map, length, get_or, arith, All}
 use Rattle.std.specs.declared.result.Result.TheVariants.{Err}
 use Rattle.std.proofs.lemmas.List.{take_all, length-map}
 use Rattle.std.proofs.lemmas.Result.{err_from_is_err_and}
 use Rattle.plane_base.specs.Given.{closed}
 use Rattle.plane_base.specs.Plane.{IsWithin}
-use Rattle.plane_base.specs.Views.{points_of}
 use Rattle.plane_base.proofs.Facts.Lists.Placed.{before, all_before, list_more, placed}
-use Rattle.segment_split.proofs.Facts.Adding.Sources.{contour_inside, contour_here, contour_keeps}
+use Rattle.segment_split.proofs.Facts.Adding.Sources.{contour_keeps}
 use Rattle.polygon_strings.specs.Calls.{AddsStringPaths}
 use Rattle.polygon_strings.proofs.PathLaws.{none_yet, one_more, one_refused, all_more, closed_inside, closed_here}
 use Rattle.polygon_strings.proofs.string.overlay.StringOverlay.add_string_contour_source.Given.{Over}
@@ -26,8 +25,7 @@ stands g c =
 
 pub loop-shape-init : goal.loop-shape-init
 loop-shape-init g c =
-    let value = g.I.OverlayInt.value in
-    none_yet (map closed (map (points_of value) (g.R.IntShapeResource.paths c.args.resource.now))) c.args.self.now (sym c.has_failed.ensures ∙ c.if-has_failed.false)
+    none_yet (map closed (g.R.IntShapeResource.paths c.args.resource.now)) c.args.self.now (sym c.has_failed.ensures ∙ c.if-has_failed.false)
 
 pub loop-index-init : goal.loop-index-init
 loop-index-init g c =
@@ -37,26 +35,24 @@ loop-index-init g c =
 
 pub add_string_contour-requires : goal.add_string_contour-requires
 add_string_contour-requires g c =
-    let value = g.I.OverlayInt.value in
     let paths = g.R.IntShapeResource.paths c.args.resource.now in
     let at = stands g (goal.at.add_string_contour-requires g c).After-shape_path in
     record {
       in_range =
-          contour_keeps (points_of value) refl paths (before (g.R.IntShapeResource.shapes c.args.resource.now) c.loop-shape.shape + c.loop-index.index)
+          contour_keeps paths (before (g.R.IntShapeResource.shapes c.args.resource.now) c.loop-shape.shape + c.loop-index.index)
           at.0 c.shape_path.result.now at.1 (All (IsWithin g.I.OverlayInt.least g.I.OverlayInt.greatest)) c.requires.in_range;
     }
 
 pub returns-in_err-add_string_contour : goal.returns-in_err-add_string_contour
 returns-in_err-add_string_contour g c =
-    let value = g.I.OverlayInt.value in
     let all = g.R.IntShapeResource.paths c.args.resource.now in
     let k = before (g.R.IntShapeResource.shapes c.args.resource.now) c.loop-shape.shape + c.loop-index.index in
     let at = stands g (goal.at.returns-in_err-add_string_contour g c).After-shape_path in
-    let within = contour_inside (points_of value) refl all k at.0 c.shape_path.result.now at.1 in
-    let here = contour_here (points_of value) refl all k at.0 c.shape_path.result.now at.1 in
+    let within = at.0 in
+    let here = at.1 in
     let p = err_from_is_err_and c.from_residual.result c.from_residual.ensures.1 in
-    let paths = map (points_of value) all in
-    let points = points_of value c.shape_path.result.now in
+    let paths = all in
+    let points = c.shape_path.result.now in
     let old = c.args.self.now in
     let new = c.add_string_contour.new.self in
     subst (AddsStringPaths (map closed paths) old new) (sym p.1)
@@ -66,15 +62,14 @@ returns-in_err-add_string_contour g c =
 
 pub loop-index-preserved : goal.loop-index-preserved
 loop-index-preserved g c =
-    let value = g.I.OverlayInt.value in
     let all = g.R.IntShapeResource.paths c.args.resource.now in
     let shapes = g.R.IntShapeResource.shapes c.args.resource.now in
     let k = before shapes c.loop-shape.shape + c.loop-index.index in
     let at = stands g (goal.at.loop-index-preserved g c).After-shape_path in
-    let within = contour_inside (points_of value) refl all k at.0 c.shape_path.result.now at.1 in
-    let here = contour_here (points_of value) refl all k at.0 c.shape_path.result.now at.1 in
-    let paths = map (points_of value) all in
-    let points = points_of value c.shape_path.result.now in
+    let within = at.0 in
+    let here = at.1 in
+    let paths = all in
+    let points = c.shape_path.result.now in
     let next : before shapes c.loop-shape.shape + (c.loop-index.index + 1) ≡ k + 1 = omega arith in
     rw next (one_more (map closed paths) k (closed_inside paths k within) c.args.self.now c.loop-index.self c.add_string_contour.new.self (closed points) tt
     (closed_here paths k points within here) c.loop-index.invariant c.in_ok-add_string_contour.ensures)
@@ -90,11 +85,10 @@ loop-shape-preserved g c =
 
 pub returns : goal.returns
 returns g c =
-    let value = g.I.OverlayInt.value in
     let all = g.R.IntShapeResource.paths c.args.resource.now in
     let shapes = g.R.IntShapeResource.shapes c.args.resource.now in
-    let paths = map (points_of value) all in
+    let paths = all in
     let last = all_before shapes all (g.met.R.IntShapeResource.together c.args.resource.now) c.loop-shape.shape (omega (arith, c.shape_count-shape-end.ensures, c.loop-shape-test.false)) in
-    let whole = take_all (before shapes c.loop-shape.shape) (map closed paths) (omega (arith, length-map paths closed, length-map all (points_of value), last)) in
+    let whole = take_all (before shapes c.loop-shape.shape) (map closed paths) (omega (arith, length-map paths closed, last)) in
     all_more (map closed paths) (before shapes c.loop-shape.shape) whole c.args.self.now c.loop-shape.self tt (sym c.has_failed.ensures ∙ c.if-has_failed.false)
     c.loop-shape.invariant

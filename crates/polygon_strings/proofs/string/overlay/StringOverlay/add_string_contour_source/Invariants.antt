@@ -1,6 +1,5 @@
 use Rattle.std.proofs.Common.{◌+◌, map}
 use Rattle.plane_base.specs.Given.{closed}
-use Rattle.plane_base.specs.Views.{points_of}
 use Rattle.plane_base.proofs.Facts.Lists.Placed.{before}
 use Rattle.polygon_strings.proofs.PathLaws.{AddsBefore}
 use Rattle.polygon_strings.proofs.string.overlay.StringOverlay.add_string_contour_source.Given as goal
@@ -8,11 +7,11 @@ use Rattle.polygon_strings.proofs.string.overlay.StringOverlay.add_string_contou
 -- The closed strings of the shapes before this one are added.
 abbrev pub invariant-loop-shape : goal.invariant-loop-shape
 invariant-loop-shape g l =
-    AddsBefore (map closed (map (points_of g.I.OverlayInt.value) (g.R.IntShapeResource.paths l.resource))) (before (g.R.IntShapeResource.shapes l.resource) l.shape)
+    AddsBefore (map closed (g.R.IntShapeResource.paths l.resource)) (before (g.R.IntShapeResource.shapes l.resource) l.shape)
     l.fn.self l.self
 
 -- And those before this place in it.
 abbrev pub invariant-loop-index : goal.invariant-loop-index
 invariant-loop-index g l =
-    AddsBefore (map closed (map (points_of g.I.OverlayInt.value) (g.R.IntShapeResource.paths l.resource))) (before (g.R.IntShapeResource.shapes l.resource) l.shape + l.index)
+    AddsBefore (map closed (g.R.IntShapeResource.paths l.resource)) (before (g.R.IntShapeResource.shapes l.resource) l.shape + l.index)
     l.fn.self l.self

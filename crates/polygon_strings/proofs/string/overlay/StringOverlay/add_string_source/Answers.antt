@@ -1,11 +1,10 @@
-use Rattle.std.proofs.Common.{◌≡◌, ◌+◌, ◌<◌, ◌∙◌, refl, sym, subst, [], map, length, get_or, arith, All}
+use Rattle.std.proofs.Common.{◌≡◌, ◌+◌, ◌<◌, ◌∙◌, sym, subst, [], length, get_or, arith, All}
 use Rattle.std.specs.declared.result.Result.TheVariants.{Err}
-use Rattle.std.proofs.lemmas.List.{take_all, length-map}
+use Rattle.std.proofs.lemmas.List.{take_all}
 use Rattle.std.proofs.lemmas.Result.{err_from_is_err_and}
 use Rattle.plane_base.specs.Plane.{IsWithin}
-use Rattle.plane_base.specs.Views.{points_of}
 use Rattle.plane_base.proofs.Facts.Lists.Placed.{before, all_before, list_more, placed}
-use Rattle.segment_split.proofs.Facts.Adding.Sources.{contour_inside, contour_here, contour_keeps}
+use Rattle.segment_split.proofs.Facts.Adding.Sources.{contour_keeps}
 use Rattle.polygon_strings.specs.Calls.{AddsStringPaths}
 use Rattle.polygon_strings.proofs.PathLaws.{none_yet, one_more, one_refused, all_more}
 use Rattle.polygon_strings.proofs.string.overlay.StringOverlay.add_string_source.Given.{Over}
@@ -25,8 +24,7 @@ stands g c =
 
 pub loop-shape-init : goal.loop-shape-init
 loop-shape-init g c =
-    let value = g.I.OverlayInt.value in
-    none_yet (map (points_of value) (g.R.IntShapeResource.paths c.args.resource.now)) c.args.self.now (sym c.has_failed.ensures ∙ c.if-has_failed.false)
+    none_yet (g.R.IntShapeResource.paths c.args.resource.now) c.args.self.now (sym c.has_failed.ensures ∙ c.if-has_failed.false)
 
 pub loop-index-init : goal.loop-index-init
 loop-index-init g c =
@@ -36,43 +34,40 @@ loop-index-init g c =
 
 pub add_string_path-requires : goal.add_string_path-requires
 add_string_path-requires g c =
-    let value = g.I.OverlayInt.value in
     let paths = g.R.IntShapeResource.paths c.args.resource.now in
     let at = stands g (goal.at.add_string_path-requires g c).After-shape_path in
     record {
       in_range =
-          contour_keeps (points_of value) refl paths (before (g.R.IntShapeResource.shapes c.args.resource.now) c.loop-shape.shape + c.loop-index.index)
+          contour_keeps paths (before (g.R.IntShapeResource.shapes c.args.resource.now) c.loop-shape.shape + c.loop-index.index)
           at.0 c.shape_path.result.now at.1 (All (IsWithin g.I.OverlayInt.least g.I.OverlayInt.greatest)) c.requires.in_range;
     }
 
 pub returns-in_err-add_string_path : goal.returns-in_err-add_string_path
 returns-in_err-add_string_path g c =
-    let value = g.I.OverlayInt.value in
     let all = g.R.IntShapeResource.paths c.args.resource.now in
     let k = before (g.R.IntShapeResource.shapes c.args.resource.now) c.loop-shape.shape + c.loop-index.index in
     let at = stands g (goal.at.returns-in_err-add_string_path g c).After-shape_path in
-    let within = contour_inside (points_of value) refl all k at.0 c.shape_path.result.now at.1 in
-    let here = contour_here (points_of value) refl all k at.0 c.shape_path.result.now at.1 in
+    let within = at.0 in
+    let here = at.1 in
     let p = err_from_is_err_and c.from_residual.result c.from_residual.ensures.1 in
-    let paths = map (points_of value) all in
+    let paths = all in
     let old = c.args.self.now in
     let new = c.add_string_path.new.self in
     subst (AddsStringPaths paths old new) (sym p.1)
     (subst (λ e. AddsStringPaths paths old new (Err e)) (sym p.2)
-    (one_refused paths k within old c.loop-index.self new (points_of value c.shape_path.result.now) c.in_err-add_string_path.field-0.0
+    (one_refused paths k within old c.loop-index.self new c.shape_path.result.now c.in_err-add_string_path.field-0.0
     (sym c.has_failed.ensures ∙ c.if-has_failed.false) here c.loop-index.invariant c.in_err-add_string_path.ensures))
 
 pub loop-index-preserved : goal.loop-index-preserved
 loop-index-preserved g c =
-    let value = g.I.OverlayInt.value in
     let paths = g.R.IntShapeResource.paths c.args.resource.now in
     let shapes = g.R.IntShapeResource.shapes c.args.resource.now in
     let k = before shapes c.loop-shape.shape + c.loop-index.index in
     let at = stands g (goal.at.loop-index-preserved g c).After-shape_path in
-    let within = contour_inside (points_of value) refl paths k at.0 c.shape_path.result.now at.1 in
-    let here = contour_here (points_of value) refl paths k at.0 c.shape_path.result.now at.1 in
+    let within = at.0 in
+    let here = at.1 in
     let next : before shapes c.loop-shape.shape + (c.loop-index.index + 1) ≡ k + 1 = omega arith in
-    rw next (one_more (map (points_of value) paths) k within c.args.self.now c.loop-index.self c.add_string_path.new.self (points_of value c.shape_path.result.now) tt here
+    rw next (one_more paths k within c.args.self.now c.loop-index.self c.add_string_path.new.self c.shape_path.result.now tt here
     c.loop-index.invariant c.in_ok-add_string_path.ensures)
 
 pub loop-shape-preserved : goal.loop-shape-preserved
@@ -86,10 +81,9 @@ loop-shape-preserved g c =
 
 pub returns : goal.returns
 returns g c =
-    let value = g.I.OverlayInt.value in
     let all = g.R.IntShapeResource.paths c.args.resource.now in
     let shapes = g.R.IntShapeResource.shapes c.args.resource.now in
-    let paths = map (points_of value) all in
+    let paths = all in
     let last = all_before shapes all (g.met.R.IntShapeResource.together c.args.resource.now) c.loop-shape.shape (omega (arith, c.shape_count-shape-end.ensures, c.loop-shape-test.false)) in
-    let whole = take_all (before shapes c.loop-shape.shape) paths (omega (arith, length-map all (points_of value), last)) in
+    let whole = take_all (before shapes c.loop-shape.shape) paths (omega (arith, last)) in
     all_more paths (before shapes c.loop-shape.shape) whole c.args.self.now c.loop-shape.self tt (sym c.has_failed.ensures ∙ c.if-has_failed.false) c.loop-shape.invariant

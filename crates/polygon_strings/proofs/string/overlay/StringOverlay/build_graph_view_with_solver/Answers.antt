@@ -60,7 +60,6 @@ returns-then-branch g c =
 
 pub returns : goal.returns
 returns g c =
-    let value = g.I.OverlayInt.value in
     let made = c.in_ok-make_graph.ensures in (
       (
         refl,
@@ -73,7 +72,7 @@ returns g c =
       ),
       record {
         lent = record {
-          links = ap (map (overlay_link_of value)) c.string_graph.ensures.links ∙ made.links;
+          links = ap (map overlay_link_of) c.string_graph.ensures.links ∙ made.links;
           nodes = c.string_graph.result.joined;
           numbers = c.string_graph.result.numbered;
           in_range = c.string_graph.result.in_range;

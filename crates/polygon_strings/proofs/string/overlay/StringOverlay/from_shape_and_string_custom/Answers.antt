@@ -1,6 +1,5 @@
-use Rattle.std.proofs.Common.{map, inl, inr, sym, ◌∙◌, subst}
+use Rattle.std.proofs.Common.{inl, inr, sym, ◌∙◌, subst}
 use Rattle.std.proofs.lemmas.Result.{err_from_is_err_and}
-use Rattle.plane_base.specs.Views.{points_of}
 use Rattle.polygon_strings.specs.Builders.{IsNotMade, AddsPathsUntil}
 use Rattle.polygon_strings.proofs.BuilderLaws.{for_the_reason, all_added, part_added}
 use Rattle.polygon_strings.proofs.string.overlay.StringOverlay.from_shape_and_string_custom.Goals as goal
@@ -13,8 +12,8 @@ returns-in_err-overlay g c =
 pub returns-in_err-add_shape_source : goal.returns-in_err-add_shape_source
 returns-in_err-add_shape_source g c =
     let p = err_from_is_err_and c.from_residual-in_err-add_shape_source.result c.from_residual-in_err-add_shape_source.ensures.1 in
-    let shape = map (points_of g.I.OverlayInt.value) (g.R.IntShapeResource.paths c.args.shape.now) in
-    let strings = map (points_of g.I.OverlayInt.value) (g.S.IntShapeResource.paths c.args.string.now) in
+    let shape = (g.R.IntShapeResource.paths c.args.shape.now) in
+    let strings = (g.S.IntShapeResource.paths c.args.string.now) in
     let new = c.in_ok-overlay.ensures.made in
     record {
       made = rw p.1 tt;
@@ -25,8 +24,8 @@ returns-in_err-add_shape_source g c =
 pub returns-in_err-add_string_source : goal.returns-in_err-add_string_source
 returns-in_err-add_string_source g c =
     let p = err_from_is_err_and c.from_residual-in_err-add_string_source.result c.from_residual-in_err-add_string_source.ensures.1 in
-    let shape = map (points_of g.I.OverlayInt.value) (g.R.IntShapeResource.paths c.args.shape.now) in
-    let strings = map (points_of g.I.OverlayInt.value) (g.S.IntShapeResource.paths c.args.string.now) in
+    let shape = (g.R.IntShapeResource.paths c.args.shape.now) in
+    let strings = (g.S.IntShapeResource.paths c.args.string.now) in
     let new = c.in_ok-overlay.ensures.made in
     let first = c.in_ok-add_shape_source.ensures in
     record {
@@ -44,7 +43,7 @@ returns-in_err-add_string_source g c =
 
 pub returns : goal.returns
 returns g c =
-    let shape = map (points_of g.I.OverlayInt.value) (g.R.IntShapeResource.paths c.args.shape.now) in
+    let shape = (g.R.IntShapeResource.paths c.args.shape.now) in
     let new = c.in_ok-overlay.ensures.made in
     let first = c.in_ok-add_shape_source.ensures in
     let second = c.in_ok-add_string_source.ensures in

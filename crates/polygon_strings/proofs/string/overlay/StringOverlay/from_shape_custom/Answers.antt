@@ -1,6 +1,5 @@
-use Rattle.std.proofs.Common.{[], map, inl, inr, sym, ◌∙◌, subst}
+use Rattle.std.proofs.Common.{[], inl, inr, sym, ◌∙◌, subst}
 use Rattle.std.proofs.lemmas.Result.{err_from_is_err_and}
-use Rattle.plane_base.specs.Views.{points_of}
 use Rattle.polygon_strings.specs.Builders.{IsNotMade}
 use Rattle.polygon_strings.proofs.BuilderLaws.{all_added, part_added}
 use Rattle.polygon_strings.proofs.string.overlay.StringOverlay.from_shape_custom.Goals as goal
@@ -13,7 +12,7 @@ returns-in_err-overlay g c =
 pub returns-in_err-add_shape_source : goal.returns-in_err-add_shape_source
 returns-in_err-add_shape_source g c =
     let p = err_from_is_err_and c.from_residual-in_err-add_shape_source.result c.from_residual-in_err-add_shape_source.ensures.1 in
-    let shape = map (points_of g.I.OverlayInt.value) (g.R.IntShapeResource.paths c.args.shape.now) in
+    let shape = (g.R.IntShapeResource.paths c.args.shape.now) in
     let new = c.in_ok-overlay.ensures.made in
     record {
       made = rw p.1 tt;
@@ -23,7 +22,7 @@ returns-in_err-add_shape_source g c =
 
 pub returns : goal.returns
 returns g c =
-    let shape = map (points_of g.I.OverlayInt.value) (g.R.IntShapeResource.paths c.args.shape.now) in
+    let shape = (g.R.IntShapeResource.paths c.args.shape.now) in
     let new = c.in_ok-overlay.ensures.made in
     let added = c.in_ok-add_shape_source.ensures in
     record {

@@ -1,9 +1,7 @@
-use Rattle.std.proofs.Common.{map, sym, ◌∙◌, subst}
+use Rattle.std.proofs.Common.{sym, ◌∙◌, subst}
 use Rattle.std.proofs.lemmas.Result.{err_from_is_err_and}
 use Rattle.std.specs.Prelude.{[], ◌∷◌}
-use Rattle.plane_base.specs.GivenViews.{contours_of}
 use Rattle.contour_walk.specs.ShapeViews.{shapes_of}
-use Rattle.plane_base.specs.Views.{points_of}
 use Rattle.segment_arrangement.specs.RuleViews.{fill_rule_of}
 use Rattle.polygon_strings.specs.SliceCalls.{IsSliceRefused}
 use Rattle.polygon_strings.proofs.Slicing.Calls.{slice_answered, slice_refused}
@@ -15,9 +13,8 @@ returns-in_err-overlay-clause-slice g c = rw ((err_from_is_err_and c.from_residu
 
 pub returns-in_err-overlay-clause-refused : goal.returns-in_err-overlay-clause-refused
 returns-in_err-overlay-clause-refused g c =
-    let value = g.I.OverlayInt.value in
-    let shape = map (points_of value) (g.S.IntShapeResource.paths c.args.self.now) in
-    let path = points_of value c.args.line in
+    let shape = (g.S.IntShapeResource.paths c.args.self.now) in
+    let path = c.args.line in
     let p = err_from_is_err_and c.from_residual.result c.from_residual.ensures.1 in
     rw p.1 (subst (IsSliceRefused shape (path ∷ [])) (sym p.2) (not_made shape (path ∷ []) _ c.in_err-overlay.ensures.refused))
 
@@ -27,9 +24,8 @@ returns-in_err-add_string_path-clause-slice g c =
 
 pub returns-in_err-add_string_path-clause-refused : goal.returns-in_err-add_string_path-clause-refused
 returns-in_err-add_string_path-clause-refused g c =
-    let value = g.I.OverlayInt.value in
-    let shape = map (points_of value) (g.S.IntShapeResource.paths c.args.self.now) in
-    let path = points_of value c.args.line in
+    let shape = (g.S.IntShapeResource.paths c.args.self.now) in
+    let path = c.args.line in
     let new = c.in_ok-overlay.ensures.made in
     let p = err_from_is_err_and c.from_residual-in_err-add_string_path.result c.from_residual-in_err-add_string_path.ensures.1 in
     rw p.1 (subst (IsSliceRefused shape (path ∷ [])) (sym p.2)
@@ -37,19 +33,17 @@ returns-in_err-add_string_path-clause-refused g c =
 
 pub returns-clause-slice : goal.returns-clause-slice
 returns-clause-slice g c =
-    let value = g.I.OverlayInt.value in
-    let shape = map (points_of value) (g.S.IntShapeResource.paths c.args.self.now) in
-    let path = points_of value c.args.line in
+    let shape = (g.S.IntShapeResource.paths c.args.self.now) in
+    let path = c.args.line in
     let new = c.in_ok-overlay.ensures.made in
     slice_answered shape (path ∷ []) (fill_rule_of c.args.fill_rule) c.add_string_path.new.self.held.edges
-    (holds_one shape path _ _ new.held c.in_ok-add_string_path.ensures.takes.added) g.I.OverlayInt.least g.I.OverlayInt.greatest (λ shapes. shapes_of value shapes.shapes.items) c.slice_of.result
+    (holds_one shape path _ _ new.held c.in_ok-add_string_path.ensures.takes.added) g.I.OverlayInt.least g.I.OverlayInt.greatest (λ shapes. shapes_of shapes.shapes.items) c.slice_of.result
     c.slice_of.ensures.slice c.slice_of.ensures.winds c.slice_of.ensures.in_range
 
 pub returns-clause-refused : goal.returns-clause-refused
 returns-clause-refused g c =
-    let value = g.I.OverlayInt.value in
-    let shape = map (points_of value) (g.S.IntShapeResource.paths c.args.self.now) in
-    let path = points_of value c.args.line in
+    let shape = (g.S.IntShapeResource.paths c.args.self.now) in
+    let path = c.args.line in
     let new = c.in_ok-overlay.ensures.made in
     slice_refused shape (path ∷ []) (fill_rule_of c.args.fill_rule) c.add_string_path.new.self.held.edges
     (holds_one shape path _ _ new.held c.in_ok-add_string_path.ensures.takes.added) c.add_string_path.new.self.held.has_failed c.slice_of.result

@@ -1,10 +1,8 @@
-use Rattle.std.proofs.Common.{map, sym, ap, ◌∙◌, subst, All}
+use Rattle.std.proofs.Common.{sym, ◌∙◌, subst, All}
 use Rattle.std.proofs.lemmas.Result.{err_from_is_err_and}
 use Rattle.std.specs.Prelude.{[], ◌∷◌}
-use Rattle.plane_base.specs.GivenViews.{contours_of}
 use Rattle.contour_walk.specs.ShapeViews.{shapes_of}
 use Rattle.plane_base.specs.Plane.{IsWithin}
-use Rattle.plane_base.specs.Views.{points_of}
 use Rattle.segment_arrangement.specs.RuleViews.{fill_rule_of}
 use Rattle.polygon_strings.specs.Builders.{HoldsBoth}
 use Rattle.polygon_strings.specs.SliceCalls.{IsSliceRefused}
@@ -17,16 +15,15 @@ returns-in_err-overlay-clause-slice g c = rw ((err_from_is_err_and c.from_residu
 
 pub returns-in_err-overlay-clause-refused : goal.returns-in_err-overlay-clause-refused
 returns-in_err-overlay-clause-refused g c =
-    let value = g.I.OverlayInt.value in
-    let shape = map (points_of value) (g.S.IntShapeResource.paths c.args.self.now) in
-    let path = points_of value c.args.path.now.points.items in
+    let shape = (g.S.IntShapeResource.paths c.args.self.now) in
+    let path = c.args.path.now.points.items in
     let p = err_from_is_err_and c.from_residual.result c.from_residual.ensures.1 in
     rw p.1 (subst (IsSliceRefused shape (path ∷ [])) (sym p.2) (not_made shape (path ∷ []) _ c.in_err-overlay.ensures.refused))
 
 pub add_string_path-requires : goal.add_string_path-requires
 add_string_path-requires g c = record {
   in_range =
-      subst (All (IsWithin g.I.OverlayInt.least g.I.OverlayInt.greatest)) (sym (ap (points_of g.I.OverlayInt.value) c.deref.ensures.value))
+      subst (All (IsWithin g.I.OverlayInt.least g.I.OverlayInt.greatest)) (sym c.deref.ensures.value)
       c.requires.path_in_range;
 }
 
@@ -36,40 +33,37 @@ returns-in_err-add_string_path-clause-slice g c =
 
 pub returns-in_err-add_string_path-clause-refused : goal.returns-in_err-add_string_path-clause-refused
 returns-in_err-add_string_path-clause-refused g c =
-    let value = g.I.OverlayInt.value in
-    let shape = map (points_of value) (g.S.IntShapeResource.paths c.args.self.now) in
-    let path = points_of value c.args.path.now.points.items in
+    let shape = (g.S.IntShapeResource.paths c.args.self.now) in
+    let path = c.args.path.now.points.items in
     let new = c.in_ok-overlay.ensures.made in
-    let given = points_of value c.deref.result.now in
+    let given = c.deref.result.now in
     let fault = c.in_err-add_string_path.field-0.0 in
     let p = err_from_is_err_and c.from_residual-in_err-add_string_path.result c.from_residual-in_err-add_string_path.ensures.1 in
     rw p.1 (subst (IsSliceRefused shape (path ∷ [])) (sym p.2)
-    (subst (λ q. IsSliceRefused shape (q ∷ []) fault) (ap (points_of value) c.deref.ensures.value)
+    (subst (λ q. IsSliceRefused shape (q ∷ []) fault) c.deref.ensures.value
     (one_not_added shape given _ _ new.held _ _ fault new.ready c.in_err-add_string_path.ensures.takes.refused)))
 
 pub returns-clause-slice : goal.returns-clause-slice
 returns-clause-slice g c =
-    let value = g.I.OverlayInt.value in
-    let shape = map (points_of value) (g.S.IntShapeResource.paths c.args.self.now) in
-    let path = points_of value c.args.path.now.points.items in
+    let shape = (g.S.IntShapeResource.paths c.args.self.now) in
+    let path = c.args.path.now.points.items in
     let new = c.in_ok-overlay.ensures.made in
-    let given = points_of value c.deref.result.now in
+    let given = c.deref.result.now in
     let holds =
-    subst (λ q. HoldsBoth shape (q ∷ []) c.add_string_path.new.self.held.edges) (ap (points_of value) c.deref.ensures.value)
+    subst (λ q. HoldsBoth shape (q ∷ []) c.add_string_path.new.self.held.edges) c.deref.ensures.value
     (holds_one shape given _ _ new.held c.in_ok-add_string_path.ensures.takes.added) in
     slice_answered shape (path ∷ []) (fill_rule_of c.args.fill_rule) c.add_string_path.new.self.held.edges
-    holds g.I.OverlayInt.least g.I.OverlayInt.greatest (λ shapes. shapes_of value shapes.shapes.items) c.slice_of.result
+    holds g.I.OverlayInt.least g.I.OverlayInt.greatest (λ shapes. shapes_of shapes.shapes.items) c.slice_of.result
     c.slice_of.ensures.slice c.slice_of.ensures.winds c.slice_of.ensures.in_range
 
 pub returns-clause-refused : goal.returns-clause-refused
 returns-clause-refused g c =
-    let value = g.I.OverlayInt.value in
-    let shape = map (points_of value) (g.S.IntShapeResource.paths c.args.self.now) in
-    let path = points_of value c.args.path.now.points.items in
+    let shape = (g.S.IntShapeResource.paths c.args.self.now) in
+    let path = c.args.path.now.points.items in
     let new = c.in_ok-overlay.ensures.made in
-    let given = points_of value c.deref.result.now in
+    let given = c.deref.result.now in
     let holds =
-    subst (λ q. HoldsBoth shape (q ∷ []) c.add_string_path.new.self.held.edges) (ap (points_of value) c.deref.ensures.value)
+    subst (λ q. HoldsBoth shape (q ∷ []) c.add_string_path.new.self.held.edges) c.deref.ensures.value
     (holds_one shape given _ _ new.held c.in_ok-add_string_path.ensures.takes.added) in
     slice_refused shape (path ∷ []) (fill_rule_of c.args.fill_rule) c.add_string_path.new.self.held.edges
     holds c.add_string_path.new.self.held.has_failed c.slice_of.result

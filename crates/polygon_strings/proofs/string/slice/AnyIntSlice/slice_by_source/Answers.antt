@@ -1,8 +1,6 @@
-use Rattle.std.proofs.Common.{map, inl, sym, subst}
+use Rattle.std.proofs.Common.{inl, sym, subst}
 use Rattle.std.proofs.lemmas.Result.{err_from_is_err_and}
-use Rattle.plane_base.specs.GivenViews.{contours_of}
 use Rattle.contour_walk.specs.ShapeViews.{shapes_of}
-use Rattle.plane_base.specs.Views.{points_of}
 use Rattle.segment_arrangement.specs.RuleViews.{fill_rule_of}
 use Rattle.polygon_strings.specs.SliceCalls.{IsSliceRefused}
 use Rattle.polygon_strings.proofs.Slicing.Calls.{slice_answered, slice_refused}
@@ -13,24 +11,21 @@ returns-in_err-overlay-clause-slice g c = rw ((err_from_is_err_and c.from_residu
 
 pub returns-in_err-overlay-clause-refused : goal.returns-in_err-overlay-clause-refused
 returns-in_err-overlay-clause-refused g c =
-    let value = g.I.OverlayInt.value in
-    let shape = map (points_of value) (g.S.IntShapeResource.paths c.args.self.now) in
-    let strings = map (points_of value) (g.R.IntShapeResource.paths c.args.source.now) in
+    let shape = (g.S.IntShapeResource.paths c.args.self.now) in
+    let strings = (g.R.IntShapeResource.paths c.args.source.now) in
     let p = err_from_is_err_and c.from_residual.result c.from_residual.ensures.1 in
     rw p.1 (subst (IsSliceRefused shape strings) (sym p.2) (inl c.in_err-overlay.ensures.refused))
 
 pub returns-clause-slice : goal.returns-clause-slice
 returns-clause-slice g c =
-    let value = g.I.OverlayInt.value in
-    let shape = map (points_of value) (g.S.IntShapeResource.paths c.args.self.now) in
-    let strings = map (points_of value) (g.R.IntShapeResource.paths c.args.source.now) in
+    let shape = (g.S.IntShapeResource.paths c.args.self.now) in
+    let strings = (g.R.IntShapeResource.paths c.args.source.now) in
     slice_answered shape strings (fill_rule_of c.args.fill_rule) c.in_ok-overlay.overlay.held.edges c.in_ok-overlay.ensures.made.held
-    g.I.OverlayInt.least g.I.OverlayInt.greatest (λ shapes. shapes_of value shapes.shapes.items) c.slice_of.result c.slice_of.ensures.slice c.slice_of.ensures.winds c.slice_of.ensures.in_range
+    g.I.OverlayInt.least g.I.OverlayInt.greatest (λ shapes. shapes_of shapes.shapes.items) c.slice_of.result c.slice_of.ensures.slice c.slice_of.ensures.winds c.slice_of.ensures.in_range
 
 pub returns-clause-refused : goal.returns-clause-refused
 returns-clause-refused g c =
-    let value = g.I.OverlayInt.value in
-    let shape = map (points_of value) (g.S.IntShapeResource.paths c.args.self.now) in
-    let strings = map (points_of value) (g.R.IntShapeResource.paths c.args.source.now) in
+    let shape = (g.S.IntShapeResource.paths c.args.self.now) in
+    let strings = (g.R.IntShapeResource.paths c.args.source.now) in
     slice_refused shape strings (fill_rule_of c.args.fill_rule) c.in_ok-overlay.overlay.held.edges c.in_ok-overlay.ensures.made.held
     c.in_ok-overlay.overlay.held.has_failed c.slice_of.result c.in_ok-overlay.ensures.made.ready c.slice_of.ensures.asked.refused

@@ -20,14 +20,13 @@ invariant_of-self-in-Err g c = subst (λ l. length l < 2 ^ 31) (sym c.in-Err.ens
 
 pub returns-in-Ok-clause-redrawn : goal.returns-in-Ok-clause-redrawn
 returns-in-Ok-clause-redrawn g c =
-    let value = g.I.OverlayInt.value in
     let kind = g.C.WindingCount.counting in
     let segments = c.self.inside.segments in
-    made_others (λ es. redrawn kind c.args.solver.now.precision (normal kind es)) (entries_of value c.split_segments_with_store-split.new.segments.items)
+    made_others (λ es. redrawn kind c.args.solver.now.precision (normal kind es)) (entries_of c.split_segments_with_store-split.new.segments.items)
     (record {
-      edges = entries_of value segments.items;
+      edges = entries_of segments.items;
       has_failed = c.self.inside.has_failed;
-      with_data = data_entries_of value segments.items;
+      with_data = data_entries_of segments.items;
       store = c.self.inside.store;
       room = segments.cap;
     }) c.args.self.now c.in-Ok.ensures.redrawn c.self.view_is

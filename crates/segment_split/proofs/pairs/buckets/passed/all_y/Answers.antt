@@ -10,27 +10,25 @@ use Rattle.segment_split.proofs.pairs.buckets.passed.all_y.Goals as goal
 
 pub loop-segment-preserved : goal.loop-segment-preserved
 loop-segment-preserved g c =
-    let value = g.I.OverlayInt.value in
     let segments = c.args.segments.now in
     let i = c.loop-segment.segment-index in
     let segment = c.segment-item.result in
-    let before = entries_of value (take i segments) in
-    let e = entry_of value segment in
-    let next : entries_of value (take (i + 1) segments) ≡ before ++ e ∷ [] =
-    ap (entries_of value) (taken_to segments i (i + 1) segment refl (omega (arith, c.loop-segment-test.true)) c.segment-item.is) ∙ map-append (entry_of value) (take i segments) (segment ∷ []) in
+    let before = entries_of (take i segments) in
+    let e = entry_of segment in
+    let next : entries_of (take (i + 1) segments) ≡ before ++ e ∷ [] =
+    ap entries_of (taken_to segments i (i + 1) segment refl (omega (arith, c.loop-segment-test.true)) c.segment-item.is) ∙ map-append entry_of (take i segments) (segment ∷ []) in
+    let own = ap (λ s. s.x_segment) c.segment.view_is in
     rw next (
-      c.with_y-range.ensures.least ∙ (ap (λ y. int_min y (y_range e.edge).least) c.loop-segment.invariant.0 ∙ sym (measured int_min (λ s. (y_range s).least) (pos 9223372036854775807) before e)),
-      c.with_y-range.ensures.greatest ∙ (ap (λ y. int_max y (y_range e.edge).greatest) c.loop-segment.invariant.1 ∙ sym (measured int_max (λ s. (y_range s).greatest) (negsuc 9223372036854775807) before e)),
+      (rw own at c.with_y-range.ensures.least) ∙ (ap (λ y. int_min y (y_range e.edge).least) c.loop-segment.invariant.0 ∙ sym (measured int_min (λ s. (y_range s).least) (pos 9223372036854775807) before e)),
+      (rw own at c.with_y-range.ensures.greatest) ∙ (ap (λ y. int_max y (y_range e.edge).greatest) c.loop-segment.invariant.1 ∙ sym (measured int_max (λ s. (y_range s).greatest) (negsuc 9223372036854775807) before e)),
     )
 
 pub returns-clause-least : goal.returns-clause-least
 returns-clause-least g c =
-    let value = g.I.OverlayInt.value in
     c.loop-segment.invariant.0
-    ∙ ap (λ l. fold int_min (pos 9223372036854775807) (map (λ s. (y_range s).least) (edges_of (entries_of value l)))) (take_all c.loop-segment.segment-index c.args.segments.now c.loop-segment-test.false)
+    ∙ ap (λ l. fold int_min (pos 9223372036854775807) (map (λ s. (y_range s).least) (edges_of (entries_of l)))) (take_all c.loop-segment.segment-index c.args.segments.now c.loop-segment-test.false)
 
 pub returns-clause-greatest : goal.returns-clause-greatest
 returns-clause-greatest g c =
-    let value = g.I.OverlayInt.value in
     c.loop-segment.invariant.1
-    ∙ ap (λ l. fold int_max (negsuc 9223372036854775807) (map (λ s. (y_range s).greatest) (edges_of (entries_of value l)))) (take_all c.loop-segment.segment-index c.args.segments.now c.loop-segment-test.false)
+    ∙ ap (λ l. fold int_max (negsuc 9223372036854775807) (map (λ s. (y_range s).greatest) (edges_of (entries_of l)))) (take_all c.loop-segment.segment-index c.args.segments.now c.loop-segment-test.false)

@@ -16,5 +16,5 @@ returns-clause-found g c =
     let start : to_z w64 (of_z w64 c.columns-start.result.0) ≡ c.columns-start.result.0 = omega (arith, ints) in
     let low : to_z w64 (of_z w64 c.rows-min.result.0) ≡ c.rows-min.result.0 = omega (arith, ints) in
     let high : to_z w64 (of_z w64 c.rows-min.result.1) ≡ c.rows-min.result.1 = omega (arith, ints) in
-    met_permuted c.args.tree.now (edge_of g.I.OverlayInt.value c.args.s) (to_z w64 (of_z w64 c.rows-min.result.0)) (to_z w64 (of_z w64 c.rows-min.result.1)) (to_z w64 (of_z w64 c.columns-start.result.0))
+    met_permuted c.args.tree.now (edge_of c.args.s) (to_z w64 (of_z w64 c.rows-min.result.0)) (to_z w64 (of_z w64 c.rows-min.result.1)) (to_z w64 (of_z w64 c.columns-start.result.0))
     (low ∙ c.rows-min.ensures.least) (high ∙ c.rows-min.ensures.greatest) (start ∙ c.columns-start.ensures.least) c.in_ok-found.found.items c.in_ok-found.ensures.found

@@ -1,4 +1,4 @@
-use Rattle.std.proofs.Common.{◌≡◌, ◌≤◌, subst, slice_index_or}
+use Rattle.std.proofs.Common.{◌≤◌, subst, slice_index_or}
 use Rattle.segment_split.specs.Rows.{place_in}
 use Rattle.segment_split.proofs.pairs.rows.hold.has_more.Goals as goal
 

@@ -1,6 +1,6 @@
 use Rattle.std.proofs.lemmas.Result.{err_from_is_err_and}
 use contract.BorrowLft.{⊑_static}
-use Rattle.std.proofs.Common.{◌≡◌, ◌∙◌, sym, subst, refl, ℕ, List, ◌<◌, ◌≤◌, ◌+◌, ◌%◌, ◌⊎◌, take, length, slice_index_or, arith}
+use Rattle.std.proofs.Common.{◌≡◌, ◌∙◌, ap, sym, subst, refl, ℕ, List, ◌<◌, ◌≤◌, ◌+◌, ◌%◌, ◌⊎◌, take, length, slice_index_or, arith}
 use Rattle.std.specs.List.Sorted.{IsNonDecreasing}
 use Rattle.segment_split.specs.SegmentViews.{entry_of}
 use Rattle.segment_split.specs.MarkLists.{laid_marks}
@@ -14,21 +14,19 @@ use Rattle.segment_split.proofs.pairs.rows.hold.hold_one.Goals as goal
 
 pub returns-then-to-k-clause-found : goal.returns-then-to-k-clause-found
 returns-then-to-k-clause-found g c =
-    let value = g.I.OverlayInt.value in
     let pass = pass_seen c.pass.invariant c.pass.view_is in
     let to = c.args.to.now in
     let k = c.loop-k.k in
     let reach = slice_index_or (all_reaches c.args.pass.now.edges c.args.reaches.now) c.args.seat.number 0 in
-    let reached = as_seen (entry_of value) c.pass.inside.segments.now pass (λ es _ _. c.reach_of-reach.result ≡ slice_index_or (all_reaches es c.args.reaches.now) c.args.seat.number 0) c.reach_of-reach.ensures in
+    let reached = as_seen entry_of c.pass.inside.segments.now pass (λ es _ _. c.reach_of-reach.result ≡ slice_index_or (all_reaches es c.args.reaches.now) c.args.seat.number 0) c.reach_of-reach.ensures in
     let past : place_in c.args.seat.row reach ≤ slice_index_or to k 0 = omega (arith, c.if-to-k.true, c.place_in-end.ensures, reached) in
     finds_fewer g.I.OverlayInt.stride g.I.OverlayInt.least g.I.OverlayInt.greatest c.args.pass.now.rounding c.args.pass.now.edges
     (HeldTo to c.args.seat.row c.args.seat.number c.args.first k) (FollowsIn to c.args.seat.row reach c.args.seat.number)
     (λ i j h. (h.0, met_before to c.requires.to_sorted c.args.seat.row c.args.seat.number reach c.args.first k c.requires.first (all_from to c.requires.to_sorted (place_in c.args.seat.row reach) k past) j h.1 h.2 h.3))
-    (laid_marks value g.I.Wide.WideIntNumber.number c.args.marks.now.items) (laid_marks value g.I.Wide.WideIntNumber.number c.loop-k.marks.items) c.loop-k.is_off_grid c.loop-k.invariant.0
+    (laid_marks g.I.Wide.WideIntNumber.number c.args.marks.now.items) (laid_marks g.I.Wide.WideIntNumber.number c.loop-k.marks.items) c.loop-k.is_off_grid c.loop-k.invariant.0
 
 pub loop-k-preserved : goal.loop-k-preserved
 loop-k-preserved g c =
-    let value = g.I.OverlayInt.value in
     let rounding = c.args.pass.now.rounding in
     let es = c.args.pass.now.edges in
     let pass = pass_seen c.pass.invariant c.pass.view_is in
@@ -42,12 +40,12 @@ loop-k-preserved g c =
     let reaches = all_reaches es c.args.reaches.now in
     let reach = slice_index_or reaches i 0 in
     let few : reach ≤ 4294967296 = reach_few es reaches (omega (arith, pass.few)) (told_are es c.args.reaches.now pass.rising c.requires.told) i in
-    let reached = as_seen (entry_of value) c.pass.inside.segments.now pass (λ es _ _. c.reach_of-reach.result ≡ slice_index_or (all_reaches es c.args.reaches.now) c.args.seat.number 0) c.reach_of-reach.ensures in
+    let reached = as_seen entry_of c.pass.inside.segments.now pass (λ es _ _. c.reach_of-reach.result ≡ slice_index_or (all_reaches es c.args.reaches.now) c.args.seat.number 0) c.reach_of-reach.ensures in
     let close : p < place_in row reach = omega (arith, c.if-to-k.false, c.place_in-end.ensures, reached) in
     let here : p ≡ place_in row j = place_between row i reach p few follows close in
-    let before = laid_marks value g.I.Wide.WideIntNumber.number c.args.marks.now.items in
-    let now = laid_marks value g.I.Wide.WideIntNumber.number c.loop-k.marks.items in
-    let next = laid_marks value g.I.Wide.WideIntNumber.number c.look.new.marks.items in (
+    let before = laid_marks g.I.Wide.WideIntNumber.number c.args.marks.now.items in
+    let now = laid_marks g.I.Wide.WideIntNumber.number c.loop-k.marks.items in
+    let next = laid_marks g.I.Wide.WideIntNumber.number c.look.new.marks.items in (
       finds_fewer g.I.OverlayInt.stride g.I.OverlayInt.least g.I.OverlayInt.greatest rounding es
           (λ n m. HeldTo to row i c.args.first k n m ⊎ ((n ≡ i) × (m ≡ j))) (HeldTo to row i c.args.first (k + 1)) (held_more to row i c.args.first k j (sym here)) before next c.either-is_off_grid.result
           (finds_both g.I.OverlayInt.stride g.I.OverlayInt.least g.I.OverlayInt.greatest rounding es (HeldTo to row i c.args.first k) (λ n m. (n ≡ i) × (m ≡ j)) before now next c.loop-k.is_off_grid c.in_ok-own.own c.either-is_off_grid.result
@@ -57,14 +55,13 @@ loop-k-preserved g c =
 
 pub returns-clause-found : goal.returns-clause-found
 returns-clause-found g c =
-    let value = g.I.OverlayInt.value in
     let to = c.args.to.now in
     let k = c.loop-k.k in
     let reach = slice_index_or (all_reaches c.args.pass.now.edges c.args.reaches.now) c.args.seat.number 0 in
     finds_fewer g.I.OverlayInt.stride g.I.OverlayInt.least g.I.OverlayInt.greatest c.args.pass.now.rounding c.args.pass.now.edges
     (HeldTo to c.args.seat.row c.args.seat.number c.args.first k) (FollowsIn to c.args.seat.row reach c.args.seat.number)
     (λ i j h. (h.0, met_before to c.requires.to_sorted c.args.seat.row c.args.seat.number reach c.args.first k c.requires.first (λ m l n. absurd (omega (arith, l, n, c.loop-k-test.false))) j h.1 h.2 h.3))
-    (laid_marks value g.I.Wide.WideIntNumber.number c.args.marks.now.items) (laid_marks value g.I.Wide.WideIntNumber.number c.loop-k.marks.items) c.loop-k.is_off_grid c.loop-k.invariant.0
+    (laid_marks g.I.Wide.WideIntNumber.number c.args.marks.now.items) (laid_marks g.I.Wide.WideIntNumber.number c.loop-k.marks.items) c.loop-k.is_off_grid c.loop-k.invariant.0
 
 pub returns-then-to-k-clause-steps : goal.returns-then-to-k-clause-steps
 returns-then-to-k-clause-steps g c =
@@ -88,7 +85,7 @@ returns-in_err-own-clause-steps g c =
     let p = place_in c.args.seat.row c.args.seat.number in
     let q = place_in c.args.seat.row reach in
     let follows : p < slice_index_or to k 0 = c.requires.first.after k (omega (arith, c.loop-k.auto.k)) (omega (arith, c.loop-k-test.true)) in
-    let reached = as_seen (entry_of g.I.OverlayInt.value) c.pass.inside.segments.now (pass_seen c.pass.invariant c.pass.view_is) (λ es _ _. c.reach_of-reach.result ≡ slice_index_or (all_reaches es c.args.reaches.now) c.args.seat.number 0) c.reach_of-reach.ensures in
+    let reached = as_seen entry_of c.pass.inside.segments.now (pass_seen c.pass.invariant c.pass.view_is) (λ es _ _. c.reach_of-reach.result ≡ slice_index_or (all_reaches es c.args.reaches.now) c.args.seat.number 0) c.reach_of-reach.ensures in
     let close : slice_index_or to k 0 < q = omega (arith, c.if-to-k.false, c.place_in-end.ensures, reached) in
     let one = next_between to p q k (omega (arith, c.loop-k-test.true)) follows close in
     let all = all_between to p q (k + 1) in
@@ -130,12 +127,12 @@ none_held to row i first i' j (e, (q, l, m, is)) = omega (arith, l, m)
 pub loop-k-init : goal.loop-k-init
 loop-k-init g c = (
   finds_none g.I.OverlayInt.stride g.I.OverlayInt.least g.I.OverlayInt.greatest c.args.pass.now.rounding c.args.pass.now.edges
-      (HeldTo c.args.to.now c.args.seat.row c.args.seat.number c.args.first c.args.first) (none_held c.args.to.now c.args.seat.row c.args.seat.number c.args.first) (laid_marks g.I.OverlayInt.value g.I.Wide.WideIntNumber.number c.args.marks.now.items),
+      (HeldTo c.args.to.now c.args.seat.row c.args.seat.number c.args.first c.args.first) (none_held c.args.to.now c.args.seat.row c.args.seat.number c.args.first) (laid_marks g.I.Wide.WideIntNumber.number c.args.marks.now.items),
   record { comparisons = refl; pairs = omega arith; bound = omega arith },
 )
 
 pub reach_of-reach-requires-clause-within : goal.reach_of-reach-requires-clause-within
-reach_of-reach-requires-clause-within g c = omega (arith, c.requires.within, seen_long (entry_of g.I.OverlayInt.value) c.pass.inside.segments.now (pass_seen c.pass.invariant c.pass.view_is))
+reach_of-reach-requires-clause-within g c = omega (arith, c.requires.within, seen_long entry_of c.pass.inside.segments.now (pass_seen c.pass.invariant c.pass.view_is))
 
 pub reach_of-reach-requires-clause-normal : goal.reach_of-reach-requires-clause-normal
 reach_of-reach-requires-clause-normal g c = c.pass.invariant.normal
@@ -150,23 +147,22 @@ place_in-end-requires-clause-row g c = c.requires.row
 
 pub place_in-end-requires-clause-number : goal.place_in-end-requires-clause-number
 place_in-end-requires-clause-number g c =
-    let value = g.I.OverlayInt.value in
     let es = c.args.pass.now.edges in
     let pass = pass_seen c.pass.invariant c.pass.view_is in
     let few = reach_few es (all_reaches es c.args.reaches.now) (omega (arith, pass.few)) (told_are es c.args.reaches.now pass.rising c.requires.told) c.args.seat.number in
-    let reached = as_seen (entry_of value) c.pass.inside.segments.now pass (λ es _ _. c.reach_of-reach.result ≡ slice_index_or (all_reaches es c.args.reaches.now) c.args.seat.number 0) c.reach_of-reach.ensures in
+    let reached = as_seen entry_of c.pass.inside.segments.now pass (λ es _ _. c.reach_of-reach.result ≡ slice_index_or (all_reaches es c.args.reaches.now) c.args.seat.number 0) c.reach_of-reach.ensures in
     omega (arith, few, reached)
 
 pub look-requires-clause-at : goal.look-requires-clause-at
 look-requires-clause-at g c =
-    seen_at (entry_of g.I.OverlayInt.value) c.pass.inside.segments.now (pass_seen c.pass.invariant c.pass.view_is) c.args.seat.number c.index-segments-seat.result c.requires.within c.index-segments-seat.is
+    rw (ap (λ s. s.x_segment) c.segment.view_is, c.index-segments-seat.is)
+    (seen_at entry_of c.pass.inside.segments.now (pass_seen c.pass.invariant c.pass.view_is) c.args.seat.number c.index-segments-seat.result c.requires.within c.index-segments-seat.is)
 
 pub bounds-segments-seat : goal.bounds-segments-seat
-bounds-segments-seat g c = omega (arith, c.requires.within, seen_long (entry_of g.I.OverlayInt.value) c.pass.inside.segments.now (pass_seen c.pass.invariant c.pass.view_is))
+bounds-segments-seat g c = omega (arith, c.requires.within, seen_long entry_of c.pass.inside.segments.now (pass_seen c.pass.invariant c.pass.view_is))
 
 pub look-requires-clause-before : goal.look-requires-clause-before
 look-requires-clause-before g c =
-    let value = g.I.OverlayInt.value in
     let es = c.args.pass.now.edges in
     let pass = pass_seen c.pass.invariant c.pass.view_is in
     let k = c.loop-k.k in
@@ -176,7 +172,7 @@ look-requires-clause-before g c =
     let reach = slice_index_or (all_reaches es c.args.reaches.now) i 0 in
     let follows : place_in row i < p = c.requires.first.after k (omega (arith, c.loop-k.auto.k)) (omega (arith, c.loop-k-test.true)) in
     let few : reach ≤ 4294967296 = reach_few es (all_reaches es c.args.reaches.now) (omega (arith, pass.few)) (told_are es c.args.reaches.now pass.rising c.requires.told) i in
-    let reached = as_seen (entry_of value) c.pass.inside.segments.now pass (λ es _ _. c.reach_of-reach.result ≡ slice_index_or (all_reaches es c.args.reaches.now) c.args.seat.number 0) c.reach_of-reach.ensures in
+    let reached = as_seen entry_of c.pass.inside.segments.now pass (λ es _ _. c.reach_of-reach.result ≡ slice_index_or (all_reaches es c.args.reaches.now) c.args.seat.number 0) c.reach_of-reach.ensures in
     let below : p < place_in row reach = omega (arith, c.if-to-k.false, c.place_in-end.ensures, reached) in
     place_apart row i p follows (place_between row i reach p few follows below)
 
@@ -204,14 +200,13 @@ returns-then-not-has_more-clause-found g c =
     let past : (m : ℕ) → first ≤ m → m < length to → place_in row reach ≤ slice_index_or to m 0 = λ m l n. let h = last m l n in omega (arith, h, few) in
     finds_none g.I.OverlayInt.stride g.I.OverlayInt.least g.I.OverlayInt.greatest c.args.pass.now.rounding es
     (FollowsIn to row reach i) (none_follow to row i reach first c.requires.to_sorted c.requires.first past)
-    (laid_marks g.I.OverlayInt.value g.I.Wide.WideIntNumber.number c.args.marks.now.items)
+    (laid_marks g.I.Wide.WideIntNumber.number c.args.marks.now.items)
 
 pub returns-then-not-has_more-clause-steps : goal.returns-then-not-has_more-clause-steps
 returns-then-not-has_more-clause-steps g c = record { comparisons = refl; pairs = omega arith; bound = omega arith }
 
 pub returns-then-not-has_before-clause-found : goal.returns-then-not-has_before-clause-found
 returns-then-not-has_before-clause-found g c =
-    let value = g.I.OverlayInt.value in
     let es = c.args.pass.now.edges in
     let pass = pass_seen c.pass.invariant c.pass.view_is in
     let to = c.args.to.now in
@@ -219,12 +214,12 @@ returns-then-not-has_before-clause-found g c =
     let i = c.args.seat.number in
     let first = c.args.first in
     let reach = slice_index_or (all_reaches es c.args.reaches.now) i 0 in
-    let reached = as_seen (entry_of value) c.pass.inside.segments.now pass (λ es _ _. c.reach_of-reach.result ≡ slice_index_or (all_reaches es c.args.reaches.now) c.args.seat.number 0) c.reach_of-reach.ensures in
+    let reached = as_seen entry_of c.pass.inside.segments.now pass (λ es _ _. c.reach_of-reach.result ≡ slice_index_or (all_reaches es c.args.reaches.now) c.args.seat.number 0) c.reach_of-reach.ensures in
     let last = c.has_before.ensures c.if-not-has_before.true in
     let past : (m : ℕ) → first ≤ m → m < length to → place_in row reach ≤ slice_index_or to m 0 = λ m l n. let h = last m l n in omega (arith, h, c.place_in-end.ensures, reached) in
     finds_none g.I.OverlayInt.stride g.I.OverlayInt.least g.I.OverlayInt.greatest c.args.pass.now.rounding es
     (FollowsIn to row reach i) (none_follow to row i reach first c.requires.to_sorted c.requires.first past)
-    (laid_marks value g.I.Wide.WideIntNumber.number c.args.marks.now.items)
+    (laid_marks g.I.Wide.WideIntNumber.number c.args.marks.now.items)
 
 pub returns-then-not-has_before-clause-steps : goal.returns-then-not-has_before-clause-steps
 returns-then-not-has_before-clause-steps g c = record { comparisons = refl; pairs = omega arith; bound = omega arith }

@@ -11,7 +11,6 @@ use Rattle.segment_split.proofs.pairs.rows.hold.hold_places.Goals as goal
 
 pub loop-k-preserved : goal.loop-k-preserved
 loop-k-preserved g c =
-    let value = g.I.OverlayInt.value in
     let rounding = c.args.pass.now.rounding in
     let es = c.args.pass.now.edges in
     let pass = pass_seen c.pass.invariant c.pass.view_is in
@@ -24,9 +23,9 @@ loop-k-preserved g c =
     let i = p % 4294967296 in
     let few : length es < 4294967296 = omega (arith, pass.few) in
     let small : i < 4294967296 = omega arith in
-    let before = laid_marks value g.I.Wide.WideIntNumber.number c.args.marks.now.items in
-    let now = laid_marks value g.I.Wide.WideIntNumber.number c.loop-k.marks.items in
-    let next = laid_marks value g.I.Wide.WideIntNumber.number c.hold_one.new.marks.items in
+    let before = laid_marks g.I.Wide.WideIntNumber.number c.args.marks.now.items in
+    let now = laid_marks g.I.Wide.WideIntNumber.number c.loop-k.marks.items in
+    let next = laid_marks g.I.Wide.WideIntNumber.number c.hold_one.new.marks.items in
     let own : CountsPairsUpTo c.loop-k.steps c.hold_one.new.steps (followers reaches to p) =
     subst (λ w. CountsPairsUpTo c.loop-k.steps c.hold_one.new.steps (between to w (place_in (p / 4294967296) (slice_index_or reaches (p % 4294967296) 0)))) (place_of p) c.hold_one.ensures.steps in
     let reach = slice_index_or reaches i 0 in (
@@ -41,13 +40,12 @@ loop-k-preserved g c =
 
 pub returns-clause-found : goal.returns-clause-found
 returns-clause-found g c =
-    let value = g.I.OverlayInt.value in
     let reaches = all_reaches c.args.pass.now.edges c.args.reaches.now in
     let from = c.args.from.now in
     let to = c.args.to.now in
     finds_fewer g.I.OverlayInt.stride g.I.OverlayInt.least g.I.OverlayInt.greatest c.args.pass.now.rounding c.args.pass.now.edges
     (FollowsTo reaches from to c.loop-k.k) (Follows reaches from to) (follows_all reaches from to c.loop-k.k (omega (arith, c.loop-k-test.false)))
-    (laid_marks value g.I.Wide.WideIntNumber.number c.args.marks.now.items) (laid_marks value g.I.Wide.WideIntNumber.number c.loop-k.marks.items) c.loop-k.is_off_grid c.loop-k.invariant.0
+    (laid_marks g.I.Wide.WideIntNumber.number c.args.marks.now.items) (laid_marks g.I.Wide.WideIntNumber.number c.loop-k.marks.items) c.loop-k.is_off_grid c.loop-k.invariant.0
 
 pub returns-in_err-own-clause-steps : goal.returns-in_err-own-clause-steps
 returns-in_err-own-clause-steps g c =
@@ -103,7 +101,7 @@ returns-then-is_empty-clause-found g c =
     let reaches = all_reaches c.args.pass.now.edges c.args.reaches.now in
     let none : length c.args.to.now ≡ 0 = is_zero (length c.args.to.now) (sym c.is_empty.ensures ∙ c.if-is_empty.true) in
     finds_none g.I.OverlayInt.stride g.I.OverlayInt.least g.I.OverlayInt.greatest c.args.pass.now.rounding c.args.pass.now.edges
-    (Follows reaches c.args.from.now c.args.to.now) (no_follower reaches c.args.from.now c.args.to.now none) (laid_marks g.I.OverlayInt.value g.I.Wide.WideIntNumber.number c.args.marks.now.items)
+    (Follows reaches c.args.from.now c.args.to.now) (no_follower reaches c.args.from.now c.args.to.now none) (laid_marks g.I.Wide.WideIntNumber.number c.args.marks.now.items)
 
 pub returns-then-is_empty-clause-steps : goal.returns-then-is_empty-clause-steps
 returns-then-is_empty-clause-steps g c = record { comparisons = refl; pairs = omega arith; bound = omega arith }

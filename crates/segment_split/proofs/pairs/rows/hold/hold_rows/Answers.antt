@@ -8,17 +8,16 @@ pub returns-clause-found : goal.returns-clause-found
 returns-clause-found g c =
     let least = g.I.OverlayInt.least in
     let greatest = g.I.OverlayInt.greatest in
-    let value = g.I.OverlayInt.value in
     let rounding = c.args.pass.now.rounding in
     let es = c.args.pass.now.edges in
     let reaches = all_reaches es c.args.reaches.now in
     let both_begin = Follows reaches c.deref.result.now c.deref-2.result.now in
     let other_passes = Follows reaches c.deref-3.result.now c.deref-4.result.now in
     let own_passes = Follows reaches c.deref-5.result.now c.deref-6.result.now in
-    let before = laid_marks value g.I.Wide.WideIntNumber.number c.args.marks.now.items in
-    let first = laid_marks value g.I.Wide.WideIntNumber.number c.hold_places.new.marks.items in
-    let second = laid_marks value g.I.Wide.WideIntNumber.number c.hold_places-2.new.marks.items in
-    let third = laid_marks value g.I.Wide.WideIntNumber.number c.hold_places-3.new.marks.items in
+    let before = laid_marks g.I.Wide.WideIntNumber.number c.args.marks.now.items in
+    let first = laid_marks g.I.Wide.WideIntNumber.number c.hold_places.new.marks.items in
+    let second = laid_marks g.I.Wide.WideIntNumber.number c.hold_places-2.new.marks.items in
+    let third = laid_marks g.I.Wide.WideIntNumber.number c.hold_places-3.new.marks.items in
     finds_fewer g.I.OverlayInt.stride least greatest rounding es
     (λ i j. (both_begin i j ⊎ other_passes i j) ⊎ own_passes i j) (FollowsInRows reaches c.args.from.now.begins.items c.args.from.now.passes.items c.args.to.now.begins.items c.args.to.now.passes.items)
     (λ i j h. rw (c.deref.ensures.value, c.deref-2.ensures.value, c.deref-3.ensures.value, c.deref-4.ensures.value, c.deref-5.ensures.value, c.deref-6.ensures.value) h) before third c.either-2.result

@@ -8,7 +8,7 @@ use Rattle.segment_split.proofs.pairs.rows.reach.find_runs.Goals as goal
 
 pub loop-i-preserved : goal.loop-i-preserved
 loop-i-preserved g c =
-    let es = edges_of (entries_of g.I.OverlayInt.value c.args.segments.now) in
+    let es = edges_of (entries_of c.args.segments.now) in
     let i = c.loop-i.i in
     let old = c.loop-i.runs.items in
     let v = c.run_to-run.result in

@@ -1,4 +1,4 @@
-use Rattle.std.proofs.Common.{◌<◌, ◌+◌, ◌-◌, ◌/◌, length, slice_index_or, ◌<ℤ◌, ◌≤ℤ◌, arith}
+use Rattle.std.proofs.Common.{◌<◌, ◌+◌, ◌-◌, ◌/◌, length, slice_index_or, ◌<ℤ◌, ◌≤ℤ◌, ap, arith}
 use Rattle.segment_split.specs.Passes.{edges_of}
 use Rattle.segment_split.specs.SegmentViews.{entry_of, entries_of}
 use Rattle.segment_split.specs.MarkLists.{IsAt}
@@ -8,14 +8,14 @@ use Rattle.segment_split.proofs.pairs.rows.reach.first_past.Goals as goal
 
 pub loop-low-preserved-then-begins_past : goal.loop-low-preserved-then-begins_past
 loop-low-preserved-then-begins_past g c =
-    let value = g.I.OverlayInt.value in
+    let value = g.I.IntNumber.value in
     let segments = c.args.segments.now in
-    let entries = entries_of value segments in
+    let entries = entries_of segments in
     let middle = c.loop-low.low + (c.loop-low.high - c.loop-low.low) / 2 in
     let within : middle < length segments = omega (arith, c.loop-low-test.true, c.loop-low.invariant.2) in
-    let s = (entry_of value (slice_index_or segments middle c.index-segments-middle.result)).edge in
-    let at : IsAt (edges_of entries) middle s = edge_read (entry_of value) segments middle c.index-segments-middle.result within c.index-segments-middle.is in
-    let past : value c.args.x <ℤ s.a.x = c.begins_past.ensures.past c.if-begins_past.true in (
+    let s = (entry_of (slice_index_or segments middle c.index-segments-middle.result)).edge in
+    let at : IsAt (edges_of entries) middle s = edge_read entry_of segments middle c.index-segments-middle.result within c.index-segments-middle.is in
+    let past : value c.args.x <ℤ s.a.x = (rw (ap (λ s. s.x_segment) c.segment.view_is, c.index-segments-middle.is) at c.begins_past.ensures.past) c.if-begins_past.true in (
       starts_past (edges_of entries) (edges_rising entries c.requires.normal) (value c.args.x) middle s at past,
       omega arith,
       omega (arith, within),
@@ -25,14 +25,14 @@ loop-low-preserved-then-begins_past g c =
 
 pub loop-low-preserved : goal.loop-low-preserved
 loop-low-preserved g c =
-    let value = g.I.OverlayInt.value in
+    let value = g.I.IntNumber.value in
     let segments = c.args.segments.now in
-    let entries = entries_of value segments in
+    let entries = entries_of segments in
     let middle = c.loop-low.low + (c.loop-low.high - c.loop-low.low) / 2 in
     let within : middle < length segments = omega (arith, c.loop-low-test.true, c.loop-low.invariant.2) in
-    let s = (entry_of value (slice_index_or segments middle c.index-segments-middle.result)).edge in
-    let at : IsAt (edges_of entries) middle s = edge_read (entry_of value) segments middle c.index-segments-middle.result within c.index-segments-middle.is in
-    let near : s.a.x ≤ℤ value c.args.x = c.begins_past.ensures.reached c.if-begins_past.false in (
+    let s = (entry_of (slice_index_or segments middle c.index-segments-middle.result)).edge in
+    let at : IsAt (edges_of entries) middle s = edge_read entry_of segments middle c.index-segments-middle.result within c.index-segments-middle.is in
+    let near : s.a.x ≤ℤ value c.args.x = (rw (ap (λ s. s.x_segment) c.segment.view_is, c.index-segments-middle.is) at c.begins_past.ensures.reached) c.if-begins_past.false in (
       c.loop-low.invariant.0,
       omega (arith, c.loop-low-test.true),
       c.loop-low.invariant.2,

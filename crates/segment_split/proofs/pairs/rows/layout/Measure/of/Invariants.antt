@@ -8,6 +8,6 @@ use Rattle.segment_split.proofs.pairs.rows.layout.Measure.of.Given as goal
 -- The segments before this one are measured.
 abbrev pub invariant-loop-segment : goal.invariant-loop-segment
 invariant-loop-segment g l =
-    let before = edges_of (entries_of g.I.OverlayInt.value (take l.segment-index l.segments)) in
+    let before = edges_of (entries_of (take l.segment-index l.segments)) in
     (l.measure.least ≡ fold int_min (pos 9223372036854775807) (map (λ s. (y_range s).least) before))
     × (l.measure.greatest ≡ fold int_max (negsuc 9223372036854775807) (map (λ s. (y_range s).greatest) before))
